@@ -1,0 +1,22 @@
+-- Document 01's number and values of each answer: "Refusal numbers".
+use mathlib.Core.List.{[], _∷_}
+use Rattle.rtr_codec.specs.Read.{Verdict}
+use Rattle.rtr_codec.specs.Read.Verdict.{accepted, refused}
+use Rattle.rtr_codec.specs.declared.parser.RtrError.{RtrError}
+use Rattle.rtr_codec.specs.declared.parser.RtrError.the-variants.{IncompletePdu, InvalidProtocolVersion, InvalidPduType, InvalidLength, RouterKeyInV0, InvalidPrefixLength, InvalidErrorCode, InvalidUtf8}
+use Rattle.rtr_codec.specs.declared.parser.ReadAnswer.{ReadAnswer}
+use Rattle.rtr_codec.specs.declared.parser.ReadAnswer.the-variants.{Read, Refused}
+
+abbrev pub refusal : RtrError → Verdict
+refusal (IncompletePdu available needed) = refused 1 (available ∷ needed ∷ [])
+refusal (InvalidPduType type) = refused 3 (type ∷ [])
+refusal (InvalidProtocolVersion version) = refused 2 (version ∷ [])
+refusal (InvalidErrorCode code) = refused 7 (code ∷ [])
+refusal (InvalidLength expected actual type) = refused 4 (expected ∷ actual ∷ type ∷ [])
+refusal (InvalidPrefixLength length max limit) = refused 6 (length ∷ max ∷ limit ∷ [])
+refusal InvalidUtf8 = refused 8 []
+refusal RouterKeyInV0 = refused 5 []
+
+abbrev pub verdict : ReadAnswer → Verdict
+verdict (Read pdu consumed) = accepted pdu consumed
+verdict (Refused error) = refusal error

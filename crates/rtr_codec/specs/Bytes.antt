@@ -1,0 +1,9 @@
+-- Numbers on the wire: RFC 8210, section 5 ("all in network byte order"), document 01, "Reading".
+use Prim.Native.Nat.{ℕ, zero, suc, _+_, _*_}
+use mathlib.Core.List.{List}
+use lib.ListN.{getD}
+
+-- the number in the `size` bytes of s from `at`, big-endian
+unfoldable pub number : List ℕ → ℕ → ℕ → ℕ
+number s at zero = 0
+number s at (suc size) = number s at size * 256 + getD s (at + size) 0

@@ -1,0 +1,10 @@
+-- What people must believe of this crate. Read first: Read (what reading is), with Layout (the pictures of the RFCs) and Reading (where
+-- the crate departs from them).
+pub mod Read
+pub mod Reading
+pub mod Layout
+pub mod Bytes
+pub mod Codes
+pub mod Values
+pub mod Answers
+pub mod Parts

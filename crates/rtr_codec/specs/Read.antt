@@ -1,0 +1,234 @@
+-- Reading one PDU from a slice: document 01, "Reading". The checks stand in its order, each with its refusal's number and values; what is
+-- read off the bytes is RFC 8210, sections 5.1 to 5.11, but for the switches of a `Reading`.
+use Prim.Native.Nat.{ℕ, _+_, _-_, min}
+use mathlib.Core.Bool.{Bool, true, false, cond, not, _&&_, _||_}
+use mathlib.Core.List.{List, [], _∷_}
+use lib.ListN.{length, getD, take, drop}
+use lib.Dec.{leb, eqb}
+use Rattle.rtr_text.specs.Utf8.{wellFormed}
+use Rattle.rtr_codec.specs.Bytes.{number}
+use Rattle.rtr_codec.specs.Layout.{Field, serialLayout, bareLayout, responseLayout, ipv4Layout, ipv6Layout, endLayout, keyLayout, crateKeyLayout, lengthOf, valuesOf}
+use Rattle.rtr_codec.specs.Reading.{Reading}
+use Rattle.rtr_codec.specs.Codes.{versionFound, typeFound, codeFound, typeNumber}
+use Rattle.rtr_codec.specs.declared.models.RtrProtocolVersion.{RtrProtocolVersion}
+use Rattle.rtr_codec.specs.declared.models.RtrProtocolVersion.the-variants.{V0, V1}
+use Rattle.rtr_codec.specs.declared.models.VersionFound.{VersionFound}
+use Rattle.rtr_codec.specs.declared.models.RtrPduType.{RtrPduType}
+use Rattle.rtr_codec.specs.declared.models.RtrPduType.the-variants.{SerialNotify, SerialQuery, ResetQuery, CacheResponse, IPv4Prefix, IPv6Prefix, EndOfData, CacheReset, RouterKey, ErrorReport}
+use Rattle.rtr_codec.specs.declared.models.TypeFound.{TypeFound}
+use Rattle.rtr_codec.specs.declared.models.RtrErrorCode.{RtrErrorCode}
+use Rattle.rtr_codec.specs.declared.models.CodeFound.{CodeFound}
+use Rattle.rtr_codec.specs.declared.models.Interval.{Interval}
+use Rattle.rtr_codec.specs.declared.models.RtrPdu.{RtrPdu}
+
+-- what a reader may answer: a PDU and the bytes that it took, or a refusal's number and values (document 01, "Refusal numbers")
+pub data Verdict : Type 0 where
+  accepted : RtrPdu → ℕ → Verdict
+  refused : ℕ → List ℕ → Verdict
+
+-- go on where the test holds, else refuse
+abbrev pub need : Bool → ℕ → List ℕ → Verdict → Verdict
+need true n values next = next
+need false n values next = refused n values
+
+-- the header's length (RFC 8210, 5.1, Length)
+unfoldable pub headerLength : List ℕ → ℕ
+headerLength s = number s 4 4
+
+-- check 5: the length is that of the fields
+abbrev pub fixed : RtrPduType → List Field → List ℕ → (List ℕ → Verdict) → Verdict
+fixed type fields s next =
+    need (eqb (headerLength s) (lengthOf fields)) 4 (lengthOf fields ∷ headerLength s ∷ typeNumber type ∷ [])
+    (next (valuesOf fields s))
+
+-- check 6: prefix length ≤ max length ≤ the family's bits
+abbrev pub prefixes : ℕ → ℕ → ℕ → Verdict → Verdict
+prefixes length max limit next = need (leb length max && leb max limit) 6 (length ∷ max ∷ limit ∷ []) next
+
+-- 5.2
+unfoldable pub readSerialNotify : RtrProtocolVersion → List ℕ → Verdict
+readSerialNotify v s =
+    fixed SerialNotify serialLayout s
+    (λ x. accepted (RtrPdu.SerialNotify (record { version = v; «session_id» = getD x 0 0; «serial_number» = getD x 1 0 })) (headerLength s))
+
+-- 5.3
+unfoldable pub readSerialQuery : RtrProtocolVersion → List ℕ → Verdict
+readSerialQuery v s =
+    fixed SerialQuery serialLayout s
+    (λ x. accepted (RtrPdu.SerialQuery (record { version = v; «session_id» = getD x 0 0; «serial_number» = getD x 1 0 })) (headerLength s))
+
+-- 5.4
+unfoldable pub readResetQuery : RtrProtocolVersion → List ℕ → Verdict
+readResetQuery v s = fixed ResetQuery bareLayout s (λ x. accepted (RtrPdu.ResetQuery (record { version = v })) (headerLength s))
+
+-- 5.5
+unfoldable pub readCacheResponse : RtrProtocolVersion → List ℕ → Verdict
+readCacheResponse v s =
+    fixed CacheResponse responseLayout s
+    (λ x. accepted (RtrPdu.CacheResponse (record { version = v; «session_id» = getD x 0 0 })) (headerLength s))
+
+-- 5.6
+unfoldable pub readIPv4Prefix : RtrProtocolVersion → List ℕ → Verdict
+readIPv4Prefix v s =
+    fixed IPv4Prefix ipv4Layout s
+    (λ x. prefixes (getD x 1 0) (getD x 2 0) 32
+    (accepted
+    (RtrPdu.IPv4Prefix
+    (record {
+      version = v;
+      flags = getD x 0 0;
+      «prefix_length» = getD x 1 0;
+      «max_length» = getD x 2 0;
+      prefix = getD x 3 0;
+      asn = getD x 4 0;
+    }))
+    (headerLength s)))
+
+-- 5.7
+unfoldable pub readIPv6Prefix : RtrProtocolVersion → List ℕ → Verdict
+readIPv6Prefix v s =
+    fixed IPv6Prefix ipv6Layout s
+    (λ x. prefixes (getD x 1 0) (getD x 2 0) 128
+    (accepted
+    (RtrPdu.IPv6Prefix
+    (record {
+      version = v;
+      flags = getD x 0 0;
+      «prefix_length» = getD x 1 0;
+      «max_length» = getD x 2 0;
+      prefix = record { w0 = getD x 3 0; w1 = getD x 4 0; w2 = getD x 5 0; w3 = getD x 6 0 };
+      asn = getD x 7 0;
+    }))
+    (headerLength s)))
+
+-- 5.8: version 0 has no intervals
+unfoldable pub readEndOfData : RtrProtocolVersion → List ℕ → Verdict
+readEndOfData V0 s =
+    fixed EndOfData (endLayout V0) s
+    (λ x. accepted
+    (RtrPdu.EndOfData
+    (record {
+      version = V0;
+      «session_id» = getD x 0 0;
+      «serial_number» = getD x 1 0;
+      «refresh_interval» = Interval.Absent;
+      «retry_interval» = Interval.Absent;
+      «expire_interval» = Interval.Absent;
+    }))
+    (headerLength s))
+readEndOfData V1 s =
+    fixed EndOfData (endLayout V1) s
+    (λ x. accepted
+    (RtrPdu.EndOfData
+    (record {
+      version = V1;
+      «session_id» = getD x 0 0;
+      «serial_number» = getD x 1 0;
+      «refresh_interval» = Interval.Seconds (getD x 2 0);
+      «retry_interval» = Interval.Seconds (getD x 3 0);
+      «expire_interval» = Interval.Seconds (getD x 4 0);
+    }))
+    (headerLength s))
+
+-- 5.9
+unfoldable pub readCacheReset : RtrProtocolVersion → List ℕ → Verdict
+readCacheReset v s = fixed CacheReset bareLayout s (λ x. accepted (RtrPdu.CacheReset (record { version = v })) (headerLength s))
+
+-- 5.10: check 4, not in version 0; check 5, at least its fields; the key info is the rest
+abbrev pub keyFields : Bool → List Field
+keyFields byCrate = cond byCrate crateKeyLayout keyLayout
+
+abbrev pub readKey : List Field → List ℕ → Verdict
+readKey fields s =
+    need (leb (lengthOf fields) (headerLength s)) 4 (lengthOf fields ∷ headerLength s ∷ typeNumber RouterKey ∷ [])
+    (accepted
+    (RtrPdu.RouterKey
+    (record {
+      version = V1;
+      flags = getD (valuesOf fields s) 0 0;
+      «subject_key_identifier» = record { start = getD (valuesOf fields s) 1 0; len = 20 };
+      asn = getD (valuesOf fields s) 2 0;
+      «subject_public_key_info» = record { start = lengthOf fields; len = headerLength s - lengthOf fields };
+    }))
+    (headerLength s))
+
+unfoldable pub readRouterKey : Reading → RtrProtocolVersion → List ℕ → Verdict
+readRouterKey R V0 s = refused 5 []
+readRouterKey R V1 s = readKey (keyFields (R .keyByCrate)) s
+
+-- 5.11: behind the header the encapsulated PDU's length and bytes, then the text's; a sum that does not fit 32 bits is named by the
+-- largest number that does (document 01)
+abbrev pub capped : ℕ → ℕ
+capped n = min n 4294967295
+
+-- the text's end is the PDU's end, or does not lie behind it where bytes behind the text are passed over
+abbrev pub ends : Bool → ℕ → ℕ → Bool
+ends passedOver end total = cond passedOver (leb end total) (eqb end total)
+
+-- check 7: the encapsulated length e, then the text's length t, then the text
+unfoldable pub readText : Reading → RtrProtocolVersion → RtrErrorCode → ℕ → ℕ → List ℕ → Verdict
+readText R v c e t s =
+    need (ends (R .bytesBehindText) (16 + e + t) (headerLength s)) 4 (capped (16 + e + t) ∷ headerLength s ∷ typeNumber ErrorReport ∷ [])
+    (need (wellFormed (take t (drop (16 + e) s))) 8 []
+    (accepted
+    (RtrPdu.ErrorReport
+    (record {
+      version = v;
+      «error_code» = c;
+      «erroneous_pdu» = record { start = 12; len = e };
+      «error_text» = record { start = 16 + e; len = t };
+    }))
+    (headerLength s)))
+
+unfoldable pub readEncapsulated : Reading → RtrProtocolVersion → RtrErrorCode → ℕ → List ℕ → Verdict
+readEncapsulated R v c e s =
+    need (leb (16 + e) (headerLength s)) 4 (capped (16 + e) ∷ headerLength s ∷ typeNumber ErrorReport ∷ [])
+    (readText R v c e (number s (12 + e) 4) s)
+
+-- RFC 6810, section 10, has the codes 0 to 7; RFC 8210, section 12, adds 8
+abbrev pub lastCode : RtrProtocolVersion → ℕ
+lastCode V0 = 7
+lastCode V1 = 8
+
+abbrev pub codeIn : Bool → RtrProtocolVersion → ℕ → Bool
+codeIn eightInV0 v n = eightInV0 || leb n (lastCode v)
+
+-- check 6, the error code
+unfoldable pub readCode : Reading → RtrProtocolVersion → ℕ → CodeFound → List ℕ → Verdict
+readCode R v n CodeFound.Unknown s = refused 7 (n ∷ [])
+readCode R v n (CodeFound.Known c) s = need (codeIn (R .codeEightInV0) v n) 7 (n ∷ []) (readEncapsulated R v c (number s 8 4) s)
+
+unfoldable pub readErrorReport : Reading → RtrProtocolVersion → List ℕ → Verdict
+readErrorReport R v s =
+    need (leb 16 (headerLength s)) 4 (16 ∷ headerLength s ∷ typeNumber ErrorReport ∷ [])
+    (readCode R v (number s 2 2) (codeFound (number s 2 2)) s)
+
+-- checks 4 to 7, by the PDU's type
+unfoldable pub readAs : Reading → RtrProtocolVersion → RtrPduType → List ℕ → Verdict
+readAs R v SerialNotify s = readSerialNotify v s
+readAs R v SerialQuery s = readSerialQuery v s
+readAs R v ResetQuery s = readResetQuery v s
+readAs R v CacheResponse s = readCacheResponse v s
+readAs R v IPv4Prefix s = readIPv4Prefix v s
+readAs R v IPv6Prefix s = readIPv6Prefix v s
+readAs R v EndOfData s = readEndOfData v s
+readAs R v CacheReset s = readCacheReset v s
+readAs R v RouterKey s = readRouterKey R v s
+readAs R v ErrorReport s = readErrorReport R v s
+
+-- check 3
+unfoldable pub readTyped : Reading → RtrProtocolVersion → ℕ → TypeFound → List ℕ → Verdict
+readTyped R v n TypeFound.Unknown s = refused 3 (n ∷ [])
+readTyped R v n (TypeFound.Known t) s = readAs R v t s
+
+-- check 2
+unfoldable pub readVersioned : Reading → ℕ → VersionFound → List ℕ → Verdict
+readVersioned R n VersionFound.Unknown s = refused 2 (n ∷ [])
+readVersioned R n (VersionFound.Known v) s = readTyped R v (number s 1 1) (typeFound (number s 1 1)) s
+
+-- check 1, and all: what reading a slice gives
+unfoldable pub read : Reading → List ℕ → Verdict
+read R s =
+    need (leb 8 (length s)) 1 (length s ∷ 8 ∷ [])
+    (need (leb (headerLength s) (length s)) 1 (length s ∷ headerLength s ∷ [])
+    (readVersioned R (number s 0 1) (versionFound (number s 0 1)) s))

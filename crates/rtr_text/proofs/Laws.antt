@@ -1,0 +1,30 @@
+-- What `wellFormedUpTo` and `wellFormed` mean. Assumes nothing.
+use Prim.Native.Nat.{ℕ, _≤_}
+use mathlib.Core.Path.{_≡_, refl}
+use mathlib.Core.Logic.{_↔_}
+use mathlib.Core.Bool.{true}
+use mathlib.Core.List.{List, []}
+use borrow.Author.Tests.{eqb-true, eq-eqb}
+use lib.ListN.{length}
+use Rattle.rtr_text.specs.Utf8.{characters, wellFormedUpTo, wellFormed, Characters}
+use Rattle.rtr_text.proofs.Sequences.{cut, join}
+use Rattle.rtr_text.proofs.Steps.{characters-at-most}
+
+-- a text is well formed up to a place within it
+pub up-to-at-most : (text : List ℕ) → wellFormedUpTo text ≤ length text
+unfolding wellFormedUpTo
+up-to-at-most text = characters-at-most (length text) text
+
+-- the empty text is well formed
+pub empty-is-well-formed : wellFormed [] ≡ true
+unfolding wellFormed wellFormedUpTo characters
+empty-is-well-formed = refl
+
+-- a text is well formed exactly if it is so up to its end
+pub well-formed-up-to-all : (text : List ℕ) → (wellFormed text ≡ true) ↔ (wellFormedUpTo text ≡ length text)
+unfolding wellFormed
+well-formed-up-to-all text = (eqb-true (wellFormedUpTo text) (length text), eq-eqb (wellFormedUpTo text) (length text))
+
+-- a text is well formed up to its end exactly if it is a sequence of characters
+pub well-formed-is-characters : (text : List ℕ) → (wellFormedUpTo text ≡ length text) ↔ Characters text
+well-formed-is-characters text = (λ e. cut (length text) text (unfold wellFormedUpTo in e), join)

@@ -1,0 +1,96 @@
+// Well-formed UTF-8, in place of the standard library's test: how far a text is well formed, and whether that is all of it.
+// Empty text and NUL pass. No call has a condition; nothing is written.
+ghost use mathlib.Core.Path.{_≡_};
+ghost use mathlib.Core.List.{[], _∷_};
+ghost use Prim.Native.Nat.{_<_};
+ghost use lib.ListN.{length, drop};
+ghost use Rattle.rtr_text.specs.Utf8.{_to_, rows, begins, character, wellFormedUpTo, wellFormed};
+
+// The length is tested here, so that no row has to.
+fn fits1(text: &[u8], at: usize, low: u8, high: u8) -> bool
+    ensures { λ r. ⌜ r ≡ begins (low to high ∷ []) (drop at (now (text .entry))) ⌝ }
+{
+    if text.len() <= at {
+        return false;
+    }
+    let b = text[at];
+    low <= b && b <= high
+}
+
+// The first byte is tested first: it fails in most rows.
+fn fits2(text: &[u8], at: usize, low0: u8, high0: u8, low1: u8, high1: u8) -> bool
+    requires { ⌜ at < length (now text) ⌝ }
+    ensures { λ r. ⌜ r ≡ begins (low0 to high0 ∷ low1 to high1 ∷ []) (drop at (now (text .entry))) ⌝ }
+{
+    fits1(text, at, low0, high0) && fits1(text, at + 1, low1, high1)
+}
+
+// The table has one range for every byte after the second, so it is no parameter.
+fn fits3(text: &[u8], at: usize, low0: u8, high0: u8, low1: u8, high1: u8) -> bool
+    requires { ⌜ at < length (now text) ⌝ }
+    ensures { λ r. ⌜ r ≡ begins (low0 to high0 ∷ low1 to high1 ∷ 0x80 to 0xbf ∷ []) (drop at (now (text .entry))) ⌝ }
+{
+    fits2(text, at, low0, high0, low1, high1) && fits1(text, at + 2, 0x80, 0xbf)
+}
+
+fn fits4(text: &[u8], at: usize, low0: u8, high0: u8, low1: u8, high1: u8) -> bool
+    requires { ⌜ at < length (now text) ⌝ }
+    ensures { λ r. ⌜ r ≡ begins (low0 to high0 ∷ low1 to high1 ∷ 0x80 to 0xbf ∷ 0x80 to 0xbf ∷ []) (drop at (now (text .entry))) ⌝ }
+{
+    fits3(text, at, low0, high0, low1, high1) && fits1(text, at + 3, 0x80, 0xbf)
+}
+
+// ASCII, the table's first row, is tested first, so that it costs one test in the loop.
+fn character_at(text: &[u8], at: usize) -> usize
+    requires { ⌜ at < length (now text) ⌝ }
+    ensures { λ r. ⌜ r ≡ character rows (drop at (now (text .entry))) ⌝ }
+{
+    if fits1(text, at, 0x00, 0x7f) {
+        return 1;
+    }
+    if fits2(text, at, 0xc2, 0xdf, 0x80, 0xbf) {
+        return 2;
+    }
+    if fits3(text, at, 0xe0, 0xe0, 0xa0, 0xbf) {
+        return 3;
+    }
+    if fits3(text, at, 0xe1, 0xec, 0x80, 0xbf) {
+        return 3;
+    }
+    if fits3(text, at, 0xed, 0xed, 0x80, 0x9f) {
+        return 3;
+    }
+    if fits3(text, at, 0xee, 0xef, 0x80, 0xbf) {
+        return 3;
+    }
+    if fits4(text, at, 0xf0, 0xf0, 0x90, 0xbf) {
+        return 4;
+    }
+    if fits4(text, at, 0xf1, 0xf3, 0x80, 0xbf) {
+        return 4;
+    }
+    if fits4(text, at, 0xf4, 0xf4, 0x80, 0x8f) {
+        return 4;
+    }
+    0
+}
+
+pub fn well_formed_up_to(text: &[u8]) -> usize
+    ensures { λ r. ⌜ r ≡ wellFormedUpTo (now (text .entry)) ⌝ }
+{
+    let mut at = 0;
+    while at < text.len() {
+        let n = character_at(text, at);
+        if n == 0 {
+            return at;
+        }
+        at += n;
+    }
+    at
+}
+
+pub fn is_well_formed(text: &[u8]) -> bool
+    ensures { λ r. ⌜ r ≡ wellFormed (now (text .entry)) ⌝ }
+{
+    well_formed_up_to(text) == text.len()
+}
