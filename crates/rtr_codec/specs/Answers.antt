@@ -2,10 +2,10 @@
 use mathlib.Core.List.{[], _∷_}
 use Rattle.rtr_codec.specs.Read.{Verdict}
 use Rattle.rtr_codec.specs.Read.Verdict.{accepted, refused}
-use Rattle.rtr_codec.specs.declared.parser.RtrError.{RtrError}
-use Rattle.rtr_codec.specs.declared.parser.RtrError.the-variants.{IncompletePdu, InvalidProtocolVersion, InvalidPduType, InvalidLength, RouterKeyInV0, InvalidPrefixLength, InvalidErrorCode, InvalidUtf8}
-use Rattle.rtr_codec.specs.declared.parser.ReadAnswer.{ReadAnswer}
-use Rattle.rtr_codec.specs.declared.parser.ReadAnswer.the-variants.{Read, Refused}
+use Rattle.rtr_codec.specs.declared.RtrError.{RtrError}
+use Rattle.rtr_codec.specs.declared.RtrError.the-variants.{IncompletePdu, InvalidProtocolVersion, InvalidPduType, InvalidLength, RouterKeyInV0, InvalidPrefixLength, InvalidErrorCode, InvalidUtf8}
+use Rattle.rtr_codec.specs.declared.ReadAnswer.{ReadAnswer}
+use Rattle.rtr_codec.specs.declared.ReadAnswer.the-variants.{Read, Refused}
 
 abbrev pub refusal : RtrError → Verdict
 refusal (IncompletePdu available needed) = refused 1 (available ∷ needed ∷ [])

@@ -4,8 +4,8 @@
 use Prim.Native.Nat.{ℕ, _+_}
 use mathlib.Core.List.{List, [], _∷_}
 use Rattle.rtr_codec.specs.Bytes.{number}
-use Rattle.rtr_codec.specs.declared.models.RtrProtocolVersion.{RtrProtocolVersion}
-use Rattle.rtr_codec.specs.declared.models.RtrProtocolVersion.the-variants.{V0, V1}
+use Rattle.rtr_models.specs.declared.RtrProtocolVersion.{RtrProtocolVersion}
+use Rattle.rtr_models.specs.declared.RtrProtocolVersion.the-variants.{V0, V1}
 
 pub data Field : Type 0 where
   -- so many bytes that are sent as zero and ignored on receipt

@@ -4,7 +4,4 @@ pub mod Read
 pub mod Reading
 pub mod Layout
 pub mod Bytes
-pub mod Codes
-pub mod Values
 pub mod Answers
-pub mod Parts

@@ -9,17 +9,17 @@ use Rattle.rtr_text.specs.Utf8.{wellFormed}
 use Rattle.rtr_codec.specs.Bytes.{number}
 use Rattle.rtr_codec.specs.Layout.{Field, serialLayout, bareLayout, responseLayout, ipv4Layout, ipv6Layout, endLayout, keyLayout, crateKeyLayout, lengthOf, valuesOf}
 use Rattle.rtr_codec.specs.Reading.{Reading}
-use Rattle.rtr_codec.specs.Codes.{versionFound, typeFound, codeFound, typeNumber}
-use Rattle.rtr_codec.specs.declared.models.RtrProtocolVersion.{RtrProtocolVersion}
-use Rattle.rtr_codec.specs.declared.models.RtrProtocolVersion.the-variants.{V0, V1}
-use Rattle.rtr_codec.specs.declared.models.VersionFound.{VersionFound}
-use Rattle.rtr_codec.specs.declared.models.RtrPduType.{RtrPduType}
-use Rattle.rtr_codec.specs.declared.models.RtrPduType.the-variants.{SerialNotify, SerialQuery, ResetQuery, CacheResponse, IPv4Prefix, IPv6Prefix, EndOfData, CacheReset, RouterKey, ErrorReport}
-use Rattle.rtr_codec.specs.declared.models.TypeFound.{TypeFound}
-use Rattle.rtr_codec.specs.declared.models.RtrErrorCode.{RtrErrorCode}
-use Rattle.rtr_codec.specs.declared.models.CodeFound.{CodeFound}
-use Rattle.rtr_codec.specs.declared.models.Interval.{Interval}
-use Rattle.rtr_codec.specs.declared.models.RtrPdu.{RtrPdu}
+use Rattle.rtr_models.specs.Codes.{versionFound, typeFound, codeFound, typeNumber}
+use Rattle.rtr_models.specs.declared.RtrProtocolVersion.{RtrProtocolVersion}
+use Rattle.rtr_models.specs.declared.RtrProtocolVersion.the-variants.{V0, V1}
+use Rattle.rtr_models.specs.declared.VersionFound.{VersionFound}
+use Rattle.rtr_models.specs.declared.RtrPduType.{RtrPduType}
+use Rattle.rtr_models.specs.declared.RtrPduType.the-variants.{SerialNotify, SerialQuery, ResetQuery, CacheResponse, IPv4Prefix, IPv6Prefix, EndOfData, CacheReset, RouterKey, ErrorReport}
+use Rattle.rtr_models.specs.declared.TypeFound.{TypeFound}
+use Rattle.rtr_models.specs.declared.RtrErrorCode.{RtrErrorCode}
+use Rattle.rtr_models.specs.declared.CodeFound.{CodeFound}
+use Rattle.rtr_models.specs.declared.Interval.{Interval}
+use Rattle.rtr_models.specs.declared.RtrPdu.{RtrPdu}
 
 -- what a reader may answer: a PDU and the bytes that it took, or a refusal's number and values (document 01, "Refusal numbers")
 pub data Verdict : Type 0 where
