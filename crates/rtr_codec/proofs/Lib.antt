@@ -1,1 +1,8 @@
+-- `Laws`, `Unique` and `Samples` are for readers and other crates; the others are the argument.
+pub mod Laws
+pub mod Unique
+pub mod Samples
+mod Whole
+mod Behind
+mod Departs
 mod Text

@@ -2,6 +2,7 @@
 -- the crate departs from them).
 pub mod Read
 pub mod Reading
+pub mod Departures
 pub mod Layout
 pub mod Bytes
 pub mod Answers

@@ -232,3 +232,7 @@ read R s =
     need (leb 8 (length s)) 1 (length s ∷ 8 ∷ [])
     (need (leb (headerLength s) (length s)) 1 (length s ∷ headerLength s ∷ [])
     (readVersioned R (number s 0 1) (versionFound (number s 0 1)) s))
+
+-- how many bytes there must be before a slice is answered by anything but 1: the header's 8, and then as many as it names
+unfoldable pub needed : List ℕ → ℕ
+needed s = cond (leb 8 (length s)) (headerLength s) 8

@@ -1,1 +1,4 @@
+pub mod Laws
+pub mod Unique
+mod Tables
 mod Places

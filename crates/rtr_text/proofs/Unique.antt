@@ -1,18 +1,12 @@
--- What the two functions promise leaves one result: two results of one text that both meet the promise are equal. Assumes nothing.
-use Prim.Native.Nat.{ℕ}
-use mathlib.Core.Path.{_≡_, sym, _∙_}
-use mathlib.Core.Bool.{Bool}
-use mathlib.Core.List.{List}
-use Rattle.rtr_text.specs.Utf8.{wellFormedUpTo, wellFormed}
+-- What each public function promises leaves one result: two results of the same arguments that both meet the promise are equal; of a part of
+-- a slice, its bytes are. `Post` is the function's contract as Rattle reads it off the source. Assumes nothing.
+use mathlib.Core.Path.{_≡_}
+use Rattle.rtr_base.proofs.Unique.{only-this}
+use Rattle.rtr_text.proofs.well_formed_up_to.Reads as well-formed-up-to
+use Rattle.rtr_text.proofs.is_well_formed.Reads as is-well-formed
 
--- two things that are each a third are one
-pub same-result : {A : Type 0} {x y z : A} → x ≡ z → y ≡ z → x ≡ y
-same-result p q = p ∙ sym q
+pub well-formed-up-to-unique : (κs : _) (a : _) (r r′ : _) (s s′ : _) → well-formed-up-to.Post κs a r s → well-formed-up-to.Post κs a r′ s′ → r ≡ r′
+well-formed-up-to-unique κs a r r′ s s′ p q = only-this r r′ _ p q
 
--- `well_formed_up_to` has one result
-pub well-formed-up-to-unique : (text : List ℕ) {r s : ℕ} → r ≡ wellFormedUpTo text → s ≡ wellFormedUpTo text → r ≡ s
-well-formed-up-to-unique text = same-result
-
--- `is_well_formed` has one result
-pub is-well-formed-unique : (text : List ℕ) {r s : Bool} → r ≡ wellFormed text → s ≡ wellFormed text → r ≡ s
-is-well-formed-unique text = same-result
+pub is-well-formed-unique : (κs : _) (a : _) (r r′ : _) (s s′ : _) → is-well-formed.Post κs a r s → is-well-formed.Post κs a r′ s′ → r ≡ r′
+is-well-formed-unique κs a r r′ s s′ p q = only-this r r′ _ p q

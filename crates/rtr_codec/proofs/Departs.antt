@@ -1,0 +1,132 @@
+-- Two readings that differ only in departures that do not apply to a slice read it alike. The version and the type that were found are the
+-- header's (the tables' laws), so each switch is asked only where its departure applies, or where both of its ways give the same test.
+-- Assumes nothing.
+use Prim.Native.Nat.{ℕ, _≤_, _+_}
+use mathlib.Core.Bool.{Bool, true, false, _&&_, and-true}
+use mathlib.Core.List.{List}
+use mathlib.Core.Logic.{_⊎_, inl, inr}
+use mathlib.Core.Path.{_≡_, refl, sym, ap, _∙_}
+use native.Mathlib.Omega.{arith}
+use borrow.Author.Tests.{eq-eqb, le-leb, lt-leb, leb-true, leb-false, ltb-false, eqb-false, ne-eqb}
+use lib.Dec.{leb, ltb, eqb}
+use Rattle.rtr_models.specs.Codes.{versionFound, versionNumber, typeFound, typeNumber, codeFound, codeNumber}
+use Rattle.rtr_models.specs.declared.RtrProtocolVersion.{RtrProtocolVersion}
+use Rattle.rtr_models.specs.declared.RtrProtocolVersion.the-variants.{V0, V1}
+use Rattle.rtr_models.specs.declared.RtrPduType.{RtrPduType}
+use Rattle.rtr_models.specs.declared.RtrPduType.the-variants.{SerialNotify, SerialQuery, ResetQuery, CacheResponse, IPv4Prefix, IPv6Prefix, EndOfData, CacheReset, RouterKey, ErrorReport}
+use Rattle.rtr_models.specs.declared.RtrErrorCode.{RtrErrorCode}
+use Rattle.rtr_models.specs.declared.VersionFound.{VersionFound}
+use Rattle.rtr_models.specs.declared.TypeFound.{TypeFound}
+use Rattle.rtr_models.specs.declared.CodeFound.{CodeFound}
+use Rattle.rtr_models.proofs.Laws.{version-known, type-known, code-known, code-at-most-8}
+use Rattle.rtr_codec.specs.Bytes.{number}
+use Rattle.rtr_codec.specs.Reading.{Reading}
+use Rattle.rtr_codec.specs.Departures.{Departure, has, applies}
+use Rattle.rtr_codec.specs.Departures.Departure.{codeEightInV0, bytesBehindText, keyByCrate}
+use Rattle.rtr_codec.specs.Read.{headerLength, ends, lastCode, codeIn, keyFields, readKey, readRouterKey, readText, readEncapsulated, readCode, readErrorReport, readAs, readTyped, readVersioned, read}
+
+-- R and R′ agree on a departure, or it does not apply to s
+abbrev pub Alike : Reading → Reading → List ℕ → Type 0
+Alike R R′ s = (d : Departure) → (has R d ≡ has R′ d) ⊎ (applies d s ≡ false)
+
+-- where the text does not end before the PDU does, both ways of the switch are one test
+ends-alike : (b b′ : Bool) (x h : ℕ) → (b ≡ b′) ⊎ (ltb x h ≡ false) → ends b x h ≡ ends b′ x h
+ends-alike b b′ x h (inl e) = rw e
+ends-alike b b′ x h (inr e) = one b ∙ sym (one b′)
+  where
+    go : (q : Bool) → leb x h ≡ q → leb x h ≡ eqb x h
+    go true p = p ∙ sym (eq-eqb x h (omega (arith, leb-true x h p, ltb-false x h e)))
+    go false p = p ∙ sym (ne-eqb x h (λ i. omega (arith, leb-false x h p)))
+
+    one : (c : Bool) → ends c x h ≡ eqb x h
+    one true = go (leb x h) refl
+    one false = refl
+
+-- a known code is in every version's list, but for 8 in version 0
+code-alike : (b b′ : Bool) (v : RtrProtocolVersion) (n : ℕ) → n ≤ 8 → (b ≡ b′) ⊎ ((eqb (versionNumber v) 0 && eqb n 8) ≡ false) → codeIn b v n ≡ codeIn b′ v n
+code-alike b b′ v n h (inl e) = rw e
+code-alike b b′ v n h (inr e) = one b ∙ sym (one b′)
+  where
+    listed : (w : RtrProtocolVersion) → (eqb (versionNumber w) 0 && eqb n 8) ≡ false → leb n (lastCode w) ≡ true
+    listed V0 q = le-leb n 7 (omega (arith, eqb-false n 8 q))
+    listed V1 q = le-leb n 8 h
+
+    one : (c : Bool) → codeIn c v n ≡ true
+    one true = refl
+    one false = listed v e
+
+module _ (R R′ : Reading) (s : List ℕ) (alike : Alike R R′ s) where
+  key-alike : number s 0 1 ≡ 1 → number s 1 1 ≡ 9 → R .keyByCrate ≡ R′ .keyByCrate
+  unfolding applies
+  key-alike v t = go (alike keyByCrate)
+    where
+      go : (R .keyByCrate ≡ R′ .keyByCrate) ⊎ ((eqb (number s 0 1) 1 && eqb (number s 1 1) 9) ≡ false) → R .keyByCrate ≡ R′ .keyByCrate
+      go (inl e) = e
+      go (inr e) = let z : true ≡ false = sym (simp (eq-eqb _ _ v, eq-eqb _ _ t)) ∙ e in cc
+
+  text-alike : number s 1 1 ≡ 10 → (v : RtrProtocolVersion) (c : RtrErrorCode)
+      → readText R v c (number s 8 4) (number s (12 + number s 8 4) 4) s ≡ readText R′ v c (number s 8 4) (number s (12 + number s 8 4) 4) s
+  unfolding readText applies
+  text-alike t v c = simp (ends-alike (R .bytesBehindText) (R′ .bytesBehindText) (16 + number s 8 4 + number s (12 + number s 8 4) 4) (headerLength s) (go (alike bytesBehindText)))
+    where
+      go : (R .bytesBehindText ≡ R′ .bytesBehindText) ⊎ ((eqb (number s 1 1) 10 && ltb (16 + number s 8 4 + number s (12 + number s 8 4) 4) (headerLength s)) ≡ false)
+          → (R .bytesBehindText ≡ R′ .bytesBehindText) ⊎ (ltb (16 + number s 8 4 + number s (12 + number s 8 4) 4) (headerLength s) ≡ false)
+      go (inl e) = inl e
+      go (inr e) = inr (simp (eq-eqb _ _ t) at e)
+
+  code-switch : (v : RtrProtocolVersion) → number s 0 1 ≡ versionNumber v → number s 1 1 ≡ 10
+      → (R .codeEightInV0 ≡ R′ .codeEightInV0) ⊎ ((eqb (versionNumber v) 0 && eqb (number s 2 2) 8) ≡ false)
+  unfolding applies
+  code-switch v q t = go (alike codeEightInV0)
+    where
+      go : (R .codeEightInV0 ≡ R′ .codeEightInV0) ⊎ ((eqb (number s 0 1) 0 && eqb (number s 1 1) 10 && eqb (number s 2 2) 8) ≡ false)
+          → (R .codeEightInV0 ≡ R′ .codeEightInV0) ⊎ ((eqb (versionNumber v) 0 && eqb (number s 2 2) 8) ≡ false)
+      go (inl e) = inl e
+      go (inr e) = inr (simp (q, eq-eqb _ _ t, and-true) at e)
+
+  encapsulated-alike : number s 1 1 ≡ 10 → (v : RtrProtocolVersion) (c : RtrErrorCode) → readEncapsulated R v c (number s 8 4) s ≡ readEncapsulated R′ v c (number s 8 4) s
+  unfolding readEncapsulated
+  encapsulated-alike t v c = simp (text-alike t v c)
+
+  by-code : (v : RtrProtocolVersion) → number s 0 1 ≡ versionNumber v → number s 1 1 ≡ 10 → (f : CodeFound) → codeFound (number s 2 2) ≡ f
+      → readCode R v (number s 2 2) f s ≡ readCode R′ v (number s 2 2) f s
+  unfolding readCode
+  by-code v q t CodeFound.Unknown e = refl
+  by-code v q t (CodeFound.Known c) e =
+      let small : number s 2 2 ≤ 8 = omega (arith, code-known (number s 2 2) c .0 e, code-at-most-8 c) in
+      simp (
+        code-alike (R .codeEightInV0) (R′ .codeEightInV0) v (number s 2 2) small (code-switch v q t),
+        encapsulated-alike t v c,
+      )
+
+  report-alike : (v : RtrProtocolVersion) → number s 0 1 ≡ versionNumber v → number s 1 1 ≡ 10 → readErrorReport R v s ≡ readErrorReport R′ v s
+  unfolding readErrorReport
+  report-alike v q t = simp (by-code v q t (codeFound (number s 2 2)) refl)
+
+  as-alike : (v : RtrProtocolVersion) (type : RtrPduType) → number s 0 1 ≡ versionNumber v → number s 1 1 ≡ typeNumber type → readAs R v type s ≡ readAs R′ v type s
+  unfolding readAs readRouterKey
+  as-alike v SerialNotify q t = refl
+  as-alike v SerialQuery q t = refl
+  as-alike v ResetQuery q t = refl
+  as-alike v CacheResponse q t = refl
+  as-alike v IPv4Prefix q t = refl
+  as-alike v IPv6Prefix q t = refl
+  as-alike v EndOfData q t = refl
+  as-alike v CacheReset q t = refl
+  as-alike V0 RouterKey q t = refl
+  as-alike V1 RouterKey q t = ap (λ (b : Bool). readKey (keyFields b) s) (key-alike q t)
+  as-alike v ErrorReport q t = report-alike v q t
+
+  by-type : (v : RtrProtocolVersion) → number s 0 1 ≡ versionNumber v → (f : TypeFound) → typeFound (number s 1 1) ≡ f → readTyped R v (number s 1 1) f s ≡ readTyped R′ v (number s 1 1) f s
+  unfolding readTyped
+  by-type v q TypeFound.Unknown e = refl
+  by-type v q (TypeFound.Known type) e = as-alike v type q (type-known (number s 1 1) type .0 e)
+
+  by-version : (f : VersionFound) → versionFound (number s 0 1) ≡ f → readVersioned R (number s 0 1) f s ≡ readVersioned R′ (number s 0 1) f s
+  unfolding readVersioned
+  by-version VersionFound.Unknown e = refl
+  by-version (VersionFound.Known v) e = by-type v (version-known (number s 0 1) v .0 e) (typeFound (number s 1 1)) refl
+
+  pub read-alike : read R s ≡ read R′ s
+  unfolding read
+  read-alike = simp (by-version (versionFound (number s 0 1)) refl)

@@ -1,0 +1,134 @@
+-- The laws that higher crates cite of reading, over every `Reading`. A slice is short (no header), cut (fewer bytes than its header names)
+-- or whole; each law goes by these three. Assumes nothing.
+use Prim.Native.Nat.{ℕ, _≤_, _<_}
+use mathlib.Core.Bool.{Bool, true, false}
+use mathlib.Core.List.{List, [], _∷_, _++_}
+use mathlib.Core.Logic.{_⊎_, inl, inr}
+use mathlib.Core.Path.{_≡_, refl, sym, ap, _∙_, subst}
+use native.Mathlib.Omega.{arith}
+use borrow.Author.Tests.{leb-true, leb-false, le-leb, lt-leb}
+use lib.Dec.{leb}
+use lib.ListN.{length, take, drop, length-append, take-append-drop}
+use lib.Seq.{length-take-le}
+use Rattle.rtr_models.specs.Codes.{versionFound}
+use Rattle.rtr_models.specs.declared.RtrPdu.{RtrPdu}
+use Rattle.rtr_codec.specs.Bytes.{number}
+use Rattle.rtr_codec.specs.Reading.{Reading, rfc, crate}
+use Rattle.rtr_codec.specs.Departures.{Departure, has, applies}
+use Rattle.rtr_codec.specs.Read.{Verdict, headerLength, readVersioned, read, needed}
+use Rattle.rtr_codec.specs.Read.Verdict.{accepted, refused}
+use Rattle.rtr_codec.proofs.Whole.{Whole, versioned-whole}
+use Rattle.rtr_codec.proofs.Behind.{number-behind, header-behind, versioned-behind}
+use Rattle.rtr_codec.proofs.Departs.{read-alike}
+
+data Reach (s : List ℕ) : Type 0 where
+  short : length s < 8 → Reach s
+  cut : 8 ≤ length s → length s < headerLength s → Reach s
+  whole : 8 ≤ length s → headerLength s ≤ length s → Reach s
+
+reach : (s : List ℕ) → Reach s
+reach s = go (leb 8 (length s)) (leb (headerLength s) (length s)) refl refl
+  where
+    go : (a b : Bool) → leb 8 (length s) ≡ a → leb (headerLength s) (length s) ≡ b → Reach s
+    go false b p q = short (leb-false 8 (length s) p)
+    go true false p q = cut (leb-true 8 (length s) p) (leb-false (headerLength s) (length s) q)
+    go true true p q = whole (leb-true 8 (length s) p) (leb-true (headerLength s) (length s) q)
+
+module _ (R : Reading) (s : List ℕ) where
+  short-read : length s < 8 → read R s ≡ refused 1 (length s ∷ 8 ∷ [])
+  unfolding read
+  short-read h = simp (lt-leb 8 (length s) h)
+
+  cut-read : 8 ≤ length s → length s < headerLength s → read R s ≡ refused 1 (length s ∷ headerLength s ∷ [])
+  unfolding read
+  cut-read p q = simp (le-leb 8 (length s) p, lt-leb (headerLength s) (length s) q)
+
+  whole-read : 8 ≤ length s → headerLength s ≤ length s → read R s ≡ readVersioned R (number s 0 1) (versionFound (number s 0 1)) s
+  unfolding read
+  whole-read p q = simp (le-leb 8 (length s) p, le-leb (headerLength s) (length s) q)
+
+  whole-verdict : 8 ≤ length s → headerLength s ≤ length s → Whole (headerLength s) (read R s)
+  whole-verdict p q = rw (whole-read p q) (versioned-whole R (number s 0 1) (versionFound (number s 0 1)) s)
+
+needed-short : (s : List ℕ) → length s < 8 → needed s ≡ 8
+unfolding needed
+needed-short s h = simp (lt-leb 8 (length s) h)
+
+needed-large : (s : List ℕ) → 8 ≤ length s → needed s ≡ headerLength s
+unfolding needed
+needed-large s h = simp (le-leb 8 (length s) h)
+
+-- where bytes are missing the answer is 1, with the bytes there and the bytes needed
+pub missing-is-one : (R : Reading) (s : List ℕ) → length s < needed s → read R s ≡ refused 1 (length s ∷ needed s ∷ [])
+missing-is-one R s h = go (reach s)
+  where
+    go : Reach s → read R s ≡ refused 1 (length s ∷ needed s ∷ [])
+    go (short p) = rw (needed-short s p) (short-read R s p)
+    go (cut p q) = rw (needed-large s p) (cut-read R s p q)
+    go (whole p q) = absurd (omega (arith, needed-large s p))
+
+-- 1 is given only there
+pub one-is-missing : (R : Reading) (s values : List ℕ) → read R s ≡ refused 1 values → length s < needed s
+one-is-missing R s values e = go (reach s)
+  where
+    go : Reach s → length s < needed s
+    go (short p) = omega (arith, needed-short s p)
+    go (cut p q) = omega (arith, needed-large s p)
+    go (whole p q) = absurd ((subst (Whole (headerLength s)) e (whole-verdict R s p q)) refl)
+
+-- a slice with a header that is as long as its header says is never refused by 1
+pub whole-is-not-one : (R : Reading) (s values : List ℕ) → 8 ≤ length s → headerLength s ≤ length s → read R s ≡ refused 1 values → ⊥
+whole-is-not-one R s values p q e = (subst (Whole (headerLength s)) e (whole-verdict R s p q)) refl
+
+-- an accepted read takes the header's length, which is 8 or more, and so many bytes are there
+pub read-consumes : (R : Reading) (s : List ℕ) (pdu : RtrPdu) (n : ℕ) → read R s ≡ accepted pdu n → (n ≡ headerLength s) × (8 ≤ n) × (n ≤ length s)
+read-consumes R s pdu n e = go (reach s)
+  where
+    other : (k : ℕ) (values : List ℕ) → read R s ≡ refused k values → ⊥
+    other k values q = let z : _≡_ {A = ℕ} 0 1 = cc in omega arith
+
+    go : Reach s → (n ≡ headerLength s) × (8 ≤ n) × (n ≤ length s)
+    go (short p) = absurd (other 1 _ (short-read R s p))
+    go (cut p q) = absurd (other 1 _ (cut-read R s p q))
+    go (whole p q) =
+        let w : (n ≡ headerLength s) × (8 ≤ n) = subst (Whole (headerLength s)) e (whole-verdict R s p q) in
+        (w .0, w .1, omega arith)
+
+-- where the bytes needed are there, bytes added behind change nothing
+pub read-behind : (R : Reading) (s t : List ℕ) → needed s ≤ length s → read R (s ++ t) ≡ read R s
+read-behind R s t h = go (reach s)
+  where
+    go : Reach s → read R (s ++ t) ≡ read R s
+    go (short p) = absurd (omega (arith, needed-short s p))
+    go (cut p q) = absurd (omega (arith, needed-large s p))
+    go (whole p q) =
+        whole-read R (s ++ t) (simp length-append (omega arith)) (rw (header-behind s t p) (simp length-append (omega arith)))
+        ∙ simp (number-behind s t 0 1 (omega arith)) (versioned-behind s t p q R (number s 0 1) (versionFound (number s 0 1)))
+        ∙ sym (whole-read R s p q)
+
+-- an answer other than 1 stays the answer when bytes are added behind
+pub answer-stays : (R : Reading) (s t : List ℕ) → ((values : List ℕ) → read R s ≡ refused 1 values → ⊥) → read R (s ++ t) ≡ read R s
+answer-stays R s t other = go (reach s)
+  where
+    go : Reach s → read R (s ++ t) ≡ read R s
+    go (short p) = absurd (other _ (short-read R s p))
+    go (cut p q) = absurd (other _ (cut-read R s p q))
+    go (whole p q) = read-behind R s t (omega (arith, needed-large s p))
+
+-- an answer other than 1 depends on the consumed bytes alone: n bytes that hold the header and all that it names are enough
+pub read-needs-only-consumed : (R : Reading) (s : List ℕ) (n : ℕ) → 8 ≤ n → headerLength s ≤ n → n ≤ length s → read R (take n s) ≡ read R s
+read-needs-only-consumed R s n p q r =
+    let long : length (take n s) ≡ n = length-take-le n s r in
+    let front : headerLength s ≡ headerLength (take n s) =
+    ap headerLength (sym (take-append-drop n s)) ∙ header-behind (take n s) (drop n s) (omega arith) in
+    sym
+    (ap (read R) (sym (take-append-drop n s))
+    ∙ read-behind R (take n s) (drop n s) (omega (arith, needed-large (take n s) (omega arith))))
+
+-- readings that differ only in departures that do not apply to a slice give the same verdict
+pub readings-agree : (R R′ : Reading) (s : List ℕ) → ((d : Departure) → (has R d ≡ has R′ d) ⊎ (applies d s ≡ false)) → read R s ≡ read R′ s
+readings-agree R R′ s h = read-alike R R′ s h
+
+-- where no named departure applies, the crate reads as the RFCs do
+pub read-departs : (s : List ℕ) → ((d : Departure) → applies d s ≡ false) → read crate s ≡ read rfc s
+read-departs s h = readings-agree crate rfc s (λ d. inr (h d))

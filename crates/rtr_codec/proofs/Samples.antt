@@ -1,0 +1,58 @@
+-- The smallest slice of each departure, read both ways: docs/DIFFERENCES.md has them in hex. Each is computed. Assumes nothing.
+use Prim.Native.Nat.{ℕ}
+use mathlib.Core.List.{List, [], _∷_}
+use mathlib.Core.Path.{_≡_, refl}
+use Rattle.rtr_text.specs.Utf8.{wellFormed, wellFormedUpTo, characters}
+use Rattle.rtr_models.specs.declared.RtrProtocolVersion.the-variants.{V0, V1}
+use Rattle.rtr_models.specs.declared.RtrErrorCode.the-variants.{CorruptData, UnexpectedProtocolVersion}
+use Rattle.rtr_models.specs.declared.RtrPdu.the-variants.{RouterKey, ErrorReport}
+use Rattle.rtr_codec.specs.Bytes.{number}
+use Rattle.rtr_codec.specs.Reading.{rfc, crate}
+use Rattle.rtr_codec.specs.Read.{Verdict, headerLength, readRouterKey, readText, readEncapsulated, readCode, readErrorReport, readAs, readTyped, readVersioned, read}
+use Rattle.rtr_codec.specs.Read.Verdict.{accepted, refused}
+
+-- a version 0 report of code 8, with nothing in it
+abbrev pub reportOfEight : List ℕ
+reportOfEight = 0 ∷ 10 ∷ 0 ∷ 8 ∷ 0 ∷ 0 ∷ 0 ∷ 16 ∷ 0 ∷ 0 ∷ 0 ∷ 0 ∷ 0 ∷ 0 ∷ 0 ∷ 0 ∷ []
+
+pub eight-in-crate : read crate reportOfEight
+    ≡ accepted
+    (ErrorReport (record { version = V0; «error_code» = UnexpectedProtocolVersion; «erroneous_pdu» = record { start = 12; len = 0 }; «error_text» = record { start = 16; len = 0 } }))
+    16
+unfolding number wellFormed wellFormedUpTo characters headerLength readText readEncapsulated readCode readErrorReport readAs readTyped readVersioned read
+eight-in-crate = refl
+
+pub eight-in-rfc : read rfc reportOfEight ≡ refused 7 (8 ∷ [])
+unfolding number headerLength readCode readErrorReport readAs readTyped readVersioned read
+eight-in-rfc = refl
+
+-- a report of 17 bytes with an empty copy and an empty text
+abbrev pub byteBehind : List ℕ
+byteBehind = 1 ∷ 10 ∷ 0 ∷ 0 ∷ 0 ∷ 0 ∷ 0 ∷ 17 ∷ 0 ∷ 0 ∷ 0 ∷ 0 ∷ 0 ∷ 0 ∷ 0 ∷ 0 ∷ 255 ∷ []
+
+pub behind-in-crate : read crate byteBehind
+    ≡ accepted
+    (ErrorReport (record { version = V1; «error_code» = CorruptData; «erroneous_pdu» = record { start = 12; len = 0 }; «error_text» = record { start = 16; len = 0 } }))
+    17
+unfolding number wellFormed wellFormedUpTo characters headerLength readText readEncapsulated readCode readErrorReport readAs readTyped readVersioned read
+behind-in-crate = refl
+
+pub behind-in-rfc : read rfc byteBehind ≡ refused 4 (16 ∷ 17 ∷ 10 ∷ [])
+unfolding number headerLength readText readEncapsulated readCode readErrorReport readAs readTyped readVersioned read
+behind-in-rfc = refl
+
+-- a Router Key of 32 bytes: announced, identifier of zeros, AS 1, no key info
+abbrev pub shortKey : List ℕ
+shortKey =
+    1 ∷ 9 ∷ 1 ∷ 0 ∷ 0 ∷ 0 ∷ 0 ∷ 32 ∷ 0 ∷ 0 ∷ 0 ∷ 0 ∷ 0 ∷ 0 ∷ 0 ∷ 0 ∷ 0 ∷ 0 ∷ 0 ∷ 0 ∷ 0 ∷ 0 ∷ 0 ∷ 0 ∷ 0 ∷ 0 ∷ 0 ∷ 0 ∷ 0 ∷ 0 ∷ 0 ∷ 1 ∷ []
+
+pub key-in-crate : read crate shortKey ≡ refused 4 (34 ∷ 32 ∷ 9 ∷ [])
+unfolding number headerLength readRouterKey readAs readTyped readVersioned read
+key-in-crate = refl
+
+pub key-in-rfc : read rfc shortKey
+    ≡ accepted
+    (RouterKey (record { version = V1; flags = 1; «subject_key_identifier» = record { start = 8; len = 20 }; asn = 1; «subject_public_key_info» = record { start = 32; len = 0 } }))
+    32
+unfolding number headerLength readRouterKey readAs readTyped readVersioned read
+key-in-rfc = refl

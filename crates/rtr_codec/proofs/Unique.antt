@@ -1,0 +1,47 @@
+-- `parse_rtr_pdu`'s promise leaves one result. `Post` is the contract as Rattle reads it off the source. Assumes nothing.
+use Prim.Native.Nat.{ℕ}
+use mathlib.Core.Bool.{cond}
+use mathlib.Core.List.{List}
+use mathlib.Core.Path.{_≡_, refl}
+use lib.Dec.{eqb}
+use lib.ListN.{getD}
+use Rattle.rtr_base.proofs.Unique.{only-one}
+use Rattle.rtr_codec.specs.Read.{Verdict}
+use Rattle.rtr_codec.specs.Read.Verdict.{accepted, refused}
+use Rattle.rtr_codec.specs.Answers.{verdict}
+use Rattle.rtr_codec.specs.declared.RtrError.{RtrError}
+use Rattle.rtr_codec.specs.declared.RtrError.the-variants.{IncompletePdu, InvalidProtocolVersion, InvalidPduType, InvalidLength, RouterKeyInV0, InvalidPrefixLength, InvalidErrorCode, InvalidUtf8}
+use Rattle.rtr_codec.specs.declared.ReadAnswer.{ReadAnswer}
+use Rattle.rtr_codec.specs.declared.ReadAnswer.the-variants.{Read, Refused}
+use Rattle.rtr_codec.proofs.parse_rtr_pdu.Reads as reads
+
+-- the error that has a number and values
+errorOf : ℕ → List ℕ → RtrError
+errorOf k x =
+    cond (eqb k 1) (IncompletePdu (getD x 0 0) (getD x 1 0))
+    (cond (eqb k 2) (InvalidProtocolVersion (getD x 0 0))
+    (cond (eqb k 3) (InvalidPduType (getD x 0 0))
+    (cond (eqb k 4) (InvalidLength (getD x 0 0) (getD x 1 0) (getD x 2 0))
+    (cond (eqb k 5) RouterKeyInV0
+    (cond (eqb k 6) (InvalidPrefixLength (getD x 0 0) (getD x 1 0) (getD x 2 0))
+    (cond (eqb k 7) (InvalidErrorCode (getD x 0 0)) InvalidUtf8))))))
+
+answerOf : Verdict → ReadAnswer
+answerOf (accepted pdu n) = Read pdu n
+answerOf (refused k x) = Refused (errorOf k x)
+
+-- number and values tell each answer apart
+verdict-back : (a : ReadAnswer) → answerOf (verdict a) ≡ a
+unfolding answerOf errorOf
+verdict-back (Read pdu n) = refl
+verdict-back (Refused (IncompletePdu a n)) = refl
+verdict-back (Refused (InvalidPduType t)) = refl
+verdict-back (Refused (InvalidProtocolVersion v)) = refl
+verdict-back (Refused (InvalidErrorCode c)) = refl
+verdict-back (Refused (InvalidLength e a t)) = refl
+verdict-back (Refused (InvalidPrefixLength l m b)) = refl
+verdict-back (Refused InvalidUtf8) = refl
+verdict-back (Refused RouterKeyInV0) = refl
+
+pub parse-rtr-pdu-unique : (κs : _) (a : _) (r r′ : _) (s s′ : _) → reads.Post κs a r s → reads.Post κs a r′ s′ → r ≡ r′
+parse-rtr-pdu-unique κs a r r′ s s′ p q = only-one verdict answerOf verdict-back r r′ _ p q
