@@ -5,4 +5,5 @@ pub mod Samples
 mod Whole
 mod Behind
 mod Departs
+mod Runs
 mod Text

@@ -1,11 +1,11 @@
--- `parse_rtr_pdu`'s promise leaves one result. `Post` is the contract as Rattle reads it off the source. Assumes nothing.
+-- What each public function promises leaves one result. `Post` is the contract as Rattle reads it off the source. Assumes nothing.
 use Prim.Native.Nat.{ℕ}
 use mathlib.Core.Bool.{cond}
 use mathlib.Core.List.{List}
 use mathlib.Core.Path.{_≡_, refl}
 use lib.Dec.{eqb}
 use lib.ListN.{getD}
-use Rattle.rtr_base.proofs.Unique.{only-one}
+use Rattle.rtr_base.proofs.Unique.{only-one, only-this}
 use Rattle.rtr_codec.specs.Read.{Verdict}
 use Rattle.rtr_codec.specs.Read.Verdict.{accepted, refused}
 use Rattle.rtr_codec.specs.Answers.{verdict}
@@ -13,7 +13,11 @@ use Rattle.rtr_codec.specs.declared.RtrError.{RtrError}
 use Rattle.rtr_codec.specs.declared.RtrError.the-variants.{IncompletePdu, InvalidProtocolVersion, InvalidPduType, InvalidLength, RouterKeyInV0, InvalidPrefixLength, InvalidErrorCode, InvalidUtf8}
 use Rattle.rtr_codec.specs.declared.ReadAnswer.{ReadAnswer}
 use Rattle.rtr_codec.specs.declared.ReadAnswer.the-variants.{Read, Refused}
+use Rattle.rtr_codec.specs.Run.{Step, runSaid}
+use Rattle.rtr_codec.specs.declared.RunRead.{RunRead}
 use Rattle.rtr_codec.proofs.parse_rtr_pdu.Reads as reads
+use Rattle.rtr_codec.proofs.read_at.Reads as read-at-reads
+use Rattle.rtr_codec.proofs.RtrError.number.Reads as number-reads
 
 -- the error that has a number and values
 errorOf : ℕ → List ℕ → RtrError
@@ -45,3 +49,16 @@ verdict-back (Refused RouterKeyInV0) = refl
 
 pub parse-rtr-pdu-unique : (κs : _) (a : _) (r r′ : _) (s s′ : _) → reads.Post κs a r s → reads.Post κs a r′ s′ → r ≡ r′
 parse-rtr-pdu-unique κs a r r′ s s′ p q = only-one verdict answerOf verdict-back r r′ _ p q
+
+pub rtr-error-number-unique : (κs : _) (a : _) (r r′ : _) (s s′ : _) → number-reads.Post κs a r s → number-reads.Post κs a r′ s′ → r ≡ r′
+rtr-error-number-unique κs a r r′ s s′ p q = only-this r r′ _ p q
+
+runOf : Step → RunRead
+runOf step = record { answer = answerOf (step .answer); next = step .next }
+
+run-back : (r : RunRead) → runOf (runSaid r) ≡ r
+unfolding runOf
+run-back r = λ i. record { answer = verdict-back (r .answer) i; next = r .next }
+
+pub read-at-unique : (κs : _) (a : _) (r r′ : _) (s s′ : _) → read-at-reads.Post κs a r s → read-at-reads.Post κs a r′ s′ → r ≡ r′
+read-at-unique κs a r r′ s s′ p q = only-one runSaid runOf run-back r r′ _ p q

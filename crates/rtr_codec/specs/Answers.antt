@@ -1,4 +1,5 @@
 -- Document 01's number and values of each answer: "Refusal numbers".
+use Prim.Native.Nat.{ℕ}
 use mathlib.Core.List.{[], _∷_}
 use Rattle.rtr_codec.specs.Read.{Verdict}
 use Rattle.rtr_codec.specs.Read.Verdict.{accepted, refused}
@@ -20,3 +21,8 @@ refusal RouterKeyInV0 = refused 5 []
 abbrev pub verdict : ReadAnswer → Verdict
 verdict (Read pdu consumed) = accepted pdu consumed
 verdict (Refused error) = refusal error
+
+-- the number alone; 0 is no refusal
+abbrev pub numberOf : Verdict → ℕ
+numberOf (accepted pdu consumed) = 0
+numberOf (refused number values) = number

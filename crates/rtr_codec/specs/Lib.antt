@@ -6,3 +6,4 @@ pub mod Departures
 pub mod Layout
 pub mod Bytes
 pub mod Answers
+pub mod Run

@@ -9,7 +9,8 @@ ghost use Rattle.rtr_codec.specs.Bytes.{number};
 ghost use Rattle.rtr_codec.specs.Reading.{crate};
 ghost use Rattle.rtr_codec.specs.Read.{read, headerLength, readSerialNotify, readSerialQuery, readResetQuery, readCacheResponse, readIPv4Prefix, readIPv6Prefix, readEndOfData, readCacheReset, readRouterKey, capped, readText, readEncapsulated, readErrorReport, readAs, readTyped};
 ghost use Rattle.rtr_models.specs.Codes.{typeFound};
-ghost use Rattle.rtr_codec.specs.Answers.{verdict};
+ghost use Rattle.rtr_codec.specs.Answers.{verdict, refusal, numberOf};
+ghost use Rattle.rtr_codec.specs.Run.{readAt, runSaid};
 
 // ---- Answers
 
@@ -34,6 +35,35 @@ pub enum RtrError {
     },
     InvalidUtf8,
     RouterKeyInV0,
+}
+
+impl RtrError {
+    // Document 01's number of it.
+    pub fn number(self) -> u8
+        ensures { λ r. ⌜ r ≡ numberOf (refusal self) ⌝ }
+    {
+        match self {
+            RtrError::IncompletePdu {
+                available: _,
+                needed: _,
+            } => 1,
+            RtrError::InvalidPduType(_) => 3,
+            RtrError::InvalidProtocolVersion(_) => 2,
+            RtrError::InvalidErrorCode(_) => 7,
+            RtrError::InvalidLength {
+                expected: _,
+                actual: _,
+                pdu_type: _,
+            } => 4,
+            RtrError::InvalidPrefixLength {
+                prefix_len: _,
+                max_len: _,
+                max_allowed: _,
+            } => 6,
+            RtrError::InvalidUtf8 => 8,
+            RtrError::RouterKeyInV0 => 5,
+        }
+    }
 }
 
 // A PDU and the bytes that it took, or why there is none.
@@ -499,5 +529,34 @@ pub fn parse_rtr_pdu(input: &[u8]) -> ReadAnswer
         VersionFound::Unknown => ReadAnswer::Refused(RtrError::InvalidProtocolVersion(
             version_byte,
         )),
+    }
+}
+
+// ---- A run of PDUs, read by place
+
+// What stands at a place, and the place to go on from: past the PDU, or the same where it is refused.
+pub struct RunRead {
+    pub answer: ReadAnswer,
+    pub next: usize,
+}
+
+// The PDU at a place of a run; at or past the end that is 1 (0, 8).
+pub fn read_at(input: &[u8], at: usize) -> RunRead
+    ensures { λ r. ⌜ runSaid r ≡ readAt crate (now (input .entry)) at ⌝ }
+{
+    if at > input.len() {
+        let answer = parse_rtr_pdu(&input[..0]);
+        return RunRead { answer, next: at };
+    }
+    let answer = parse_rtr_pdu(&input[at..]);
+    match answer {
+        ReadAnswer::Read(pdu, consumed) => RunRead {
+            answer: ReadAnswer::Read(pdu, consumed),
+            next: at + consumed,
+        },
+        ReadAnswer::Refused(error) => RunRead {
+            answer: ReadAnswer::Refused(error),
+            next: at,
+        },
     }
 }
