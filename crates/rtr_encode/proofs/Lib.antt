@@ -1,0 +1,4 @@
+mod Overs
+mod Written
+mod Payloads
+mod Checks

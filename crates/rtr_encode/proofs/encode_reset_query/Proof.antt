@@ -1,0 +1,39 @@
+-- `encode_reset_query` writes the picture from the front, field behind field, where the output has room for it. Assumes nothing.
+use mathlib.Core.List.{[]}
+use mathlib.Core.Path.{refl}
+use native.Mathlib.Omega.{arith}
+use denote.Ref.{now}
+use Rattle.rtr_models.specs.declared.RtrPdu.the-variants.{ResetQuery}
+use Rattle.rtr_codec.specs.Reading.{crate}
+use Rattle.rtr_encode.specs.Encode.{bytesOf, encodedLength, encoding}
+use Rattle.rtr_encode.proofs.Overs.{next}
+use Rattle.rtr_encode.proofs.Written.{too-short, wrote}
+use borrow.Author.Needs.{needs}
+use Rattle.rtr_encode.proofs.encode_reset_query.Statement.{statement}
+use Rattle.rtr_encode.proofs.encode_reset_query.Tie as tie
+
+short-requires : tie.Need-short-requires
+short-requires c κs = search needs
+
+returns : tie.Need-returns
+unfolding encodedLength
+returns c =
+    let a = c .before .before .before .args in
+    rw (c .short .ensures) (too-short crate (ResetQuery (a .pdu)) [] (now (a .out)) 8 refl refl refl (omega arith) (c .before .if1 .taken))
+
+put-header-requires : tie.Need-put-header-requires
+put-header-requires c κs = search needs
+
+same-length : tie.Need-same-length
+same-length c = search needs
+
+returns-2 : tie.Need-returns-2
+unfolding bytesOf encodedLength encoding
+returns-2 c =
+    let a = c .before .before .before .before .before .before .args in
+    wrote crate (ResetQuery (a .pdu)) [] (now (a .out)) 8 refl refl refl (omega arith) _ (c .before .before .before .before .if1 .left) refl
+    (c .before .before .put-header .ensures)
+
+pub encode-reset-query-spec : {M : Type 1} → statement M
+encode-reset-query-spec =
+    tie.close (tie.spec short-requires returns put-header-requires same-length returns-2)

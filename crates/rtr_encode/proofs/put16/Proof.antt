@@ -1,0 +1,39 @@
+-- `put16` stores the two bytes of its number. Assumes nothing.
+use mathlib.Core.Path.{_∙_, ap}
+use denote.Ref.{now}
+use native.Mathlib.Omega.{arith}
+use lib.ListN.{length-set}
+use Rattle.rtr_encode.specs.Over.{over}
+use Rattle.rtr_encode.proofs.Overs.{stored-2, bytes-of-16}
+use borrow.Author.Needs.{needs}
+use Rattle.rtr_encode.proofs.put16.Statement.{statement}
+use Rattle.rtr_encode.proofs.put16.Tie as tie
+
+cast-out : tie.Need-cast-out
+cast-out c = search needs
+
+slice-write-out : tie.Need-slice-write-out
+slice-write-out c = search needs
+
+cast-out-2 : tie.Need-cast-out-2
+cast-out-2 c = search needs
+
+add-out : tie.Need-add-out
+add-out c = search needs
+
+slice-write-out-2 : tie.Need-slice-write-out-2
+slice-write-out-2 c =
+    simp length-set (omega arith)
+
+same-length : tie.Need-same-length
+same-length c = search needs
+
+returns : tie.Need-returns
+returns c =
+    let a = c .args in
+    stored-2 (now (a .out)) (a .at) _ _ (c .pre) ∙ ap (over (now (a .out)) (a .at)) (bytes-of-16 (a .n) (omega arith))
+
+pub put16-spec : {M : Type 1} → statement M
+put16-spec =
+    tie.close
+    (tie.spec cast-out slice-write-out cast-out-2 add-out slice-write-out-2 same-length returns)
