@@ -1,3 +1,6 @@
+-- `Laws` and `Unique` are for readers and other crates; the others are the argument.
+pub mod Laws
+pub mod Unique
 mod Overs
 mod Written
 mod Payloads

@@ -1,0 +1,72 @@
+-- Document 01, "Either side of each edge": the lines marked P, as one table. (The notify lines join when the receiver is there.)
+use Prim.Native.Nat.{ℕ}
+use mathlib.Core.List.{List, [], _∷_, _++_}
+use mathlib.Core.Path.{_≡_}
+use lib.ListN.{replicate}
+use Rattle.rtr_models.specs.declared.RtrProtocolVersion.the-variants.{V1}
+use Rattle.rtr_models.specs.declared.RtrErrorCode.the-variants.{CorruptData}
+use Rattle.rtr_models.specs.declared.RtrPduType.{RtrPduType}
+use Rattle.rtr_models.specs.declared.RtrPdu.the-variants.{ResetQuery, ErrorReport}
+use Rattle.rtr_codec.specs.Reading.{crate}
+use Rattle.rtr_codec.specs.Read.{Verdict, read}
+use Rattle.rtr_codec.specs.Read.Verdict.{accepted, refused}
+use Rattle.rtr_encode.specs.Encode.{encoding}
+use Rattle.rtr_walk.specs.Walk.{WalkVerdict, walk}
+use Rattle.rtr_walk.specs.Walk.End.{plain}
+use Rattle.rtr_walk.specs.Walk.WalkVerdict.{walked}
+
+-- an edge: what a slice reads as; what bytes the PDU read from it encodes to; how the walk of it ends
+pub data Edge : Type 0 where
+  reads : List ℕ → Verdict → Edge
+  recodes : List ℕ → List ℕ → Edge
+  walks : List ℕ → WalkVerdict → Edge
+
+-- the encoding of what a slice reads as; nothing where it is refused
+abbrev pub recoded : List ℕ → Verdict → List ℕ
+recoded s (accepted pdu n) = encoding crate pdu s
+recoded s (refused n values) = []
+
+-- what an edge says
+abbrev pub Holds : Edge → Type 0
+Holds (reads s v) = read crate s ≡ v
+Holds (recodes s bytes) = recoded s (read crate s) ≡ bytes
+Holds (walks s v) = walk crate s ≡ v
+
+abbrev pub AllHold : List Edge → Type 0
+AllHold [] = Unit {0}
+AllHold (e ∷ es) = Holds e × AllHold es
+
+-- a report of 17 bytes with nothing in it but the byte behind its text
+abbrev pub byteBehind : List ℕ
+byteBehind = 0x01 ∷ 0x0a ∷ 0x00 ∷ 0x00 ∷ 0x00 ∷ 0x00 ∷ 0x00 ∷ 0x11 ∷ replicate 8 0 ++ (0xff ∷ [])
+
+-- a report about a Reset Query
+abbrev pub reportOfQuery : List ℕ
+reportOfQuery =
+    0x01 ∷ 0x0a ∷ 0x00 ∷ 0x00 ∷ 0x00 ∷ 0x00 ∷ 0x00 ∷ 0x18 ∷ 0x00 ∷ 0x00 ∷ 0x00 ∷ 0x08
+    ∷ 0x01 ∷ 0x02 ∷ 0x00 ∷ 0x00 ∷ 0x00 ∷ 0x00 ∷ 0x00 ∷ 0x08 ∷ replicate 4 0
+
+abbrev pub edges : List Edge
+edges =
+    reads [] (refused 1 (0 ∷ 8 ∷ []))
+    ∷ reads (0x01 ∷ 0x02 ∷ 0x00 ∷ 0x00 ∷ 0x00 ∷ 0x00 ∷ 0x00 ∷ 0x08 ∷ []) (accepted (ResetQuery (record { version = V1 })) 8)
+    ∷ reads (0x01 ∷ 0x02 ∷ 0x00 ∷ 0x00 ∷ 0x00 ∷ 0x00 ∷ 0x00 ∷ 0x00 ∷ []) (refused 4 (8 ∷ 0 ∷ 2 ∷ []))
+    ∷ reads (0x09 ∷ 0x05 ∷ 0x00 ∷ 0x00 ∷ 0x00 ∷ 0x00 ∷ 0x00 ∷ 0x09 ∷ []) (refused 1 (8 ∷ 9 ∷ []))
+    ∷ reads (0x09 ∷ 0x05 ∷ 0x00 ∷ 0x00 ∷ 0x00 ∷ 0x00 ∷ 0x00 ∷ 0x08 ∷ []) (refused 2 (9 ∷ []))
+    ∷ reads (0x01 ∷ 0x05 ∷ 0x00 ∷ 0x00 ∷ 0x00 ∷ 0x00 ∷ 0x00 ∷ 0x08 ∷ []) (refused 3 (5 ∷ []))
+    ∷ reads (0x00 ∷ 0x09 ∷ 0x00 ∷ 0x00 ∷ 0x00 ∷ 0x00 ∷ 0x00 ∷ 0x08 ∷ []) (refused 5 [])
+    ∷ reads (0x01 ∷ 0x0a ∷ 0x00 ∷ 0x09 ∷ 0x00 ∷ 0x00 ∷ 0x00 ∷ 0x10 ∷ replicate 8 0) (refused 7 (9 ∷ []))
+    ∷ reads (0x01 ∷ 0x0a ∷ 0x00 ∷ 0x00 ∷ 0x00 ∷ 0x00 ∷ 0x00 ∷ 0x10 ∷ 0x00 ∷ 0x00 ∷ 0x00 ∷ 0x01 ∷ replicate 4 0) (refused 4 (17 ∷ 16 ∷ 10 ∷ []))
+    ∷ reads byteBehind
+    (accepted
+    (ErrorReport
+    (record {
+      version = V1;
+      «error_code» = CorruptData;
+      «erroneous_pdu» = record { start = 12; len = 0 };
+      «error_text» = record { start = 16; len = 0 };
+    }))
+    17)
+    ∷ recodes byteBehind (0x01 ∷ 0x0a ∷ 0x00 ∷ 0x00 ∷ 0x00 ∷ 0x00 ∷ 0x00 ∷ 0x10 ∷ replicate 8 0)
+    ∷ walks reportOfQuery (walked 1 (plain RtrPduType.ResetQuery))
+    ∷ []

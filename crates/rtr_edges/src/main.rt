@@ -1,0 +1,343 @@
+// Document 01's edges that no theorem states, run: texts on either side of UTF-8's edges, nests of 15 to 17 reports, empty and full, what is
+// encoded, and payloads out of place. The file `stdout` has what must be printed.
+use libc::STDOUT_FILENO;
+use rtr_answers::put;
+use rtr_codec::ReadAnswer;
+use rtr_encode::EncodeAnswer;
+use rtr_encode::EncodeError;
+use rtr_models::PartAnswer;
+use rtr_models::Place;
+use rtr_models::RtrErrorCode;
+use rtr_models::RtrErrorReport;
+use rtr_models::RtrPdu;
+use rtr_models::RtrProtocolVersion;
+use rtr_models::RtrRouterKey;
+use rtr_walk::WalkAnswer;
+use rtr_walk::WalkEnd;
+
+fn flush(out: &[u8], at: usize) {
+    if at <= out.len() {
+        io::write_all(STDOUT_FILENO, &out[0..at]);
+        io::write_all(STDOUT_FILENO, b"\n");
+    }
+}
+
+// A label, and what reading says.
+fn show_read(label: &[u8], input: &[u8]) {
+    let mut out = [0u8; 512];
+    let at = put::put_text(&mut out, 0, label);
+    let at = put::put_text(&mut out, at, b": ");
+    let at = rtr_answers::put_answer(&mut out, at, input);
+    flush(&out, at);
+}
+
+fn put_end(out: &mut [u8], at: usize, end: WalkEnd) -> usize {
+    match end {
+        WalkEnd::Plain(pdu_type) => put::put_field(out, at, b" plain=", pdu_type.to_u8() as u64),
+        WalkEnd::Empty => put::put_text(out, at, b" empty"),
+        WalkEnd::Refused(n) => put::put_field(out, at, b" refused=", n as u64),
+        WalkEnd::TooDeep => put::put_text(out, at, b" too deep"),
+    }
+}
+
+fn put_walk(out: &mut [u8], at: usize, input: &[u8]) -> usize {
+    match rtr_walk::walk(input) {
+        WalkAnswer::Walked(level, end) => {
+            let at = put::put_field(out, at, b"level=", level as u64);
+            put_end(out, at, end)
+        }
+        WalkAnswer::Refused(error) => put::put_field(
+            out,
+            at,
+            b"level 0 refused=",
+            error.number() as u64,
+        ),
+    }
+}
+
+// A label, and how the walk ends.
+fn show_walk(label: &[u8], input: &[u8]) {
+    let mut out = [0u8; 512];
+    let at = put::put_text(&mut out, 0, label);
+    let at = put::put_text(&mut out, at, b": ");
+    let at = put_walk(&mut out, at, input);
+    flush(&out, at);
+}
+
+// One report around what a slice holds, as the encoder writes it; no bytes where it does not fit.
+fn report_of(input: &[u8], out: &mut [u8]) -> usize {
+    let whole = Place {
+        start: 0,
+        len: input.len(),
+    };
+    let none = Place { start: 0, len: 0 };
+    let report = RtrErrorReport::new(
+        RtrProtocolVersion::V1,
+        RtrErrorCode::CorruptData,
+        whole,
+        none,
+    );
+    match rtr_encode::encode_error_report(report, input, out) {
+        EncodeAnswer::Written(n) => n,
+        EncodeAnswer::Refused(_) => 0,
+    }
+}
+
+fn copy_back(from: &[u8], n: usize, to: &mut [u8]) {
+    let mut i = 0;
+    while i < n {
+        if from.len() <= i {
+            return;
+        }
+        if to.len() <= i {
+            return;
+        }
+        to[i] = from[i];
+        i += 1;
+    }
+}
+
+// One report around the first n bytes of a buffer, in their place.
+fn wrap(n: usize, out: &mut [u8]) -> usize {
+    let mut next = [0u8; 512];
+    if n > out.len() {
+        return 0;
+    }
+    let m = report_of(&out[0..n], &mut next);
+    copy_back(&next, m, out);
+    m
+}
+
+// `levels` reports around a core, the innermost first; how long it is.
+fn nest(levels: usize, core: &[u8], out: &mut [u8]) -> usize {
+    let mut n = core.len();
+    copy_back(core, n, out);
+    let mut k = 0;
+    while k < levels {
+        n = wrap(n, out);
+        k += 1;
+    }
+    n
+}
+
+fn show_nest(label: &[u8], levels: usize, core: &[u8]) {
+    let mut bytes = [0u8; 512];
+    let n = nest(levels, core, &mut bytes);
+    if n <= 512 {
+        show_walk(label, &bytes[0..n]);
+    }
+}
+
+fn put_encoded(out: &mut [u8], at: usize, answer: EncodeAnswer) -> usize {
+    match answer {
+        EncodeAnswer::Written(n) => put::put_field(out, at, b"written=", n as u64),
+        EncodeAnswer::Refused(error) => match error {
+            EncodeError::PlaceOutside => put::put_text(out, at, b"refused 11"),
+            EncodeError::InvalidUtf8 => put::put_text(out, at, b"refused 8"),
+            EncodeError::TooLong => put::put_text(out, at, b"refused 10"),
+            EncodeError::OutputShort { needed } => put::put_field(
+                out,
+                at,
+                b"refused 9 ",
+                needed as u64,
+            ),
+        },
+    }
+}
+
+fn put_all(out: &mut [u8], at: usize, bytes: &[u8; 64]) -> usize {
+    let at = put::put_text(out, at, b" ");
+    put::put_hex(out, at, bytes)
+}
+
+// What encoding says of a PDU, and whether the byte after the last one written stays.
+fn show_encode(label: &[u8], pdu: RtrPdu, input: &[u8], room: usize) {
+    let mut bytes = [0xaau8; 64];
+    let mut out = [0u8; 512];
+    let at = put::put_text(&mut out, 0, label);
+    let at = put::put_text(&mut out, at, b": ");
+    if room <= 64 {
+        let answer = rtr_encode::encode(pdu, input, &mut bytes[0..room]);
+        let at = put_encoded(&mut out, at, answer);
+        let at = put_all(&mut out, at, &bytes);
+        flush(&out, at);
+    }
+}
+
+fn report(copy: Place, text: Place) -> RtrPdu {
+    RtrPdu::ErrorReport(RtrErrorReport::new(
+        RtrProtocolVersion::V1,
+        RtrErrorCode::CorruptData,
+        copy,
+        text,
+    ))
+}
+
+fn key(version: RtrProtocolVersion, start: usize, len: usize, info: Place) -> RtrPdu {
+    let subject_key_identifier = Place { start, len };
+    RtrPdu::RouterKey(RtrRouterKey {
+        version,
+        flags: 255,
+        subject_key_identifier,
+        asn: 64496,
+        subject_public_key_info: info,
+    })
+}
+
+fn put_place(out: &mut [u8], at: usize, place: Place, bytes: &[u8]) -> usize {
+    match place.answer(bytes) {
+        PartAnswer::Part => put::put_text(out, at, b": part "),
+        PartAnswer::Refused => put::put_text(out, at, b": refused 11 "),
+    }
+}
+
+// A place against five bytes: its answer and its part.
+fn show_place(label: &[u8], start: usize, len: usize) {
+    let place = Place { start, len };
+    let bytes = [1u8, 2, 3, 4, 5];
+    let mut out = [0u8; 512];
+    let at = put::put_text(&mut out, 0, label);
+    let at = put_place(&mut out, at, place, &bytes);
+    let at = put::put_hex(&mut out, at, place.part(&bytes));
+    flush(&out, at);
+}
+
+fn texts() {
+    show_read(
+        b"c080",
+        b"\x01\x0a\x00\x00\x00\x00\x00\x12\x00\x00\x00\x00\x00\x00\x00\x02\xc0\x80",
+    );
+    show_read(
+        b"eda080",
+        b"\x01\x0a\x00\x00\x00\x00\x00\x13\x00\x00\x00\x00\x00\x00\x00\x03\xed\xa0\x80",
+    );
+    show_read(
+        b"f4908080",
+        b"\x01\x0a\x00\x00\x00\x00\x00\x14\x00\x00\x00\x00\x00\x00\x00\x04\xf4\x90\x80\x80",
+    );
+    show_read(
+        b"f48fbfbf",
+        b"\x01\x0a\x00\x00\x00\x00\x00\x14\x00\x00\x00\x00\x00\x00\x00\x04\xf4\x8f\xbf\xbf",
+    );
+    show_read(
+        b"NUL",
+        b"\x01\x0a\x00\x00\x00\x00\x00\x11\x00\x00\x00\x00\x00\x00\x00\x01\x00",
+    );
+    show_read(
+        b"empty",
+        b"\x01\x0a\x00\x00\x00\x00\x00\x10\x00\x00\x00\x00\x00\x00\x00\x00",
+    );
+    show_read(b"length 0 in v0", b"\x00\x09\x00\x00\x00\x00\x00\x00");
+    show_read(b"length 0 of a report", b"\x01\x0a\x00\x00\x00\x00\x00\x00");
+}
+
+// Level 0 is the outermost report, so n reports hold level n at the deepest.
+fn nests() {
+    let query = b"\x01\x02\x00\x00\x00\x00\x00\x08";
+    let none = b"";
+    show_nest(b"15 reports, empty", 15, none);
+    show_nest(b"16 reports, empty", 16, none);
+    show_nest(b"17 reports, empty", 17, none);
+    show_nest(b"18 reports, empty", 18, none);
+    show_nest(b"15 reports of a query", 15, query);
+    show_nest(b"16 reports of a query", 16, query);
+    show_nest(b"17 reports of a query", 17, query);
+    show_nest(b"1 report of half a query", 1, b"\x01\x02\x00\x00");
+    show_nest(
+        b"1 report of a version 9",
+        1,
+        b"\x09\x02\x00\x00\x00\x00\x00\x08",
+    );
+    show_walk(b"no report", query);
+    show_walk(b"nothing", none);
+}
+
+fn encodings() {
+    let none = Place { start: 0, len: 0 };
+    let five = b"hello";
+    let bad = b"\xc0\x80";
+    let twenty = b"01234567890123456789";
+    show_encode(
+        b"report of hello",
+        report(Place { start: 0, len: 5 }, Place { start: 0, len: 5 }),
+        five,
+        64,
+    );
+    show_encode(
+        b"report, room 25",
+        report(Place { start: 0, len: 5 }, Place { start: 0, len: 5 }),
+        five,
+        25,
+    );
+    show_encode(
+        b"report, copy outside",
+        report(Place { start: 1, len: 5 }, none),
+        five,
+        64,
+    );
+    show_encode(
+        b"report, text outside",
+        report(none, Place { start: 6, len: 0 }),
+        five,
+        64,
+    );
+    show_encode(
+        b"report, text at the end",
+        report(none, Place { start: 5, len: 0 }),
+        five,
+        64,
+    );
+    show_encode(
+        b"report, text no UTF-8",
+        report(none, Place { start: 0, len: 2 }),
+        bad,
+        64,
+    );
+    show_encode(
+        b"report, no UTF-8 and no room",
+        report(none, Place { start: 0, len: 2 }),
+        bad,
+        0,
+    );
+    show_encode(
+        b"report, outside and no UTF-8",
+        report(Place { start: 3, len: 0 }, Place { start: 0, len: 2 }),
+        bad,
+        0,
+    );
+    show_encode(
+        b"key in v0",
+        key(RtrProtocolVersion::V0, 0, 20, none),
+        twenty,
+        64,
+    );
+    show_encode(
+        b"key of 19",
+        key(RtrProtocolVersion::V1, 0, 19, none),
+        twenty,
+        64,
+    );
+    show_encode(
+        b"key outside",
+        key(RtrProtocolVersion::V1, 1, 20, none),
+        twenty,
+        64,
+    );
+    show_encode(
+        b"key, room 33",
+        key(RtrProtocolVersion::V1, 0, 20, none),
+        twenty,
+        33,
+    );
+}
+
+fn main() {
+    texts();
+    nests();
+    encodings();
+    show_place(b"place (5, 0) of 5", 5, 0);
+    show_place(b"place (6, 0) of 5", 6, 0);
+    show_place(b"place (1, 4) of 5", 1, 4);
+    show_place(b"place (1, 5) of 5", 1, 5);
+    show_place(b"place (1, largest) of 5", 1, 18446744073709551615);
+}

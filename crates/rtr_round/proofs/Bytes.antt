@@ -1,0 +1,54 @@
+-- A number that was read from bytes is written as those bytes again: reading takes number * 256 + byte, writing the quotient and the
+-- remainder by 256, and a byte is below 256. Assumes nothing.
+use Prim.Native.Nat.{ℕ, zero, suc, _+_, _*_, _/_, _%_, _≤_, _<_}
+use mathlib.Core.List.{List, [], _∷_, _++_}
+use mathlib.Core.Logic.{_↔_}
+use mathlib.Core.Path.{_≡_, refl, sym, ap, _∙_}
+use native.Mathlib.Omega.{arith}
+use lib.ListN.{length, getD, take, drop, length-append, length-drop}
+use lib.Seq.{take-suc, getD-drop, take-at, drop-at, take-add, drop-drop, length-take-le}
+use Rattle.rtr_codec.specs.Bytes.{number}
+use Rattle.rtr_encode.specs.Encode.{bytesOf}
+use Rattle.rtr_round.specs.RoundTrip.{Bytes}
+
+pub length-bytes : (size n : ℕ) → length (bytesOf size n) ≡ size
+unfolding bytesOf
+length-bytes zero n = refl
+length-bytes (suc size) n = simp length-append (omega (arith, length-bytes size (n / 256)))
+
+pub bytes-of-number : (s : List ℕ) → Bytes s → (at size : ℕ) → at + size ≤ length s → bytesOf size (number s at size) ≡ take size (drop at s)
+unfolding bytesOf number
+bytes-of-number s bs at zero h = refl
+bytes-of-number s bs at (suc size) h =
+    let x : ℕ = number s at size in
+    let b : ℕ = getD s (at + size) 0 in
+    let small : b < 256 = bs (at + size) in
+    let q : (x * 256 + b) / 256 ≡ x = omega arith in
+    let r : (x * 256 + b) % 256 ≡ b = omega arith in
+    let front : bytesOf size x ≡ take size (drop at s) = bytes-of-number s bs at size (omega arith) in
+    let last : take (suc size) (drop at s) ≡ take size (drop at s) ++ (b ∷ []) =
+    take-suc (drop at s) size 0 (simp length-drop (omega arith)) ∙ simp getD-drop in
+    cc
+
+-- a number of four bytes fits 32 bits
+pub four-bytes-fit : (s : List ℕ) → Bytes s → (at : ℕ) → number s at 4 ≤ 4294967295
+unfolding number
+four-bytes-fit s bs at = omega (arith, bs (at + 0), bs (at + 1), bs (at + 2), bs (at + 3))
+
+-- lists with fronts of one length are the same exactly if their fronts and their rests are
+pub append-same : (a b c d : List ℕ) → length a ≡ length c → (a ++ b ≡ c ++ d) ↔ ((a ≡ c) × (b ≡ d))
+append-same a b c d e =
+    (λ q. (sym (take-at a b (length c) e) ∙ ap (take (length c)) q ∙ take-at c d (length c) refl, sym (drop-at a b (length c) e) ∙ ap (drop (length c)) q ∙ drop-at c d (length c) refl), λ q. cc (q .0, q .1))
+
+-- the w + k bytes from `at`, split behind the first w
+pub part-split : (s : List ℕ) (at w k : ℕ) → take (w + k) (drop at s) ≡ take w (drop at s) ++ take k (drop (at + w) s)
+part-split s at w k = take-add w k (drop at s) ∙ ap (λ (l : List ℕ). take w (drop at s) ++ take k l) (drop-drop w at s)
+
+pub length-part : (s : List ℕ) (at w : ℕ) → at + w ≤ length s → length (take w (drop at s)) ≡ w
+length-part s at w h = length-take-le w (drop at s) (simp length-drop (omega arith))
+
+-- w bytes x and then y are the w + k bytes from `at` exactly if each is its part of them
+pub front-and-rest : (s x y : List ℕ) (at w k : ℕ) → length x ≡ w → at + w ≤ length s
+    → (x ++ y ≡ take (w + k) (drop at s)) ↔ ((x ≡ take w (drop at s)) × (y ≡ take k (drop (at + w) s)))
+front-and-rest s x y at w k e h =
+    rw (part-split s at w k) (append-same x y (take w (drop at s)) (take k (drop (at + w) s)) (e ∙ sym (length-part s at w h)))
