@@ -3,8 +3,11 @@
 use crate::put::*;
 use rtr_models::*;
 
-fn put_head(out: &mut [u8], at: usize, kind: u64, version: RtrProtocolVersion) -> usize {
-    let at = put_field(out, at, b" type=", kind);
+// The models' own numbers, so that they are compared with the Rust's too.
+fn put_head(out: &mut [u8], at: usize, pdu: RtrPdu) -> usize {
+    let pdu_type = pdu.pdu_type();
+    let version = pdu.version();
+    let at = put_field(out, at, b" type=", pdu_type.to_u8() as u64);
     put_field(out, at, b" version=", version.to_u8() as u64)
 }
 
@@ -49,39 +52,24 @@ fn put_payload(out: &mut [u8], at: usize, name: &[u8], payload: &[u8]) -> usize 
 // ---- One function for each kind
 
 fn put_serial_notify(out: &mut [u8], at: usize, p: RtrSerialNotify) -> usize {
-    let version = p.version;
-    let at = put_head(out, at, 0, version);
     put_serial(out, at, p.session_id, p.serial_number)
 }
 
 fn put_serial_query(out: &mut [u8], at: usize, p: RtrSerialQuery) -> usize {
-    let version = p.version;
-    let at = put_head(out, at, 1, version);
     put_serial(out, at, p.session_id, p.serial_number)
 }
 
-fn put_reset_query(out: &mut [u8], at: usize, p: RtrResetQuery) -> usize {
-    let version = p.version;
-    put_head(out, at, 2, version)
-}
-
 fn put_cache_response(out: &mut [u8], at: usize, p: RtrCacheResponse) -> usize {
-    let version = p.version;
-    let at = put_head(out, at, 3, version);
     put_session(out, at, p.session_id)
 }
 
 fn put_ipv4_prefix(out: &mut [u8], at: usize, p: RtrIPv4Prefix) -> usize {
-    let version = p.version;
-    let at = put_head(out, at, 4, version);
     let at = put_lengths(out, at, p.flags, p.prefix_length, p.max_length);
     let at = put_hex_u32(out, at, p.prefix);
     put_field(out, at, b" asn=", p.asn as u64)
 }
 
 fn put_ipv6_prefix(out: &mut [u8], at: usize, p: RtrIPv6Prefix) -> usize {
-    let version = p.version;
-    let at = put_head(out, at, 6, version);
     let at = put_lengths(out, at, p.flags, p.prefix_length, p.max_length);
     let prefix = p.prefix;
     let at = put_ipv6(out, at, prefix);
@@ -89,8 +77,6 @@ fn put_ipv6_prefix(out: &mut [u8], at: usize, p: RtrIPv6Prefix) -> usize {
 }
 
 fn put_end_of_data(out: &mut [u8], at: usize, p: RtrEndOfData) -> usize {
-    let version = p.version;
-    let at = put_head(out, at, 7, version);
     let at = put_serial(out, at, p.session_id, p.serial_number);
     let refresh = p.refresh_interval;
     let retry = p.retry_interval;
@@ -100,28 +86,19 @@ fn put_end_of_data(out: &mut [u8], at: usize, p: RtrEndOfData) -> usize {
     put_interval(out, at, b" expire=", expire)
 }
 
-fn put_cache_reset(out: &mut [u8], at: usize, p: RtrCacheReset) -> usize {
-    let version = p.version;
-    put_head(out, at, 8, version)
-}
-
 fn put_key_identifier(out: &mut [u8], at: usize, flags: u8, ski: &[u8]) -> usize {
     let at = put_field(out, at, b" flags=", flags as u64);
     put_payload(out, at, b" ski=", ski)
 }
 
 fn put_router_key(out: &mut [u8], at: usize, p: RtrRouterKey, input: &[u8]) -> usize {
-    let version = p.version;
-    let at = put_head(out, at, 9, version);
     let at = put_key_identifier(out, at, p.flags, p.subject_key_identifier_part(input));
     let at = put_field(out, at, b" asn=", p.asn as u64);
     put_payload(out, at, b" spki=", p.subject_public_key_info_part(input))
 }
 
 fn put_error_report(out: &mut [u8], at: usize, p: RtrErrorReport, input: &[u8]) -> usize {
-    let version = p.version;
     let code = p.error_code;
-    let at = put_head(out, at, 10, version);
     let at = put_field(out, at, b" code=", code.to_u16() as u64);
     let at = put_payload(out, at, b" encap=", p.erroneous_pdu_part(input));
     put_payload(out, at, b" text=", p.error_text_part(input))
@@ -130,15 +107,16 @@ fn put_error_report(out: &mut [u8], at: usize, p: RtrErrorReport, input: &[u8]) 
 // ---- Any kind
 
 pub fn put_pdu(out: &mut [u8], at: usize, pdu: RtrPdu, input: &[u8]) -> usize {
+    let at = put_head(out, at, pdu);
     match pdu {
         RtrPdu::SerialNotify(p) => put_serial_notify(out, at, p),
         RtrPdu::SerialQuery(p) => put_serial_query(out, at, p),
-        RtrPdu::ResetQuery(p) => put_reset_query(out, at, p),
+        RtrPdu::ResetQuery(_) => at,
         RtrPdu::CacheResponse(p) => put_cache_response(out, at, p),
         RtrPdu::IPv4Prefix(p) => put_ipv4_prefix(out, at, p),
         RtrPdu::IPv6Prefix(p) => put_ipv6_prefix(out, at, p),
         RtrPdu::EndOfData(p) => put_end_of_data(out, at, p),
-        RtrPdu::CacheReset(p) => put_cache_reset(out, at, p),
+        RtrPdu::CacheReset(_) => at,
         RtrPdu::RouterKey(p) => put_router_key(out, at, p, input),
         RtrPdu::ErrorReport(p) => put_error_report(out, at, p, input),
     }

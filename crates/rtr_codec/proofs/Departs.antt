@@ -52,8 +52,7 @@ code-alike b b′ v n h (inr e) = one b ∙ sym (one b′)
     listed V1 q = le-leb n 8 h
 
     one : (c : Bool) → codeIn c v n ≡ true
-    one true = refl
-    one false = listed v e
+    one c = simp (listed v e)
 
 module _ (R R′ : Reading) (s : List ℕ) (alike : Alike R R′ s) where
   key-alike : number s 0 1 ≡ 1 → number s 1 1 ≡ 9 → R .keyByCrate ≡ R′ .keyByCrate

@@ -1,13 +1,18 @@
--- The smallest slice of each departure, read both ways: docs/DIFFERENCES.md has them in hex. Each is computed. Assumes nothing.
+-- The smallest slice of each departure, read both ways, and one slice of its kind to which it does not apply: docs/DIFFERENCES.md has them in
+-- hex. Each is computed. Assumes nothing.
 use Prim.Native.Nat.{ℕ}
+use mathlib.Core.Bool.{true, false}
 use mathlib.Core.List.{List, [], _∷_}
 use mathlib.Core.Path.{_≡_, refl}
+use lib.ListN.{drop}
 use Rattle.rtr_text.specs.Utf8.{wellFormed, wellFormedUpTo, characters}
 use Rattle.rtr_models.specs.declared.RtrProtocolVersion.the-variants.{V0, V1}
 use Rattle.rtr_models.specs.declared.RtrErrorCode.the-variants.{CorruptData, UnexpectedProtocolVersion}
 use Rattle.rtr_models.specs.declared.RtrPdu.the-variants.{RouterKey, ErrorReport}
 use Rattle.rtr_codec.specs.Bytes.{number}
 use Rattle.rtr_codec.specs.Reading.{rfc, crate}
+use Rattle.rtr_codec.specs.Departures.{applies}
+use Rattle.rtr_codec.specs.Departures.Departure.{codeEightInV0, bytesBehindText, keyByCrate}
 use Rattle.rtr_codec.specs.Read.{Verdict, headerLength, readRouterKey, readText, readEncapsulated, readCode, readErrorReport, readAs, readTyped, readVersioned, read}
 use Rattle.rtr_codec.specs.Read.Verdict.{accepted, refused}
 
@@ -41,7 +46,19 @@ pub behind-in-rfc : read rfc byteBehind ≡ refused 4 (16 ∷ 17 ∷ 10 ∷ [])
 unfolding number headerLength readText readEncapsulated readCode readErrorReport readAs readTyped readVersioned read
 behind-in-rfc = refl
 
--- a Router Key of 32 bytes: announced, identifier of zeros, AS 1, no key info
+-- a Router Key's bare header of length 0: both refuse, and expect another length
+abbrev pub bareKey : List ℕ
+bareKey = 1 ∷ 9 ∷ 0 ∷ 0 ∷ 0 ∷ 0 ∷ 0 ∷ 0 ∷ []
+
+pub bare-in-crate : read crate bareKey ≡ refused 4 (34 ∷ 0 ∷ 9 ∷ [])
+unfolding number headerLength readRouterKey readAs readTyped readVersioned read
+bare-in-crate = refl
+
+pub bare-in-rfc : read rfc bareKey ≡ refused 4 (32 ∷ 0 ∷ 9 ∷ [])
+unfolding number headerLength readRouterKey readAs readTyped readVersioned read
+bare-in-rfc = refl
+
+-- the smallest key that the RFC's picture reads: a Router Key of 32 bytes, announced, identifier of zeros, AS 1, no key info
 abbrev pub shortKey : List ℕ
 shortKey =
     1 ∷ 9 ∷ 1 ∷ 0 ∷ 0 ∷ 0 ∷ 0 ∷ 32 ∷ 0 ∷ 0 ∷ 0 ∷ 0 ∷ 0 ∷ 0 ∷ 0 ∷ 0 ∷ 0 ∷ 0 ∷ 0 ∷ 0 ∷ 0 ∷ 0 ∷ 0 ∷ 0 ∷ 0 ∷ 0 ∷ 0 ∷ 0 ∷ 0 ∷ 0 ∷ 0 ∷ 1 ∷ []
@@ -56,3 +73,13 @@ pub key-in-rfc : read rfc shortKey
     32
 unfolding number headerLength readRouterKey readAs readTyped readVersioned read
 key-in-rfc = refl
+
+-- each departure applies to its slice, and not to the like of it that the RFCs allow
+pub departures-apply : (applies codeEightInV0 reportOfEight ≡ true) × (applies bytesBehindText byteBehind ≡ true) × (applies keyByCrate bareKey ≡ true)
+unfolding number headerLength applies
+departures-apply = (refl, refl, refl)
+
+pub departures-spare
+    : (applies codeEightInV0 (1 ∷ drop 1 reportOfEight) ≡ false) × (applies bytesBehindText reportOfEight ≡ false) × (applies keyByCrate (0 ∷ drop 1 bareKey) ≡ false)
+unfolding number headerLength applies
+departures-spare = (refl, refl, refl)

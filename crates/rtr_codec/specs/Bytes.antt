@@ -1,4 +1,4 @@
--- Numbers on the wire: RFC 8210, section 5 ("all in network byte order"), document 01, "Reading".
+-- Numbers on the wire: document 01, "Reading" (numbers are big-endian; the RFCs leave it unsaid).
 use Prim.Native.Nat.{ℕ, zero, suc, _+_, _*_}
 use mathlib.Core.List.{List}
 use lib.ListN.{getD}

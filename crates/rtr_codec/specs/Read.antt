@@ -1,8 +1,9 @@
 -- Reading one PDU from a slice: document 01, "Reading". The checks stand in its order, each with its refusal's number and values; what is
 -- read off the bytes is RFC 8210, sections 5.1 to 5.11, but for the switches of a `Reading`.
-use Prim.Native.Nat.{ℕ, _+_, _-_, min}
+use Prim.Native.Nat.{ℕ, _+_, _-_, _≤_, min}
 use mathlib.Core.Bool.{Bool, true, false, cond, not, _&&_, _||_}
 use mathlib.Core.List.{List, [], _∷_}
+use mathlib.Core.Path.{_≡_}
 use lib.ListN.{length, getD, take, drop}
 use lib.Dec.{leb, eqb}
 use Rattle.rtr_text.specs.Utf8.{wellFormed}
@@ -34,6 +35,10 @@ need false n values next = refused n values
 -- the header's length (RFC 8210, 5.1, Length)
 unfoldable pub headerLength : List ℕ → ℕ
 headerLength s = number s 4 4
+
+-- what stands when a kind is looked at: n is the header's length, and so many bytes are there, the header among them
+abbrev pub Framed : ℕ → List ℕ → Type 0
+Framed n s = (n ≡ headerLength s) × ((8 ≤ length s) × (n ≤ length s))
 
 -- check 5: the length is that of the fields
 abbrev pub fixed : RtrPduType → List Field → List ℕ → (List ℕ → Verdict) → Verdict
@@ -191,7 +196,7 @@ lastCode V0 = 7
 lastCode V1 = 8
 
 abbrev pub codeIn : Bool → RtrProtocolVersion → ℕ → Bool
-codeIn eightInV0 v n = eightInV0 || leb n (lastCode v)
+codeIn eightInV0 v n = leb n (lastCode v) || (eightInV0 && eqb n 8)
 
 -- check 6, the error code
 unfoldable pub readCode : Reading → RtrProtocolVersion → ℕ → CodeFound → List ℕ → Verdict

@@ -7,14 +7,14 @@ ghost use Prim.Native.Nat.{_+_, _≤_, _<_, _^_};
 ghost use lib.ListN.{length};
 ghost use Rattle.rtr_codec.specs.Bytes.{number};
 ghost use Rattle.rtr_codec.specs.Reading.{crate};
-ghost use Rattle.rtr_codec.specs.Read.{read, headerLength, readSerialNotify, readSerialQuery, readResetQuery, readCacheResponse, readIPv4Prefix, readIPv6Prefix, readEndOfData, readCacheReset, readRouterKey, capped, readText, readEncapsulated, readErrorReport, readAs, readTyped};
+ghost use Rattle.rtr_codec.specs.Read.{read, headerLength, Framed, readSerialNotify, readSerialQuery, readResetQuery, readCacheResponse, readIPv4Prefix, readIPv6Prefix, readEndOfData, readCacheReset, readRouterKey, capped, readText, readEncapsulated, readErrorReport, readAs, readTyped};
 ghost use Rattle.rtr_models.specs.Codes.{typeFound};
 ghost use Rattle.rtr_codec.specs.Answers.{verdict, refusal, numberOf};
 ghost use Rattle.rtr_codec.specs.Run.{readAt, runSaid};
 
 // ---- Answers
 
-// Why a PDU is not read. docs/PROMISES.md and specs/Answers give document 01's number of each.
+// Why a PDU is not read; `number` gives document 01's number of it.
 pub enum RtrError {
     IncompletePdu {
         available: usize,
@@ -157,7 +157,7 @@ fn invalid_prefix_length(prefix_len: u8, max_len: u8, max_allowed: u8) -> ReadAn
 
 // Type 0: session and serial.
 fn parse_serial_notify(input: &[u8], version: RtrProtocolVersion, actual: u32) -> ReadAnswer
-    requires { ⌜ (actual ≡ headerLength (now input)) × ((8 ≤ length (now input)) × (actual ≤ length (now input))) ⌝ }
+    requires { ⌜ Framed actual (now input) ⌝ }
     ensures { λ r. ⌜ verdict r ≡ readSerialNotify version (now (input .entry)) ⌝ }
 {
     if actual != RTR_SERIAL_NOTIFY_LEN {
@@ -175,7 +175,7 @@ fn parse_serial_notify(input: &[u8], version: RtrProtocolVersion, actual: u32) -
 
 // Type 1: session and serial.
 fn parse_serial_query(input: &[u8], version: RtrProtocolVersion, actual: u32) -> ReadAnswer
-    requires { ⌜ (actual ≡ headerLength (now input)) × ((8 ≤ length (now input)) × (actual ≤ length (now input))) ⌝ }
+    requires { ⌜ Framed actual (now input) ⌝ }
     ensures { λ r. ⌜ verdict r ≡ readSerialQuery version (now (input .entry)) ⌝ }
 {
     if actual != RTR_SERIAL_QUERY_LEN {
@@ -193,7 +193,7 @@ fn parse_serial_query(input: &[u8], version: RtrProtocolVersion, actual: u32) ->
 
 // Type 2: the header alone.
 fn parse_reset_query(input: &[u8], version: RtrProtocolVersion, actual: u32) -> ReadAnswer
-    requires { ⌜ (actual ≡ headerLength (now input)) × ((8 ≤ length (now input)) × (actual ≤ length (now input))) ⌝ }
+    requires { ⌜ Framed actual (now input) ⌝ }
     ensures { λ r. ⌜ verdict r ≡ readResetQuery version (now (input .entry)) ⌝ }
 {
     if actual != RTR_RESET_QUERY_LEN {
@@ -205,7 +205,7 @@ fn parse_reset_query(input: &[u8], version: RtrProtocolVersion, actual: u32) -> 
 
 // Type 3: the session alone.
 fn parse_cache_response(input: &[u8], version: RtrProtocolVersion, actual: u32) -> ReadAnswer
-    requires { ⌜ (actual ≡ headerLength (now input)) × ((8 ≤ length (now input)) × (actual ≤ length (now input))) ⌝ }
+    requires { ⌜ Framed actual (now input) ⌝ }
     ensures { λ r. ⌜ verdict r ≡ readCacheResponse version (now (input .entry)) ⌝ }
 {
     if actual != RTR_CACHE_RESPONSE_LEN {
@@ -221,7 +221,7 @@ fn parse_cache_response(input: &[u8], version: RtrProtocolVersion, actual: u32) 
 
 // Type 4: byte 11 is not looked at.
 fn parse_ipv4_prefix(input: &[u8], version: RtrProtocolVersion, actual: u32) -> ReadAnswer
-    requires { ⌜ (actual ≡ headerLength (now input)) × ((8 ≤ length (now input)) × (actual ≤ length (now input))) ⌝ }
+    requires { ⌜ Framed actual (now input) ⌝ }
     ensures { λ r. ⌜ verdict r ≡ readIPv4Prefix version (now (input .entry)) ⌝ }
 {
     if actual != RTR_IPV4_PREFIX_LEN {
@@ -251,7 +251,7 @@ fn parse_ipv4_prefix(input: &[u8], version: RtrProtocolVersion, actual: u32) -> 
 
 // Type 6: byte 11 is not looked at.
 fn parse_ipv6_prefix(input: &[u8], version: RtrProtocolVersion, actual: u32) -> ReadAnswer
-    requires { ⌜ (actual ≡ headerLength (now input)) × ((8 ≤ length (now input)) × (actual ≤ length (now input))) ⌝ }
+    requires { ⌜ Framed actual (now input) ⌝ }
     ensures { λ r. ⌜ verdict r ≡ readIPv6Prefix version (now (input .entry)) ⌝ }
 {
     if actual != RTR_IPV6_PREFIX_LEN {
@@ -285,7 +285,7 @@ fn parse_ipv6_prefix(input: &[u8], version: RtrProtocolVersion, actual: u32) -> 
 
 // Type 7 in version 0: session and serial.
 fn parse_end_of_data_v0(input: &[u8], actual: u32) -> ReadAnswer
-    requires { ⌜ (actual ≡ headerLength (now input)) × ((8 ≤ length (now input)) × (actual ≤ length (now input))) ⌝ }
+    requires { ⌜ Framed actual (now input) ⌝ }
     ensures { λ r. ⌜ verdict r ≡ readEndOfData RtrProtocolVersion.V0 (now (input .entry)) ⌝ }
 {
     if actual != RTR_END_OF_DATA_V0_LEN {
@@ -306,7 +306,7 @@ fn parse_end_of_data_v0(input: &[u8], actual: u32) -> ReadAnswer
 
 // Type 7 in version 1: the three intervals besides.
 fn parse_end_of_data_v1(input: &[u8], actual: u32) -> ReadAnswer
-    requires { ⌜ (actual ≡ headerLength (now input)) × ((8 ≤ length (now input)) × (actual ≤ length (now input))) ⌝ }
+    requires { ⌜ Framed actual (now input) ⌝ }
     ensures { λ r. ⌜ verdict r ≡ readEndOfData RtrProtocolVersion.V1 (now (input .entry)) ⌝ }
 {
     if actual != RTR_END_OF_DATA_V1_LEN {
@@ -330,7 +330,7 @@ fn parse_end_of_data_v1(input: &[u8], actual: u32) -> ReadAnswer
 
 // Type 7: its length goes by the version.
 fn parse_end_of_data(input: &[u8], version: RtrProtocolVersion, actual: u32) -> ReadAnswer
-    requires { ⌜ (actual ≡ headerLength (now input)) × ((8 ≤ length (now input)) × (actual ≤ length (now input))) ⌝ }
+    requires { ⌜ Framed actual (now input) ⌝ }
     ensures { λ r. ⌜ verdict r ≡ readEndOfData version (now (input .entry)) ⌝ }
 {
     match version {
@@ -341,7 +341,7 @@ fn parse_end_of_data(input: &[u8], version: RtrProtocolVersion, actual: u32) -> 
 
 // Type 8: the header alone.
 fn parse_cache_reset(input: &[u8], version: RtrProtocolVersion, actual: u32) -> ReadAnswer
-    requires { ⌜ (actual ≡ headerLength (now input)) × ((8 ≤ length (now input)) × (actual ≤ length (now input))) ⌝ }
+    requires { ⌜ Framed actual (now input) ⌝ }
     ensures { λ r. ⌜ verdict r ≡ readCacheReset version (now (input .entry)) ⌝ }
 {
     if actual != RTR_CACHE_RESET_LEN {
@@ -353,7 +353,7 @@ fn parse_cache_reset(input: &[u8], version: RtrProtocolVersion, actual: u32) -> 
 
 // Type 9 in the crate's arrangement: byte 9 is not looked at, and the key info is the rest.
 fn parse_router_key_v1(input: &[u8], actual: u32) -> ReadAnswer
-    requires { ⌜ (actual ≡ headerLength (now input)) × ((8 ≤ length (now input)) × (actual ≤ length (now input))) ⌝ }
+    requires { ⌜ Framed actual (now input) ⌝ }
     ensures { λ r. ⌜ verdict r ≡ readRouterKey crate RtrProtocolVersion.V1 (now (input .entry)) ⌝ }
 {
     if actual < RTR_ROUTER_KEY_MIN_LEN {
@@ -378,7 +378,7 @@ fn parse_router_key_v1(input: &[u8], actual: u32) -> ReadAnswer
 
 // Type 9: version 1 only, and that is tested before the length.
 fn parse_router_key(input: &[u8], version: RtrProtocolVersion, actual: u32) -> ReadAnswer
-    requires { ⌜ (actual ≡ headerLength (now input)) × ((8 ≤ length (now input)) × (actual ≤ length (now input))) ⌝ }
+    requires { ⌜ Framed actual (now input) ⌝ }
     ensures { λ r. ⌜ verdict r ≡ readRouterKey crate version (now (input .entry)) ⌝ }
 {
     match version {
@@ -394,7 +394,7 @@ fn capped_length(n: usize) -> u32
     if n > 4294967295 { 4294967295 } else { n as u32 }
 }
 
-// Type 10, from the text's length on: a text that ends early is read, as the Rust does.
+// Type 10, from the text's length on: a text that ends before the PDU does is read, as in the Rust.
 fn parse_error_text(
     input: &[u8],
     version: RtrProtocolVersion,
@@ -451,7 +451,7 @@ fn parse_error_pdu(
 
 // Type 10: the error code stands where others have the session.
 fn parse_error_report(input: &[u8], version: RtrProtocolVersion, actual: u32) -> ReadAnswer
-    requires { ⌜ (actual ≡ headerLength (now input)) × ((8 ≤ length (now input)) × (actual ≤ length (now input))) ⌝ }
+    requires { ⌜ Framed actual (now input) ⌝ }
     ensures { λ r. ⌜ verdict r ≡ readErrorReport crate version (now (input .entry)) ⌝ }
 {
     if actual < RTR_ERROR_REPORT_MIN_LEN {
@@ -474,7 +474,7 @@ fn parse_as(
     pdu_type: RtrPduType,
     actual: u32,
 ) -> ReadAnswer
-    requires { ⌜ (actual ≡ headerLength (now input)) × ((8 ≤ length (now input)) × (actual ≤ length (now input))) ⌝ }
+    requires { ⌜ Framed actual (now input) ⌝ }
     ensures { λ r. ⌜ verdict r ≡ readAs crate version «pdu_type» (now (input .entry)) ⌝ }
 {
     match pdu_type {
@@ -493,7 +493,7 @@ fn parse_as(
 
 // The version is known: the type comes next.
 fn parse_typed(input: &[u8], version: RtrProtocolVersion, actual: u32) -> ReadAnswer
-    requires { ⌜ (actual ≡ headerLength (now input)) × ((8 ≤ length (now input)) × (actual ≤ length (now input))) ⌝ }
+    requires { ⌜ Framed actual (now input) ⌝ }
     ensures { λ r. ⌜ verdict r ≡ readTyped crate version (number (now (input .entry)) 1 1) (typeFound (number (now (input .entry)) 1 1)) (now (input .entry)) ⌝ }
 {
     let pdu_type_byte = be8(input, 1);
@@ -540,7 +540,8 @@ pub struct RunRead {
     pub next: usize,
 }
 
-// The PDU at a place of a run; at or past the end that is 1 (0, 8).
+// The PDU at a place of a run; at or past the end that is 1 (0, 8). The PDU's own places count from its first byte, so ask its parts of
+// the run from `at` on.
 pub fn read_at(input: &[u8], at: usize) -> RunRead
     ensures { λ r. ⌜ runSaid r ≡ readAt crate (now (input .entry)) at ⌝ }
 {

@@ -10,7 +10,7 @@ use borrow.Author.Tests.{leb-true, eqb-true}
 use lib.ListN.{length, take, drop, length-append, length-drop}
 use lib.Seq.{length-take-le}
 use Rattle.rtr_models.specs.Codes.{versionNumber}
-use Rattle.rtr_models.specs.Parts.{inside, keyInside, partIf, partAnswer}
+use Rattle.rtr_models.specs.Parts.{inside, partNumber, numberIf}
 use Rattle.rtr_models.specs.declared.RtrProtocolVersion.{RtrProtocolVersion}
 use Rattle.rtr_models.specs.declared.Place.{Place}
 use Rattle.rtr_models.specs.declared.PartAnswer.{PartAnswer}
@@ -54,12 +54,12 @@ report-stored v code whole copy text o o₁ o₂ o₃ o₄ o₅ e₁ e₂ e₃ e
     next o o₄ o₅ _ _ (16 + length copy) (next o o₃ o₄ _ _ (12 + length copy) (next o o₂ o₃ _ _ 12 (next o o₁ o₂ _ _ 8 e₁ l₁ e₂) l₂ e₃) l₃ e₄) l₄ e₅
 
 -- what a test of a place tells
-pub part-is-true : (b : Bool) (r : PartAnswer) → r ≡ partAnswer b → r ≡ PartAnswer.Part → b ≡ true
+pub part-is-true : (b : Bool) (r : PartAnswer) → partNumber r ≡ numberIf b → r ≡ PartAnswer.Part → b ≡ true
 part-is-true true r p q = refl
-part-is-true false r p q = cc
+part-is-true false r p q = let z : _≡_ {A = ℕ} 0 11 = sym (ap partNumber q) ∙ p in absurd (omega arith)
 
-pub refused-is-false : (b : Bool) (r : PartAnswer) → r ≡ partAnswer b → r ≡ PartAnswer.Refused → b ≡ false
-refused-is-false true r p q = cc
+pub refused-is-false : (b : Bool) (r : PartAnswer) → partNumber r ≡ numberIf b → r ≡ PartAnswer.Refused → b ≡ false
+refused-is-false true r p q = let z : _≡_ {A = ℕ} 11 0 = sym (ap partNumber q) ∙ p in absurd (omega arith)
 refused-is-false false r p q = refl
 
 -- a part that is inside has its place's length

@@ -1,8 +1,14 @@
 -- What each public function promises leaves one result: two results of the same arguments that both meet the promise are equal; of a part of
--- a slice, its bytes are. `Post` is the function's contract as Rattle reads it off the source. Assumes nothing.
-use mathlib.Core.Path.{_≡_}
-use denote.Ref.{now}
-use Rattle.rtr_base.proofs.Unique.{only-this}
+-- a slice, its bytes and where they lie are. `Post` is the function's contract as Rattle reads it off the source. Assumes nothing.
+use Prim.Native.Nat.{ℕ}
+use mathlib.Core.Bool.{cond}
+use mathlib.Core.Path.{_≡_, refl}
+use denote.Ref.{now, ptr}
+use lib.Dec.{eqb}
+use Rattle.rtr_base.proofs.Unique.{only-one, only-this}
+use Rattle.rtr_models.specs.Parts.{partNumber}
+use Rattle.rtr_models.specs.declared.PartAnswer.{PartAnswer}
+use Rattle.rtr_models.specs.declared.PartAnswer.the-variants.{Part, Refused}
 use Rattle.rtr_models.proofs.RtrProtocolVersion.from_u8.Reads as rtr-protocol-version-from-u8
 use Rattle.rtr_models.proofs.RtrProtocolVersion.to_u8.Reads as rtr-protocol-version-to-u8
 use Rattle.rtr_models.proofs.RtrProtocolVersion.default.Reads as rtr-protocol-version-default
@@ -42,6 +48,14 @@ use Rattle.rtr_models.proofs.RtrErrorReport.error_text_part.Reads as rt
 use Rattle.rtr_models.proofs.RtrPdu.pdu_type.Reads as rtr-pdu-pdu-type
 use Rattle.rtr_models.proofs.RtrPdu.version.Reads as rtr-pdu-version
 
+answerOf : ℕ → PartAnswer
+answerOf n = cond (eqb n 0) Part Refused
+
+number-back : (a : PartAnswer) → answerOf (partNumber a) ≡ a
+unfolding answerOf
+number-back Part = refl
+number-back Refused = refl
+
 pub rtr-protocol-version-from-u8-unique : (κs : _) (a : _) (r r′ : _) (s s′ : _) → rtr-protocol-version-from-u8.Post κs a r s → rtr-protocol-version-from-u8.Post κs a r′ s′ → r ≡ r′
 rtr-protocol-version-from-u8-unique κs a r r′ s s′ p q = only-this r r′ _ p q
 
@@ -64,16 +78,16 @@ pub rtr-error-code-to-u16-unique : (κs : _) (a : _) (r r′ : _) (s s′ : _) �
 rtr-error-code-to-u16-unique κs a r r′ s s′ p q = only-this r r′ _ p q
 
 pub place-answer-unique : (κs : _) (a : _) (r r′ : _) (s s′ : _) → place-answer.Post κs a r s → place-answer.Post κs a r′ s′ → r ≡ r′
-place-answer-unique κs a r r′ s s′ p q = only-this r r′ _ p q
+place-answer-unique κs a r r′ s s′ p q = only-one partNumber answerOf number-back r r′ _ p q
 
-pub place-part-unique : (κs : _) (a : _) (r r′ : _) (s s′ : _) → place-part.Post κs a r s → place-part.Post κs a r′ s′ → now r ≡ now r′
-place-part-unique κs a r r′ s s′ p q = only-this (now r) (now r′) _ p q
+pub place-part-unique : (κs : _) (a : _) (r r′ : _) (s s′ : _) → place-part.Post κs a r s → place-part.Post κs a r′ s′ → (now r ≡ now r′) × (ptr r ≡ ptr r′)
+place-part-unique κs a r r′ s s′ p q = (only-this (now r) (now r′) _ (p .0) (q .0), only-this (ptr r) (ptr r′) _ (p .1) (q .1))
 
 pub place-key-answer-unique : (κs : _) (a : _) (r r′ : _) (s s′ : _) → place-key-answer.Post κs a r s → place-key-answer.Post κs a r′ s′ → r ≡ r′
-place-key-answer-unique κs a r r′ s s′ p q = only-this r r′ _ p q
+place-key-answer-unique κs a r r′ s s′ p q = only-one partNumber answerOf number-back r r′ _ p q
 
-pub place-key-part-unique : (κs : _) (a : _) (r r′ : _) (s s′ : _) → place-key-part.Post κs a r s → place-key-part.Post κs a r′ s′ → now r ≡ now r′
-place-key-part-unique κs a r r′ s s′ p q = only-this (now r) (now r′) _ p q
+pub place-key-part-unique : (κs : _) (a : _) (r r′ : _) (s s′ : _) → place-key-part.Post κs a r s → place-key-part.Post κs a r′ s′ → (now r ≡ now r′) × (ptr r ≡ ptr r′)
+place-key-part-unique κs a r r′ s s′ p q = (only-this (now r) (now r′) _ (p .0) (q .0), only-this (ptr r) (ptr r′) _ (p .1) (q .1))
 
 pub interval-or-unique : (κs : _) (a : _) (r r′ : _) (s s′ : _) → interval-or.Post κs a r s → interval-or.Post κs a r′ s′ → r ≡ r′
 interval-or-unique κs a r r′ s s′ p q = only-this r r′ _ p q
@@ -121,16 +135,16 @@ pub rtr-router-key-is-withdrawal-unique : (κs : _) (a : _) (r r′ : _) (s s′
 rtr-router-key-is-withdrawal-unique κs a r r′ s s′ p q = only-this r r′ _ p q
 
 pub rtr-router-key-subject-key-identifier-answer-unique : (κs : _) (a : _) (r r′ : _) (s s′ : _) → rtr-router-key-subject-key-identifier-answer.Post κs a r s → rtr-router-key-subject-key-identifier-answer.Post κs a r′ s′ → r ≡ r′
-rtr-router-key-subject-key-identifier-answer-unique κs a r r′ s s′ p q = only-this r r′ _ p q
+rtr-router-key-subject-key-identifier-answer-unique κs a r r′ s s′ p q = only-one partNumber answerOf number-back r r′ _ p q
 
-pub rtr-router-key-subject-key-identifier-part-unique : (κs : _) (a : _) (r r′ : _) (s s′ : _) → rtr-router-key-subject-key-identifier-part.Post κs a r s → rtr-router-key-subject-key-identifier-part.Post κs a r′ s′ → now r ≡ now r′
-rtr-router-key-subject-key-identifier-part-unique κs a r r′ s s′ p q = only-this (now r) (now r′) _ p q
+pub rtr-router-key-subject-key-identifier-part-unique : (κs : _) (a : _) (r r′ : _) (s s′ : _) → rtr-router-key-subject-key-identifier-part.Post κs a r s → rtr-router-key-subject-key-identifier-part.Post κs a r′ s′ → (now r ≡ now r′) × (ptr r ≡ ptr r′)
+rtr-router-key-subject-key-identifier-part-unique κs a r r′ s s′ p q = (only-this (now r) (now r′) _ (p .0) (q .0), only-this (ptr r) (ptr r′) _ (p .1) (q .1))
 
 pub rtr-router-key-subject-public-key-info-answer-unique : (κs : _) (a : _) (r r′ : _) (s s′ : _) → rtr-router-key-subject-public-key-info-answer.Post κs a r s → rtr-router-key-subject-public-key-info-answer.Post κs a r′ s′ → r ≡ r′
-rtr-router-key-subject-public-key-info-answer-unique κs a r r′ s s′ p q = only-this r r′ _ p q
+rtr-router-key-subject-public-key-info-answer-unique κs a r r′ s s′ p q = only-one partNumber answerOf number-back r r′ _ p q
 
-pub rtr-router-key-subject-public-key-info-part-unique : (κs : _) (a : _) (r r′ : _) (s s′ : _) → rtr-router-key-subject-public-key-info-part.Post κs a r s → rtr-router-key-subject-public-key-info-part.Post κs a r′ s′ → now r ≡ now r′
-rtr-router-key-subject-public-key-info-part-unique κs a r r′ s s′ p q = only-this (now r) (now r′) _ p q
+pub rtr-router-key-subject-public-key-info-part-unique : (κs : _) (a : _) (r r′ : _) (s s′ : _) → rtr-router-key-subject-public-key-info-part.Post κs a r s → rtr-router-key-subject-public-key-info-part.Post κs a r′ s′ → (now r ≡ now r′) × (ptr r ≡ ptr r′)
+rtr-router-key-subject-public-key-info-part-unique κs a r r′ s s′ p q = (only-this (now r) (now r′) _ (p .0) (q .0), only-this (ptr r) (ptr r′) _ (p .1) (q .1))
 
 pub rtr-error-report-new-unique : (κs : _) (a : _) (r r′ : _) (s s′ : _) → rtr-error-report-new.Post κs a r s → rtr-error-report-new.Post κs a r′ s′ → r ≡ r′
 rtr-error-report-new-unique κs a r r′ s s′ p q = only-this r r′ _ p q
@@ -139,16 +153,16 @@ pub rtr-error-report-corrupt-data-unique : (κs : _) (a : _) (r r′ : _) (s s�
 rtr-error-report-corrupt-data-unique κs a r r′ s s′ p q = only-this r r′ _ p q
 
 pub rtr-error-report-erroneous-pdu-answer-unique : (κs : _) (a : _) (r r′ : _) (s s′ : _) → rtr-error-report-erroneous-pdu-answer.Post κs a r s → rtr-error-report-erroneous-pdu-answer.Post κs a r′ s′ → r ≡ r′
-rtr-error-report-erroneous-pdu-answer-unique κs a r r′ s s′ p q = only-this r r′ _ p q
+rtr-error-report-erroneous-pdu-answer-unique κs a r r′ s s′ p q = only-one partNumber answerOf number-back r r′ _ p q
 
-pub rtr-error-report-erroneous-pdu-part-unique : (κs : _) (a : _) (r r′ : _) (s s′ : _) → rtr-error-report-erroneous-pdu-part.Post κs a r s → rtr-error-report-erroneous-pdu-part.Post κs a r′ s′ → now r ≡ now r′
-rtr-error-report-erroneous-pdu-part-unique κs a r r′ s s′ p q = only-this (now r) (now r′) _ p q
+pub rtr-error-report-erroneous-pdu-part-unique : (κs : _) (a : _) (r r′ : _) (s s′ : _) → rtr-error-report-erroneous-pdu-part.Post κs a r s → rtr-error-report-erroneous-pdu-part.Post κs a r′ s′ → (now r ≡ now r′) × (ptr r ≡ ptr r′)
+rtr-error-report-erroneous-pdu-part-unique κs a r r′ s s′ p q = (only-this (now r) (now r′) _ (p .0) (q .0), only-this (ptr r) (ptr r′) _ (p .1) (q .1))
 
 pub rtr-error-report-error-text-answer-unique : (κs : _) (a : _) (r r′ : _) (s s′ : _) → rtr-error-report-error-text-answer.Post κs a r s → rtr-error-report-error-text-answer.Post κs a r′ s′ → r ≡ r′
-rtr-error-report-error-text-answer-unique κs a r r′ s s′ p q = only-this r r′ _ p q
+rtr-error-report-error-text-answer-unique κs a r r′ s s′ p q = only-one partNumber answerOf number-back r r′ _ p q
 
-pub rtr-error-report-error-text-part-unique : (κs : _) (a : _) (r r′ : _) (s s′ : _) → rtr-error-report-error-text-part.Post κs a r s → rtr-error-report-error-text-part.Post κs a r′ s′ → now r ≡ now r′
-rtr-error-report-error-text-part-unique κs a r r′ s s′ p q = only-this (now r) (now r′) _ p q
+pub rtr-error-report-error-text-part-unique : (κs : _) (a : _) (r r′ : _) (s s′ : _) → rtr-error-report-error-text-part.Post κs a r s → rtr-error-report-error-text-part.Post κs a r′ s′ → (now r ≡ now r′) × (ptr r ≡ ptr r′)
+rtr-error-report-error-text-part-unique κs a r r′ s s′ p q = (only-this (now r) (now r′) _ (p .0) (q .0), only-this (ptr r) (ptr r′) _ (p .1) (q .1))
 
 pub rtr-pdu-pdu-type-unique : (κs : _) (a : _) (r r′ : _) (s s′ : _) → rtr-pdu-pdu-type.Post κs a r s → rtr-pdu-pdu-type.Post κs a r′ s′ → r ≡ r′
 rtr-pdu-pdu-type-unique κs a r r′ s s′ p q = only-this r r′ _ p q

@@ -2,7 +2,7 @@
 // memory, and each promise names its one result.
 ghost use mathlib.Core.Path.{_≡_};
 ghost use Rattle.rtr_models.specs.Codes.{versionFound, versionNumber, typeFound, typeNumber, codeFound, codeNumber};
-ghost use Rattle.rtr_models.specs.Parts.{inside, keyInside, partIf, partAnswer};
+ghost use Rattle.rtr_models.specs.Parts.{inside, keyInside, PartOf, partNumber, numberIf};
 ghost use Rattle.rtr_models.specs.Values.{announces, withdraws, secondsOr, typeOf, versionOf};
 
 // ---- Codes
@@ -185,7 +185,7 @@ impl Place {
     }
 
     pub fn answer(self, input: &[u8]) -> PartAnswer
-        ensures { λ r. ⌜ r ≡ partAnswer (inside self (now (input .entry))) ⌝ }
+        ensures { λ r. ⌜ partNumber r ≡ numberIf (inside self (now (input .entry))) ⌝ }
     {
         if self.is_inside(input) {
             return PartAnswer::Part;
@@ -195,7 +195,7 @@ impl Place {
 
     // That very part of the slice, or an empty one where it is refused.
     pub fn part(self, input: &[u8]) -> &[u8]
-        ensures { λ r. ⌜ now r ≡ partIf (inside self (now (input .entry))) self (now (input .entry)) ⌝ }
+        ensures { λ r. ⌜ PartOf (inside self (now (input .entry))) self (input .entry) r ⌝ }
     {
         let start = self.start;
         let len = self.len;
@@ -207,7 +207,7 @@ impl Place {
 
     // A key identifier's place must be 20 long besides.
     pub fn key_answer(self, input: &[u8]) -> PartAnswer
-        ensures { λ r. ⌜ r ≡ partAnswer (keyInside self (now (input .entry))) ⌝ }
+        ensures { λ r. ⌜ partNumber r ≡ numberIf (keyInside self (now (input .entry))) ⌝ }
     {
         let len = self.len;
         if len == 20 {
@@ -217,7 +217,7 @@ impl Place {
     }
 
     pub fn key_part(self, input: &[u8]) -> &[u8]
-        ensures { λ r. ⌜ now r ≡ partIf (keyInside self (now (input .entry))) self (now (input .entry)) ⌝ }
+        ensures { λ r. ⌜ PartOf (keyInside self (now (input .entry))) self (input .entry) r ⌝ }
     {
         let len = self.len;
         if len == 20 {
@@ -433,28 +433,28 @@ impl RtrRouterKey {
     }
 
     pub fn subject_key_identifier_answer(self, input: &[u8]) -> PartAnswer
-        ensures { λ r. ⌜ r ≡ partAnswer (keyInside (self .«subject_key_identifier») (now (input .entry))) ⌝ }
+        ensures { λ r. ⌜ partNumber r ≡ numberIf (keyInside (self .«subject_key_identifier») (now (input .entry))) ⌝ }
     {
         let place = self.subject_key_identifier;
         place.key_answer(input)
     }
 
     pub fn subject_key_identifier_part(self, input: &[u8]) -> &[u8]
-        ensures { λ r. ⌜ now r ≡ partIf (keyInside (self .«subject_key_identifier») (now (input .entry))) (self .«subject_key_identifier») (now (input .entry)) ⌝ }
+        ensures { λ r. ⌜ PartOf (keyInside (self .«subject_key_identifier») (now (input .entry))) (self .«subject_key_identifier») (input .entry) r ⌝ }
     {
         let place = self.subject_key_identifier;
         place.key_part(input)
     }
 
     pub fn subject_public_key_info_answer(self, input: &[u8]) -> PartAnswer
-        ensures { λ r. ⌜ r ≡ partAnswer (inside (self .«subject_public_key_info») (now (input .entry))) ⌝ }
+        ensures { λ r. ⌜ partNumber r ≡ numberIf (inside (self .«subject_public_key_info») (now (input .entry))) ⌝ }
     {
         let place = self.subject_public_key_info;
         place.answer(input)
     }
 
     pub fn subject_public_key_info_part(self, input: &[u8]) -> &[u8]
-        ensures { λ r. ⌜ now r ≡ partIf (inside (self .«subject_public_key_info») (now (input .entry))) (self .«subject_public_key_info») (now (input .entry)) ⌝ }
+        ensures { λ r. ⌜ PartOf (inside (self .«subject_public_key_info») (now (input .entry))) (self .«subject_public_key_info») (input .entry) r ⌝ }
     {
         let place = self.subject_public_key_info;
         place.part(input)
@@ -493,28 +493,28 @@ impl RtrErrorReport {
     }
 
     pub fn erroneous_pdu_answer(self, input: &[u8]) -> PartAnswer
-        ensures { λ r. ⌜ r ≡ partAnswer (inside (self .«erroneous_pdu») (now (input .entry))) ⌝ }
+        ensures { λ r. ⌜ partNumber r ≡ numberIf (inside (self .«erroneous_pdu») (now (input .entry))) ⌝ }
     {
         let place = self.erroneous_pdu;
         place.answer(input)
     }
 
     pub fn erroneous_pdu_part(self, input: &[u8]) -> &[u8]
-        ensures { λ r. ⌜ now r ≡ partIf (inside (self .«erroneous_pdu») (now (input .entry))) (self .«erroneous_pdu») (now (input .entry)) ⌝ }
+        ensures { λ r. ⌜ PartOf (inside (self .«erroneous_pdu») (now (input .entry))) (self .«erroneous_pdu») (input .entry) r ⌝ }
     {
         let place = self.erroneous_pdu;
         place.part(input)
     }
 
     pub fn error_text_answer(self, input: &[u8]) -> PartAnswer
-        ensures { λ r. ⌜ r ≡ partAnswer (inside (self .«error_text») (now (input .entry))) ⌝ }
+        ensures { λ r. ⌜ partNumber r ≡ numberIf (inside (self .«error_text») (now (input .entry))) ⌝ }
     {
         let place = self.error_text;
         place.answer(input)
     }
 
     pub fn error_text_part(self, input: &[u8]) -> &[u8]
-        ensures { λ r. ⌜ now r ≡ partIf (inside (self .«error_text») (now (input .entry))) (self .«error_text») (now (input .entry)) ⌝ }
+        ensures { λ r. ⌜ PartOf (inside (self .«error_text») (now (input .entry))) (self .«error_text») (input .entry) r ⌝ }
     {
         let place = self.error_text;
         place.part(input)

@@ -24,7 +24,7 @@ use Rattle.rtr_codec.specs.Layout.{widths, lengthOf, valuesOf}
 use Rattle.rtr_codec.specs.Read.{headerLength, read, needed}
 use Rattle.rtr_codec.specs.Read.Verdict.{accepted}
 use Rattle.rtr_codec.proofs.Laws.{read-consumes, read-behind}
-use Rattle.rtr_encode.specs.Encode.{fieldBytes, layoutOf, valuesIn, behind, behindLength, encodedLength, encoding, placesInside, encodeSays, encode}
+use Rattle.rtr_encode.specs.Encode.{fieldBytes, layoutOf, valuesIn, behind, behindLength, encodedLength, encoding, placesInside, textIn, encodeSays, encode}
 use Rattle.rtr_encode.specs.Encode.Writing.{written}
 use Rattle.rtr_round.specs.RoundTrip.{Bytes, ignoredZero, nothingBehind, InRule, readBack}
 use Rattle.rtr_round.proofs.Bytes.{four-bytes-fit, append-same, length-part}
@@ -101,6 +101,10 @@ encode-of-read R s pdu n bs e =
           let m : encodedLength R pdu ≡ n = found .last .1 (z .1) in
           decide .1 (fixed m ∙ back .1 (z .0)) ∙ ap (λ (k : ℕ). take k s) m,
     )
+
+-- every payload of a PDU that was read lies in the slice that it was read from, and its text is UTF-8
+pub read-places-inside : (R : Reading) (s : List ℕ) (pdu : RtrPdu) (n : ℕ) → Bytes s → read R s ≡ accepted pdu n → (placesInside pdu s ≡ true) × (textIn pdu s ≡ true)
+read-places-inside R s pdu n bs e = (accepted-found R s pdu n bs e .places, accepted-found R s pdu n bs e .text)
 
 -- what was read is encoded: its payloads lie in the slice, its text is UTF-8, and its length fits 32 bits
 pub encode-accepts-read : (R : Reading) (s : List ℕ) (pdu : RtrPdu) (n : ℕ) → Bytes s → read R s ≡ accepted pdu n

@@ -1,5 +1,5 @@
 // Well-formed UTF-8, in place of the standard library's test: how far a text is well formed, and whether that is all of it.
-// Empty text and NUL pass. No call has a condition; nothing is written.
+// Empty text and NUL pass. No public call has a condition; nothing is written.
 ghost use mathlib.Core.Path.{_≡_};
 ghost use mathlib.Core.List.{[], _∷_};
 ghost use Prim.Native.Nat.{_<_};

@@ -1,5 +1,7 @@
 -- `parse_error_report` gives what `readErrorReport` says: the length, then the code by its table. Assumes nothing.
+use mathlib.Core.Path.{sym, _∙_}
 use borrow.Author.Tests.{le-leb, lt-leb}
+use Rattle.rtr_codec.proofs.Text.{every-code}
 use Rattle.rtr_codec.specs.Read.{readErrorReport, readCode}
 use borrow.Author.Needs.{needs}
 use Rattle.rtr_codec.proofs.parse_error_report.Statement.{statement}
@@ -31,7 +33,15 @@ enum-told c = search needs
 returns-2 : tie.Need-returns-2
 unfolding readErrorReport readCode
 returns-2 c =
-    simp (← c .before .before .before .before .before .before .before .before .pre .0, le-leb _ _ (c .before .before .before .before .before .before .if1 .left), ← c .before .before .before .before .before .be16 .ensures, ← c .before .before .before .before .from-u16 .ensures, c .before .before .found .given .1) (c .parse-error-pdu .ensures)
+    let known = sym (c .before .before .before .before .from-u16 .ensures) ∙ c .before .before .found .given .1 in
+    simp (
+      ← c .before .before .before .before .before .before .before .before .pre .0,
+      le-leb _ _ (c .before .before .before .before .before .before .if1 .left),
+      ← c .before .before .before .before .before .be16 .ensures,
+      ← c .before .before .before .before .from-u16 .ensures,
+      c .before .before .found .given .1,
+      every-code (c .before .before .before .before .before .before .before .before .args .version) (c .before .before .before .before .before .be16 .result) (c .before .before .found .given .0 .0) known,
+    ) (c .parse-error-pdu .ensures)
 
 returns-3 : tie.Need-returns-3
 unfolding readErrorReport readCode

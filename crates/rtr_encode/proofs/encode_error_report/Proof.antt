@@ -73,19 +73,19 @@ returns-3 c =
     let a = c .before .before .before .before .before .before .before .before .before .before .before .before .before .before .before .before .before .before .args in
     let i = part-is-true (inside (a .pdu .«erroneous_pdu») (now (a .input))) _ (c .before .before .before .before .before .before .before .before .before .before .before .before .before .before .before .erroneous-pdu-answer .ensures) (c .before .before .before .before .before .before .before .before .before .before .before .before .before .enum-told2 .given .1) in
     let j = part-is-true (inside (a .pdu .«error_text») (now (a .input))) _ (c .before .before .before .before .before .before .before .before .before .before .before .before .error-text-answer .ensures) (c .before .before .before .before .before .before .before .before .before .before .enum-told4 .given .1) in
-    let text = part-at _ (a .pdu .«error_text») (now (a .input)) _ (c .before .before .before .before .before .before .before .before .before .error-text-part .ensures) j in
-    let text₂ = part-at _ (a .pdu .«error_text») (now (a .input)) _ (c .before .before .before .before .error-text-part2 .ensures) j in
+    let text = part-at _ (a .pdu .«error_text») (now (a .input)) _ (c .before .before .before .before .before .before .before .before .before .error-text-part .ensures .0) j in
+    let text₂ = part-at _ (a .pdu .«error_text») (now (a .input)) _ (c .before .before .before .before .error-text-part2 .ensures .0) j in
     c .before .before .encode-report-parts .ensures
     ∙ report-encodes (a .pdu) (now (a .input)) (now (a .out)) _ _ _ i j
     (ap wellFormed (text₂ ∙ sym text) ∙ sym (c .before .before .before .before .before .before .before .before .is-well-formed .ensures) ∙ c .before .before .before .before .before .before .before .if1 .taken)
-    (c .before .before .before .before .before .before .to-u16 .ensures) (part-at _ (a .pdu .«erroneous_pdu») (now (a .input)) _ (c .before .before .before .before .before .erroneous-pdu-part .ensures) i) text₂
+    (c .before .before .before .before .before .before .to-u16 .ensures) (part-at _ (a .pdu .«erroneous_pdu») (now (a .input)) _ (c .before .before .before .before .before .erroneous-pdu-part .ensures .0) i) text₂
 
 returns-4 : tie.Need-returns-4
 returns-4 c =
     let a = c .before .before .before .before .before .before .before .before .before .before .before .args in
     let i = part-is-true (inside (a .pdu .«erroneous_pdu») (now (a .input))) _ (c .before .before .before .before .before .before .before .before .erroneous-pdu-answer .ensures) (c .before .before .before .before .before .before .enum-told2 .given .1) in
     let j = part-is-true (inside (a .pdu .«error_text») (now (a .input))) _ (c .before .before .before .before .before .error-text-answer .ensures) (c .before .before .before .enum-told4 .given .1) in
-    let text = part-at _ (a .pdu .«error_text») (now (a .input)) _ (c .before .before .error-text-part .ensures) j in
+    let text = part-at _ (a .pdu .«error_text») (now (a .input)) _ (c .before .before .error-text-part .ensures .0) j in
     text-refused crate (ErrorReport (a .pdu)) (now (a .input)) (now (a .out)) (simp (i, j))
     (ap wellFormed (sym text) ∙ sym (c .before .is-well-formed .ensures) ∙ c .if1 .left)
 

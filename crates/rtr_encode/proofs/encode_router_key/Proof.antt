@@ -55,7 +55,7 @@ subject-public-key-info-part-requires c κs = search needs
 encode-key-parts-requires : tie.Need-encode-key-parts-requires
 encode-key-parts-requires c κs =
     let a = c .before .before .before .before .before .before .before .before .before .before .before .args in
-    key-inside-20 (a .pdu .«subject_key_identifier») (now (a .input)) _ (c .before .before .subject-key-identifier-part .ensures) (part-is-true (keyInside (a .pdu .«subject_key_identifier») (now (a .input))) _ (c .before .before .before .before .before .before .before .before .subject-key-identifier-answer .ensures) (c .before .before .before .before .before .before .enum-told2 .given .1))
+    key-inside-20 (a .pdu .«subject_key_identifier») (now (a .input)) _ (c .before .before .subject-key-identifier-part .ensures .0) (part-is-true (keyInside (a .pdu .«subject_key_identifier») (now (a .input))) _ (c .before .before .before .before .before .before .before .before .subject-key-identifier-answer .ensures) (c .before .before .before .before .before .before .enum-told2 .given .1))
 
 same-length : tie.Need-same-length
 same-length c = search needs
@@ -66,7 +66,7 @@ returns-3 c =
     let k = part-is-true (keyInside (a .pdu .«subject_key_identifier») (now (a .input))) _ (c .before .before .before .before .before .before .before .before .before .before .before .subject-key-identifier-answer .ensures) (c .before .before .before .before .before .before .before .before .before .enum-told2 .given .1) in
     let i = part-is-true (inside (a .pdu .«subject_public_key_info») (now (a .input))) _ (c .before .before .before .before .before .before .before .before .subject-public-key-info-answer .ensures) (c .before .before .before .before .before .before .enum-told4 .given .1) in
     c .before .before .encode-key-parts .ensures
-    ∙ key-encodes (a .pdu) (now (a .input)) (now (a .out)) _ _ k i (part-at _ (a .pdu .«subject_key_identifier») (now (a .input)) _ (c .before .before .before .before .before .subject-key-identifier-part .ensures) k) (part-at _ (a .pdu .«subject_public_key_info») (now (a .input)) _ (c .before .before .before .before .subject-public-key-info-part .ensures) i)
+    ∙ key-encodes (a .pdu) (now (a .input)) (now (a .out)) _ _ k i (part-at _ (a .pdu .«subject_key_identifier») (now (a .input)) _ (c .before .before .before .before .before .subject-key-identifier-part .ensures .0) k) (part-at _ (a .pdu .«subject_public_key_info») (now (a .input)) _ (c .before .before .before .before .subject-public-key-info-part .ensures .0) i)
 
 pub encode-router-key-spec : {M : Type 1} → statement M
 encode-router-key-spec =

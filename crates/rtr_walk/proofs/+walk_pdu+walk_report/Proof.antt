@@ -73,7 +73,7 @@ walk-pdu-pdu-type-requires t c κs = search needs
 
 walk-pdu-returns : (t : ℕ) → walk-pdu-lts.Need-returns (walk-pdu-calls t) (walk-pdu-at t) walk-pdu.Post
 walk-pdu-returns t c =
-    c .walk-report .ensures ∙ sym (from-inside crate _ _ _ _ _ (simp (c .before .before .before .pdu .given .1, c .before .erroneous-pdu-part .ensures)))
+    c .walk-report .ensures ∙ sym (from-inside crate _ _ _ _ _ (simp (c .before .before .before .pdu .given .1, c .before .erroneous-pdu-part .ensures .0)))
 
 walk-pdu-returns-2 : (t : ℕ) → walk-pdu-lts.Need-returns-2 (walk-pdu-calls t) (walk-pdu-at t) walk-pdu.Post
 walk-pdu-returns-2 t c = rw (c .pdu-type .ensures) (sym (from-end crate _ _ _ _ _ (other-ends (c .before .before .before .args .pdu) _ (c .before .match .keys2))))
