@@ -1,16 +1,15 @@
 -- Bytes behind a PDU do not change what is read of it. A number that lies in s is the same in s ++ t, so each check goes the same way;
 -- where a check passes, what it tested says that the fields behind it lie in s too. Over every reading. Assumes nothing.
-use Prim.Native.Nat.{ℕ, zero, suc, _≤_, _<_, _+_, _*_}
+use Prim.Native.Nat.{ℕ, zero, suc, _≤_, _+_}
 use mathlib.Core.Bool.{Bool, true, false}
 use mathlib.Core.List.{List, [], _∷_, _++_}
-use mathlib.Core.Path.{_≡_, refl, sym, ap, _∙_}
+use mathlib.Core.Path.{_≡_, refl, ap, _∙_}
 use native.Mathlib.Omega.{arith}
-use native.Mathlib.Numerals.{add-one}
-use borrow.Author.Tests.{eqb-true, leb-true, le-leb}
+use borrow.Author.Tests.{eqb-true, leb-true}
 use lib.Dec.{leb, eqb}
-use lib.ListN.{length, getD, take, drop, length-append, length-drop, List·getD-append}
+use lib.ListN.{length, getD, take, drop, length-drop, List·getD-append}
 use lib.Seq.{take-append-le, drop-append-le}
-use Rattle.rtr_models.specs.Codes.{versionFound, typeFound, codeFound, typeNumber}
+use Rattle.rtr_models.specs.Codes.{typeFound, codeFound}
 use Rattle.rtr_models.specs.declared.RtrProtocolVersion.{RtrProtocolVersion}
 use Rattle.rtr_models.specs.declared.RtrProtocolVersion.the-variants.{V0, V1}
 use Rattle.rtr_models.specs.declared.RtrPduType.{RtrPduType}
@@ -19,12 +18,11 @@ use Rattle.rtr_models.specs.declared.RtrErrorCode.{RtrErrorCode}
 use Rattle.rtr_models.specs.declared.VersionFound.{VersionFound}
 use Rattle.rtr_models.specs.declared.TypeFound.{TypeFound}
 use Rattle.rtr_models.specs.declared.CodeFound.{CodeFound}
-use Rattle.rtr_text.specs.Utf8.{wellFormed}
 use Rattle.rtr_codec.specs.Bytes.{number}
 use Rattle.rtr_codec.specs.Reading.{Reading}
-use Rattle.rtr_codec.specs.Layout.{Field, widths, lengthOf, valuesFrom, valuesOf}
+use Rattle.rtr_codec.specs.Layout.{Field, widths, lengthOf, valuesFrom}
 use Rattle.rtr_codec.specs.Layout.Field.{ignored, total, value, payload}
-use Rattle.rtr_codec.specs.Read.{Verdict, need, headerLength, fixed, capped, ends, keyFields, readKey, readSerialNotify, readSerialQuery, readResetQuery, readCacheResponse, readIPv4Prefix, readIPv6Prefix, readEndOfData, readCacheReset, readRouterKey, readText, readEncapsulated, readCode, readErrorReport, readAs, readTyped, readVersioned}
+use Rattle.rtr_codec.specs.Read.{Verdict, need, headerLength, ends, keyFields, readKey, readSerialNotify, readSerialQuery, readResetQuery, readCacheResponse, readIPv4Prefix, readIPv6Prefix, readEndOfData, readCacheReset, readRouterKey, readText, readEncapsulated, readCode, readErrorReport, readAs, readTyped, readVersioned}
 
 -- a check that passes or fails for both alike
 same-check : (b : Bool) (k : ℕ) (values : List ℕ) (next next′ : Verdict) → (b ≡ true → next ≡ next′) → need b k values next ≡ need b k values next′

@@ -7,9 +7,9 @@ use mathlib.Core.List.{List}
 use mathlib.Core.Logic.{_⊎_, inl, inr}
 use mathlib.Core.Path.{_≡_, refl, sym, ap, _∙_}
 use native.Mathlib.Omega.{arith}
-use borrow.Author.Tests.{eq-eqb, le-leb, lt-leb, leb-true, leb-false, ltb-false, eqb-false, ne-eqb}
+use borrow.Author.Tests.{eq-eqb, le-leb, leb-true, leb-false, ltb-false, eqb-false, ne-eqb}
 use lib.Dec.{leb, ltb, eqb}
-use Rattle.rtr_models.specs.Codes.{versionFound, versionNumber, typeFound, typeNumber, codeFound, codeNumber}
+use Rattle.rtr_models.specs.Codes.{versionFound, versionNumber, typeFound, typeNumber, codeFound}
 use Rattle.rtr_models.specs.declared.RtrProtocolVersion.{RtrProtocolVersion}
 use Rattle.rtr_models.specs.declared.RtrProtocolVersion.the-variants.{V0, V1}
 use Rattle.rtr_models.specs.declared.RtrPduType.{RtrPduType}

@@ -3,7 +3,7 @@
 use Prim.Native.Nat.{ℕ, _≤_, _<_}
 use mathlib.Core.Bool.{Bool, true, false}
 use mathlib.Core.List.{List, [], _∷_, _++_}
-use mathlib.Core.Logic.{_⊎_, inl, inr}
+use mathlib.Core.Logic.{_⊎_, inr}
 use mathlib.Core.Path.{_≡_, refl, sym, ap, _∙_, subst}
 use native.Mathlib.Omega.{arith}
 use borrow.Author.Tests.{leb-true, leb-false, le-leb, lt-leb}
@@ -15,7 +15,7 @@ use Rattle.rtr_models.specs.declared.RtrPdu.{RtrPdu}
 use Rattle.rtr_codec.specs.Bytes.{number}
 use Rattle.rtr_codec.specs.Reading.{Reading, rfc, crate}
 use Rattle.rtr_codec.specs.Departures.{Departure, has, applies}
-use Rattle.rtr_codec.specs.Read.{Verdict, headerLength, readVersioned, read, needed}
+use Rattle.rtr_codec.specs.Read.{headerLength, readVersioned, read, needed}
 use Rattle.rtr_codec.specs.Read.Verdict.{accepted, refused}
 use Rattle.rtr_codec.proofs.Whole.{Whole, versioned-whole}
 use Rattle.rtr_codec.proofs.Behind.{number-behind, header-behind, versioned-behind}

@@ -1,6 +1,6 @@
 -- A run read by place: the slice from a place on is all that is behind it, and what was read there ends within the run. Assumes nothing.
 use Prim.Native.Nat.{ℕ, _+_, _-_, _≤_, _<_}
-use mathlib.Core.List.{List, [], _∷_}
+use mathlib.Core.List.{List, []}
 use mathlib.Core.Path.{_≡_, refl, sym, ap, _∙_}
 use native.Mathlib.Omega.{arith}
 use lib.ListN.{length, take, drop, length-drop, drop-of-length-le}
@@ -9,7 +9,7 @@ use Rattle.rtr_models.specs.declared.RtrPdu.{RtrPdu}
 use Rattle.rtr_codec.specs.Reading.{Reading}
 use Rattle.rtr_codec.specs.Read.{Verdict, read}
 use Rattle.rtr_codec.specs.Read.Verdict.{accepted}
-use Rattle.rtr_codec.specs.Run.{Step, placeAfter, readAt}
+use Rattle.rtr_codec.specs.Run.{placeAfter, readAt}
 use Rattle.rtr_codec.specs.Answers.{refusal}
 use Rattle.rtr_codec.specs.declared.RtrError.{RtrError}
 use Rattle.rtr_codec.specs.declared.RtrError.the-variants.{IncompletePdu, InvalidProtocolVersion, InvalidPduType, InvalidLength, RouterKeyInV0, InvalidPrefixLength, InvalidErrorCode, InvalidUtf8}

@@ -13,7 +13,7 @@ use Rattle.rtr_codec.specs.Bytes.{number}
 use Rattle.rtr_codec.specs.Reading.{rfc, crate}
 use Rattle.rtr_codec.specs.Departures.{applies}
 use Rattle.rtr_codec.specs.Departures.Departure.{codeEightInV0, bytesBehindText, keyByCrate}
-use Rattle.rtr_codec.specs.Read.{Verdict, headerLength, readRouterKey, readText, readEncapsulated, readCode, readErrorReport, readAs, readTyped, readVersioned, read}
+use Rattle.rtr_codec.specs.Read.{headerLength, readRouterKey, readText, readEncapsulated, readCode, readErrorReport, readAs, readTyped, readVersioned, read}
 use Rattle.rtr_codec.specs.Read.Verdict.{accepted, refused}
 
 -- a version 0 report of code 8, with nothing in it

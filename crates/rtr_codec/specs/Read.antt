@@ -1,7 +1,7 @@
 -- Reading one PDU from a slice: document 01, "Reading". The checks stand in its order, each with its refusal's number and values; what is
 -- read off the bytes is RFC 8210, sections 5.1 to 5.11, but for the switches of a `Reading`.
 use Prim.Native.Nat.{ℕ, _+_, _-_, _≤_, min}
-use mathlib.Core.Bool.{Bool, true, false, cond, not, _&&_, _||_}
+use mathlib.Core.Bool.{Bool, true, false, cond, _&&_, _||_}
 use mathlib.Core.List.{List, [], _∷_}
 use mathlib.Core.Path.{_≡_}
 use lib.ListN.{length, getD, take, drop}

@@ -2,15 +2,15 @@
 -- the bytes that the code puts together. Assumes nothing.
 use Prim.Native.Nat.{ℕ, _+_, _≤_, _<_}
 use mathlib.Core.Bool.{Bool, true, false, _&&_}
-use mathlib.Core.List.{List, [], _∷_, _++_, append-assoc, append-nil}
+use mathlib.Core.List.{List, [], _∷_, _++_}
 use mathlib.Core.Path.{_≡_, refl, sym, ap, _∙_}
 use native.Mathlib.Nat.{zero-add}
 use native.Mathlib.Omega.{arith}
-use borrow.Author.Tests.{le-leb, lt-leb, leb-true, eqb-true}
+use borrow.Author.Tests.{le-leb, lt-leb, eqb-true}
 use lib.Dec.{eqb}
-use lib.ListN.{length, take, drop, length-append}
+use lib.ListN.{length, drop, length-append}
 use Rattle.rtr_text.specs.Utf8.{wellFormed}
-use Rattle.rtr_models.specs.Codes.{versionNumber, codeNumber}
+use Rattle.rtr_models.specs.Codes.{codeNumber}
 use Rattle.rtr_models.specs.Parts.{inside, keyInside, partIf}
 use Rattle.rtr_models.specs.declared.RtrProtocolVersion.{RtrProtocolVersion}
 use Rattle.rtr_models.specs.declared.Place.{Place}
@@ -20,7 +20,7 @@ use Rattle.rtr_models.specs.declared.RtrPdu.{RtrPdu}
 use Rattle.rtr_models.specs.declared.RtrPdu.the-variants.{RouterKey, ErrorReport}
 use Rattle.rtr_codec.specs.Reading.{Reading, crate}
 use Rattle.rtr_encode.specs.Over.{over}
-use Rattle.rtr_encode.specs.Encode.{Writing, Encoded, bytesOf, at, placesInside, textIn, encodedLength, encoding, encodeSays, encode, keyBytes, reportBytes, lastChecks}
+use Rattle.rtr_encode.specs.Encode.{bytesOf, at, placesInside, textIn, encodedLength, encoding, encodeSays, encode, keyBytes, reportBytes, lastChecks}
 use Rattle.rtr_encode.specs.Encode.Writing.{written, refused}
 use Rattle.rtr_encode.proofs.Payloads.{length-bytes, part-long}
 

@@ -7,7 +7,7 @@ use lib.Dec.{leb}
 use lib.ListN.{length, drop}
 use Rattle.rtr_models.specs.declared.RtrPdu.{RtrPdu}
 use Rattle.rtr_codec.specs.Reading.{Reading}
-use Rattle.rtr_encode.specs.Encode.{Writing, Encoded, unless, placesInside, textIn, encodedLength, encoding, encodeSays, encode, outAfter}
+use Rattle.rtr_encode.specs.Encode.{Writing, unless, placesInside, textIn, encodedLength, encoding, encodeSays, encode, outAfter}
 use Rattle.rtr_encode.specs.Encode.Writing.{written, refused}
 
 -- a refusal writes nothing

@@ -8,7 +8,7 @@ use lib.Dec.{leb}
 use Rattle.rtr_text.specs.Utf8.{wellFormed}
 use Rattle.rtr_models.specs.Codes.{versionNumber, typeNumber, codeNumber}
 use Rattle.rtr_models.specs.Values.{secondsOr, typeOf, versionOf}
-use Rattle.rtr_models.specs.Parts.{inside, keyInside, partIf}
+use Rattle.rtr_models.specs.Parts.{inside, keyInside}
 use Rattle.rtr_models.specs.declared.RtrProtocolVersion.{RtrProtocolVersion}
 use Rattle.rtr_models.specs.declared.RtrProtocolVersion.the-variants.{V0, V1}
 use Rattle.rtr_models.specs.declared.RtrEndOfData.{RtrEndOfData}

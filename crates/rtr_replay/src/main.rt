@@ -1,5 +1,6 @@
-// Replays the oracle's stored answers: each line of answers.txt is a slice in hex, `-` for none, and what the Rust answers to it.
-// Ours must be the same text. It counts the lines and those that agree, and names the first that does not.
+// Replays the oracle's stored answers: each line of answers.txt is a slice in hex, `-` for none, and what the Rust reads in it; each
+// line of encodings.txt is a PDU and, behind ` => `, what the Rust encodes it as. Ours must be the same text. It counts each file's
+// lines and those that agree, and names the first that does not.
 use libc::STDOUT_FILENO;
 use rtr_answers::Written;
 use rtr_answers::lines;
@@ -77,7 +78,7 @@ fn is_same(out: &[u8], ours: Written, theirs: &[u8]) -> bool {
     }
 }
 
-fn agrees(out: &mut [u8], line: &[u8], bytes: &mut [u8]) -> bool {
+fn agrees_reading(out: &mut [u8], line: &[u8], bytes: &mut [u8]) -> bool {
     let gap = lines::find(line, 0, b' ');
     if gap >= line.len() {
         return false;
@@ -85,6 +86,33 @@ fn agrees(out: &mut [u8], line: &[u8], bytes: &mut [u8]) -> bool {
     let ours = write_ours(out, &line[0..gap], bytes);
     let answer = gap + 1;
     is_same(out, ours, &line[answer..])
+}
+
+// ` => ` stands around `sign`.
+fn agrees_encoding(out: &mut [u8], line: &[u8], sign: usize, bytes: &mut [u8]) -> bool {
+    if sign < 2 {
+        return false;
+    }
+    if sign >= line.len() {
+        return false;
+    }
+    if line.len() - sign < 2 {
+        return false;
+    }
+    let gap = sign - 2;
+    let answer = sign + 2;
+    let mut encoded = [0u8; 4096];
+    let ours = rtr_encodings::write_line_encoding(&line[0..gap], bytes, &mut encoded, out);
+    is_same(out, ours, &line[answer..])
+}
+
+// Only a line of encodings.txt has a `>`.
+fn agrees(out: &mut [u8], line: &[u8], bytes: &mut [u8]) -> bool {
+    let sign = lines::find(line, 0, b'>');
+    if sign < line.len() {
+        return agrees_encoding(out, line, sign, bytes);
+    }
+    agrees_reading(out, line, bytes)
 }
 
 fn replay_line(out: &mut [u8], line: &[u8], bytes: &mut [u8], tally: Tally) -> Tally {
@@ -169,16 +197,22 @@ fn report(tally: Tally) {
     }
 }
 
-fn main() {
-    let path = b"answers.txt";
+fn replay_file(path: &[u8], out: &mut [u8], text: &mut [u8], bytes: &mut [u8]) {
     let fd = os::open_read(path);
     if fd < 0 {
         os::fail(path);
         return;
     }
+    io::write_all(STDOUT_FILENO, path);
+    io::write_all(STDOUT_FILENO, b"\n");
+    report(replay(fd, out, text, bytes));
+    libc::close(fd);
+}
+
+fn main() {
     let mut out = [0u8; 16384];
     let mut text = [0u8; 65536];
     let mut bytes = [0u8; 4096];
-    report(replay(fd, &mut out, &mut text, &mut bytes));
-    libc::close(fd);
+    replay_file(b"answers.txt", &mut out, &mut text, &mut bytes);
+    replay_file(b"encodings.txt", &mut out, &mut text, &mut bytes);
 }

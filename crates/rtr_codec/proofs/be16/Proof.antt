@@ -1,12 +1,10 @@
+-- `be16` sums its two bytes as `number` does. Assumes nothing.
 use native.Mathlib.Nat.{add-zero}
 use native.Mathlib.Omega.{arith}
 use Rattle.rtr_codec.specs.Bytes.{number}
 use borrow.Author.Needs.{needs}
 use Rattle.rtr_codec.proofs.be16.Statement.{statement}
 use Rattle.rtr_codec.proofs.be16.Tie as tie
-use Rattle.rtr_codec.proofs.be16.Reads as reads
-use Rattle.rtr_codec.proofs.be16.Lts as lts
-use Rattle.rtr_codec.proofs.wide.Reads as wide-reads
 
 shared-slice-read-wide : tie.Need-shared-slice-read-wide
 shared-slice-read-wide c = search needs

@@ -6,7 +6,6 @@ use denote.Ref.{now}
 use Rattle.rtr_models.specs.declared.RtrPdu.the-variants.{CacheResponse}
 use Rattle.rtr_codec.specs.Reading.{crate}
 use Rattle.rtr_encode.specs.Encode.{bytesOf, encodedLength, encoding}
-use Rattle.rtr_encode.proofs.Overs.{next}
 use Rattle.rtr_encode.proofs.Written.{too-short, wrote}
 use borrow.Author.Needs.{needs}
 use Rattle.rtr_encode.proofs.encode_cache_response.Statement.{statement}

@@ -10,12 +10,6 @@ use Rattle.rtr_encode.proofs.Overs.{next}
 use borrow.Author.Needs.{needs}
 use Rattle.rtr_encode.proofs.put_header.Statement.{statement}
 use Rattle.rtr_encode.proofs.put_header.Tie as tie
-use Rattle.rtr_encode.proofs.put_header.Reads as reads
-use Rattle.rtr_encode.proofs.put_header.Lts as lts
-use Rattle.rtr_encode.proofs.put16.Reads as put16-reads
-use Rattle.rtr_encode.proofs.put32.Reads as put32-reads
-use Rattle.rtr_encode.proofs.put8.Reads as put8-reads
-use Rattle.rtr_models.proofs.RtrProtocolVersion.to_u8.Reads as to-u8-reads
 
 to-u8-requires : tie.Need-to-u8-requires
 to-u8-requires c κs = search needs

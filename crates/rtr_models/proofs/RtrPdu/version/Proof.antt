@@ -1,10 +1,9 @@
+-- `RtrPdu::version` goes by the kind, as `versionOf` does. Assumes nothing.
 use borrow.Author.Needs.{needs}
 use mathlib.Core.Path.{sym, ap}
 use Rattle.rtr_models.specs.Values.{versionOf}
 use Rattle.rtr_models.proofs.RtrPdu.version.Statement.{statement}
 use Rattle.rtr_models.proofs.RtrPdu.version.Tie as tie
-use Rattle.rtr_models.proofs.RtrPdu.version.Reads as reads
-use Rattle.rtr_models.proofs.RtrPdu.version.Lts as lts
 
 enum-known-self : tie.Need-enum-known-self
 enum-known-self c = search needs

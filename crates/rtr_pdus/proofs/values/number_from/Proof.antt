@@ -1,0 +1,63 @@
+-- `rtr_pdus::values::number_from` is safe and ends: the index stays within the digits, and the measure is what is left of them. Assumes nothing.
+use borrow.Author.Needs.{needs}
+use Prim.Native.Nat.{_≤_, _-_}
+use lib.ListN.{length}
+use Rattle.rtr_pdus.proofs.values.number_from.Statement.{statement}
+use Rattle.rtr_pdus.proofs.values.number_from.Tie as tie
+
+abbrev Inv-loop : tie.InvT-loop
+Inv-loop digits from most n₀ i₀ n i = i ≤ length digits
+
+abbrev μ-loop : tie.MeasureT-loop
+μ-loop digits from most n₀ i₀ n i = length digits - i
+
+returns : tie.Need-returns Inv-loop μ-loop
+returns c = search needs
+
+loop-holds : tie.Need-loop-holds Inv-loop μ-loop
+loop-holds c = search needs
+
+shared-slice-read-with-digit : tie.Need-shared-slice-read-with-digit Inv-loop μ-loop
+shared-slice-read-with-digit c = search needs
+
+with-digit-requires : tie.Need-with-digit-requires Inv-loop μ-loop
+with-digit-requires c κs = search needs
+
+enum-known-m : tie.Need-enum-known-m Inv-loop μ-loop
+enum-known-m c = search needs
+
+enum-told : tie.Need-enum-told Inv-loop μ-loop
+enum-told c = search needs
+
+returns-2 : tie.Need-returns-2 Inv-loop μ-loop
+returns-2 c = search needs
+
+add-i : tie.Need-add-i Inv-loop μ-loop
+add-i c = search needs
+
+loop-less : tie.Need-loop-less Inv-loop μ-loop
+loop-less c = search needs
+
+loop-again : tie.Need-loop-again Inv-loop μ-loop
+loop-again c = search needs
+
+returns-3 : tie.Need-returns-3 Inv-loop μ-loop
+returns-3 c = search needs
+
+pub number-from-spec : {M : Type 1} → statement M
+number-from-spec =
+    tie.close
+    (tie.spec
+    Inv-loop
+    μ-loop
+    returns
+    loop-holds
+    shared-slice-read-with-digit
+    with-digit-requires
+    enum-known-m
+    enum-told
+    returns-2
+    add-i
+    loop-less
+    loop-again
+    returns-3)
