@@ -1,5 +1,6 @@
--- `Laws`, `Unique` and `Samples` are for readers and other crates; the others are the argument.
+-- `Laws`, `RunLaws`, `Unique` and `Samples` are for readers and other crates; the others are the argument.
 pub mod Laws
+pub mod RunLaws
 pub mod Unique
 pub mod Samples
 mod Whole

@@ -10,26 +10,27 @@ use Rattle.rtr_models.specs.declared.RtrPdu.the-variants.{ResetQuery, ErrorRepo
 use Rattle.rtr_codec.specs.Reading.{crate}
 use Rattle.rtr_codec.specs.Read.{Verdict, read}
 use Rattle.rtr_codec.specs.Read.Verdict.{accepted, refused}
-use Rattle.rtr_encode.specs.Encode.{encoding}
+use Rattle.rtr_encode.specs.Encode.{Encoded, encode}
+use Rattle.rtr_encode.specs.Encode.Writing.{written}
 use Rattle.rtr_walk.specs.Walk.{WalkVerdict, walk}
 use Rattle.rtr_walk.specs.Walk.End.{plain}
 use Rattle.rtr_walk.specs.Walk.WalkVerdict.{walked}
 
--- an edge: what a slice reads as; what bytes the PDU read from it encodes to; how the walk of it ends
+-- an edge: what a slice reads as; what encoding the PDU read from it into an output says and leaves; how the walk of it ends
 pub data Edge : Type 0 where
   reads : List ℕ → Verdict → Edge
-  recodes : List ℕ → List ℕ → Edge
+  recodes : List ℕ → List ℕ → Encoded → Edge
   walks : List ℕ → WalkVerdict → Edge
 
--- the encoding of what a slice reads as; nothing where it is refused
-abbrev pub recoded : List ℕ → Verdict → List ℕ
-recoded s (accepted pdu n) = encoding crate pdu s
-recoded s (refused n values) = []
+-- a slice is read, and encoding what was read gives this
+abbrev pub Recodes : List ℕ → List ℕ → Encoded → Verdict → Type 0
+Recodes s out left (accepted pdu n) = encode crate pdu s out ≡ left
+Recodes s out left (refused n values) = ⊥
 
 -- what an edge says
 abbrev pub Holds : Edge → Type 0
 Holds (reads s v) = read crate s ≡ v
-Holds (recodes s bytes) = recoded s (read crate s) ≡ bytes
+Holds (recodes s out left) = Recodes s out left (read crate s)
 Holds (walks s v) = walk crate s ≡ v
 
 abbrev pub AllHold : List Edge → Type 0
@@ -67,6 +68,7 @@ edges =
       «error_text» = record { start = 16; len = 0 };
     }))
     17)
-    ∷ recodes byteBehind (0x01 ∷ 0x0a ∷ 0x00 ∷ 0x00 ∷ 0x00 ∷ 0x00 ∷ 0x00 ∷ 0x10 ∷ replicate 8 0)
+    ∷ recodes byteBehind (replicate 17 0xaa)
+    (record { says = written 16; out = 0x01 ∷ 0x0a ∷ 0x00 ∷ 0x00 ∷ 0x00 ∷ 0x00 ∷ 0x00 ∷ 0x10 ∷ replicate 8 0 ++ (0xaa ∷ []) })
     ∷ walks reportOfQuery (walked 1 (plain RtrPduType.ResetQuery))
     ∷ []

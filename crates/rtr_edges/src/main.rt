@@ -1,14 +1,17 @@
-// Document 01's edges that no theorem states, run: texts on either side of UTF-8's edges, nests of 15 to 17 reports, empty and full, what is
+// Document 01's edges that no theorem states, run: texts on either side of UTF-8's edges, nests of 15 to 18 reports, empty and full, what is
 // encoded, and payloads out of place. The file `stdout` has what must be printed.
 use libc::STDOUT_FILENO;
 use rtr_answers::put;
 use rtr_codec::ReadAnswer;
 use rtr_encode::EncodeAnswer;
 use rtr_encode::EncodeError;
+use rtr_models::Interval;
 use rtr_models::PartAnswer;
 use rtr_models::Place;
+use rtr_models::RtrEndOfData;
 use rtr_models::RtrErrorCode;
 use rtr_models::RtrErrorReport;
+use rtr_models::RtrIPv4Prefix;
 use rtr_models::RtrPdu;
 use rtr_models::RtrProtocolVersion;
 use rtr_models::RtrRouterKey;
@@ -46,12 +49,7 @@ fn put_walk(out: &mut [u8], at: usize, input: &[u8]) -> usize {
             let at = put::put_field(out, at, b"level=", level as u64);
             put_end(out, at, end)
         }
-        WalkAnswer::Refused(error) => put::put_field(
-            out,
-            at,
-            b"level 0 refused=",
-            error.number() as u64,
-        ),
+        WalkAnswer::Refused(error) => rtr_answers::refusal::put_refusal(out, at, error),
     }
 }
 
@@ -131,17 +129,17 @@ fn show_nest(label: &[u8], levels: usize, core: &[u8]) {
 fn put_encoded(out: &mut [u8], at: usize, answer: EncodeAnswer) -> usize {
     match answer {
         EncodeAnswer::Written(n) => put::put_field(out, at, b"written=", n as u64),
-        EncodeAnswer::Refused(error) => match error {
-            EncodeError::PlaceOutside => put::put_text(out, at, b"refused 11"),
-            EncodeError::InvalidUtf8 => put::put_text(out, at, b"refused 8"),
-            EncodeError::TooLong => put::put_text(out, at, b"refused 10"),
-            EncodeError::OutputShort { needed } => put::put_field(
-                out,
-                at,
-                b"refused 9 ",
-                needed as u64,
-            ),
-        },
+        EncodeAnswer::Refused(error) => {
+            let at = put::put_field(out, at, b"refused ", error.number() as u64);
+            put_needed(out, at, error)
+        }
+    }
+}
+
+fn put_needed(out: &mut [u8], at: usize, error: EncodeError) -> usize {
+    match error {
+        EncodeError::OutputShort { needed } => put::put_field(out, at, b" ", needed as u64),
+        _ => at,
     }
 }
 
@@ -150,7 +148,7 @@ fn put_all(out: &mut [u8], at: usize, bytes: &[u8; 64]) -> usize {
     put::put_hex(out, at, bytes)
 }
 
-// What encoding says of a PDU, and whether the byte after the last one written stays.
+// What encoding says of a PDU, and the whole buffer afterwards: `aa` is what stood there.
 fn show_encode(label: &[u8], pdu: RtrPdu, input: &[u8], room: usize) {
     let mut bytes = [0xaau8; 64];
     let mut out = [0u8; 512];
@@ -248,6 +246,11 @@ fn nests() {
         1,
         b"\x09\x02\x00\x00\x00\x00\x00\x08",
     );
+    show_nest(
+        b"1 report of a query and a byte",
+        1,
+        b"\x01\x02\x00\x00\x00\x00\x00\x08\x99",
+    );
     show_walk(b"no report", query);
     show_walk(b"nothing", none);
 }
@@ -331,10 +334,102 @@ fn encodings() {
     );
 }
 
+fn end_of_data(version: RtrProtocolVersion, refresh: Interval, expire: Interval) -> RtrPdu {
+    RtrPdu::EndOfData(RtrEndOfData {
+        version,
+        session_id: 4660,
+        serial_number: 7,
+        refresh_interval: refresh,
+        retry_interval: Interval::Absent,
+        expire_interval: expire,
+    })
+}
+
+fn ends_of_data() {
+    let none = b"";
+    let absent = Interval::Absent;
+    let one = Interval::Seconds(1);
+    show_encode(
+        b"end of data, defaults",
+        end_of_data(RtrProtocolVersion::V1, absent, absent),
+        none,
+        24,
+    );
+    show_encode(
+        b"end of data, one given",
+        end_of_data(RtrProtocolVersion::V1, one, absent),
+        none,
+        64,
+    );
+    show_encode(
+        b"end of data in v0",
+        end_of_data(RtrProtocolVersion::V0, one, one),
+        none,
+        12,
+    );
+    show_encode(
+        b"end of data, room 23",
+        end_of_data(RtrProtocolVersion::V1, one, one),
+        none,
+        23,
+    );
+    show_encode(b"prefix out of rule", prefix(255, 255, 3), none, 20);
+}
+
+fn prefix(flags: u8, prefix_length: u8, max_length: u8) -> RtrPdu {
+    RtrPdu::IPv4Prefix(RtrIPv4Prefix {
+        version: RtrProtocolVersion::V1,
+        flags,
+        prefix_length,
+        max_length,
+        prefix: 3221225985,
+        asn: 64496,
+    })
+}
+
+// Two Reset Queries in a row, read by place.
+fn show_run(label: &[u8], at: usize) {
+    let run = b"\x01\x02\x00\x00\x00\x00\x00\x08\x00\x02\x00\x00\x00\x00\x00\x08";
+    let mut out = [0u8; 512];
+    let read = rtr_codec::read_at(run, at);
+    let next = read.next;
+    let answer = read.answer;
+    let end = put::put_text(&mut out, 0, label);
+    let end = put_run(&mut out, end, answer, next);
+    flush(&out, end);
+}
+
+fn put_run(out: &mut [u8], at: usize, answer: ReadAnswer, next: usize) -> usize {
+    match answer {
+        ReadAnswer::Read(pdu, _) => {
+            let version = pdu.version();
+            let at = put::put_field(out, at, b": version=", version.to_u8() as u64);
+            put::put_field(out, at, b" next=", next as u64)
+        }
+        ReadAnswer::Refused(error) => {
+            let at = put::put_text(out, at, b": ");
+            let at = rtr_answers::refusal::put_refusal(out, at, error);
+            put::put_field(out, at, b" next=", next as u64)
+        }
+    }
+}
+
+fn runs() {
+    show_run(b"run at 0", 0);
+    show_run(b"run at 1", 1);
+    show_run(b"run at 8", 8);
+    show_run(b"run at 15", 15);
+    show_run(b"run at 16", 16);
+    show_run(b"run at 17", 17);
+    show_run(b"run at the largest place", 18446744073709551615);
+}
+
 fn main() {
     texts();
     nests();
     encodings();
+    ends_of_data();
+    runs();
     show_place(b"place (5, 0) of 5", 5, 0);
     show_place(b"place (6, 0) of 5", 6, 0);
     show_place(b"place (1, 4) of 5", 1, 4);

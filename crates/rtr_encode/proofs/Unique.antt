@@ -14,6 +14,7 @@ use Rattle.rtr_encode.specs.Answers.{writing, leaves}
 use Rattle.rtr_encode.specs.declared.EncodeError.the-variants.{PlaceOutside, InvalidUtf8, TooLong, OutputShort}
 use Rattle.rtr_encode.specs.declared.EncodeAnswer.{EncodeAnswer}
 use Rattle.rtr_encode.specs.declared.EncodeAnswer.the-variants.{Written, Refused}
+use Rattle.rtr_encode.proofs.EncodeError.number.Reads as encode-error-number
 use Rattle.rtr_encode.proofs.encode_serial_notify.Reads as encode-serial-notify
 use Rattle.rtr_encode.proofs.encode_serial_query.Reads as encode-serial-query
 use Rattle.rtr_encode.proofs.encode_reset_query.Reads as encode-reset-query
@@ -79,3 +80,6 @@ encode-error-report-unique κs a r r′ s s′ p q = one-leaving r r′ (now (s 
 
 pub encode-unique : (κs : _) (a : _) (r r′ : _) (s s′ : _) → encode.Post κs a r s → encode.Post κs a r′ s′ → (r ≡ r′) × (now (s .1 .1 .0) ≡ now (s′ .1 .1 .0))
 encode-unique κs a r r′ s s′ p q = one-leaving r r′ (now (s .1 .1 .0)) (now (s′ .1 .1 .0)) _ p q
+
+pub encode-error-number-unique : (κs : _) (a : _) (r r′ : _) (s s′ : _) → encode-error-number.Post κs a r s → encode-error-number.Post κs a r′ s′ → r ≡ r′
+encode-error-number-unique κs a r r′ s s′ p q = only-this r r′ _ p q

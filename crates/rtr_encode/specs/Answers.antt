@@ -21,3 +21,8 @@ writing (Refused error) = encodeRefusal error
 -- an answer and the output that it leaves
 abbrev pub leaves : EncodeAnswer → List ℕ → Encoded
 leaves answer out = record { says = writing answer; out = out }
+
+-- the number alone; 0 is no refusal
+abbrev pub numberOf : Writing → ℕ
+numberOf (written n) = 0
+numberOf (refused number values) = number

@@ -8,7 +8,7 @@ ghost use lib.ListN.{length, take, drop};
 ghost use Rattle.rtr_models.specs.Codes.{versionNumber};
 ghost use Rattle.rtr_codec.specs.Reading.{crate};
 ghost use Rattle.rtr_encode.specs.Encode.{bytesOf, encode, withVersion, endOfData, keyBytes, reportBytes, lastChecks};
-ghost use Rattle.rtr_encode.specs.Answers.{leaves};
+ghost use Rattle.rtr_encode.specs.Answers.{leaves, encodeRefusal, numberOf};
 ghost use Rattle.rtr_encode.specs.Over.{over};
 
 // Why nothing is written.
@@ -17,6 +17,20 @@ pub enum EncodeError {
     InvalidUtf8,
     TooLong,
     OutputShort { needed: usize },
+}
+
+impl EncodeError {
+    // Document 01's number of it.
+    pub fn number(self) -> u8
+        ensures { λ r. ⌜ r ≡ numberOf (encodeRefusal self) ⌝ }
+    {
+        match self {
+            EncodeError::PlaceOutside => 11,
+            EncodeError::InvalidUtf8 => 8,
+            EncodeError::TooLong => 10,
+            EncodeError::OutputShort { needed: _ } => 9,
+        }
+    }
 }
 
 // How many bytes were written, or why none were.

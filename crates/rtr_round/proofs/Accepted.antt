@@ -1,6 +1,6 @@
 -- What an accepted read says of the PDU that it gives: its version, type and values are the numbers at their places, what follows the fixed
--- fields is named where it stands, and its encoding is at most as long as the PDU read. `Found` says so; a check (`need`) keeps it, so each
--- kind follows from its last line. Assumes nothing.
+-- fields is named where it stands, its encoding is at most as long as the PDU read, its kind's rules hold, and it is its own reading back.
+-- `Found` says so; a check (`need`) keeps it, so each kind follows from its last line. Assumes nothing.
 use Prim.Native.Nat.{ℕ, _+_, _-_, _≤_}
 use mathlib.Core.Bool.{Bool, true, false, _&&_}
 use mathlib.Core.List.{List, [], _∷_, _++_}
@@ -29,8 +29,9 @@ use Rattle.rtr_codec.specs.Layout.{Field, lengthOf, valuesOf}
 use Rattle.rtr_codec.specs.Read.{Verdict, need, ends, codeIn, headerLength, keyFields, readKey, readSerialNotify, readSerialQuery, readResetQuery, readCacheResponse, readIPv4Prefix, readIPv6Prefix, readEndOfData, readCacheReset, readRouterKey, readText, readEncapsulated, readCode, readErrorReport, readAs, readTyped, readVersioned, read}
 use Rattle.rtr_codec.specs.Read.Verdict.{accepted, refused}
 use Rattle.rtr_encode.specs.Encode.{bytesOf, layoutOf, valuesIn, behind, behindLength, encodedLength, placesInside, textIn}
-use Rattle.rtr_round.specs.RoundTrip.{Bytes, nothingBehind}
+use Rattle.rtr_round.specs.RoundTrip.{Bytes, nothingBehind, kindInRule, keyStart, readBack}
 use Rattle.rtr_round.proofs.Bytes.{bytes-of-number, part-split}
+use Rattle.rtr_round.proofs.Inside.{both-true}
 
 pub record Found (R : Reading) (s : List ℕ) (pdu : RtrPdu) (n : ℕ) : Type 0 where
   pub version : versionNumber (versionOf pdu) ≡ number s 0 1
@@ -41,6 +42,8 @@ pub record Found (R : Reading) (s : List ℕ) (pdu : RtrPdu) (n : ℕ) : Type 0 
   pub last : (encodedLength R pdu ≡ n) ↔ nothingBehind pdu n
   pub places : placesInside pdu s ≡ true
   pub text : textIn pdu s ≡ true
+  pub kind : kindInRule R pdu
+  pub back : readBack R pdu ≡ pdu
 
 -- that, of a verdict that accepts
 abbrev FoundIn : Reading → List ℕ → Verdict → Type 0
@@ -58,6 +61,17 @@ key-place : (byCrate : Bool) (s : List ℕ) → getD (valuesOf (keyFields byCrat
 key-place true s = omega arith
 key-place false s = omega arith
 
+-- and stands where it is read back
+key-starts : (byCrate : Bool) (s : List ℕ) → getD (valuesOf (keyFields byCrate) s) 1 0 ≡ keyStart byCrate
+key-starts true s = refl
+key-starts false s = refl
+
+-- a prefix's lengths that pass check 6 are in order
+in-order : (x y z : ℕ) → (leb x y && leb y z) ≡ true → (x ≤ y) × (y ≤ z)
+in-order x y z e =
+    let both = both-true (leb x y) (leb y z) e in
+    (leb-true x y (both .0), leb-true y z (both .1))
+
 -- where a text ends in rule, it does not end behind the PDU
 ends-within : (b : Bool) (x h : ℕ) → ends b x h ≡ true → x ≤ h
 ends-within true x h e = leb-true x h e
@@ -71,9 +85,10 @@ module _ (R : Reading) (s : List ℕ) where
   -- a PDU of fixed fields alone, as long as they are
   exactly : (pdu : RtrPdu) → versionNumber (versionOf pdu) ≡ number s 0 1 → typeNumber (typeOf pdu) ≡ number s 1 1
       → valuesIn pdu ≡ valuesOf (layoutOf R pdu) s → behind pdu s ≡ [] → behindLength pdu ≡ 0 → nothingBehind pdu (headerLength s)
-      → placesInside pdu s ≡ true → textIn pdu s ≡ true → eqb (headerLength s) (lengthOf (layoutOf R pdu)) ≡ true → Found R s pdu (headerLength s)
+      → placesInside pdu s ≡ true → textIn pdu s ≡ true → kindInRule R pdu → readBack R pdu ≡ pdu → eqb (headerLength s) (lengthOf (layoutOf R pdu)) ≡ true
+      → Found R s pdu (headerLength s)
   unfolding encodedLength
-  exactly pdu pv pt vs none zero nothing places text e =
+  exactly pdu pv pt vs none zero nothing places text kind back e =
       let q : headerLength s ≡ lengthOf (layoutOf R pdu) = eqb-true (headerLength s) (lengthOf (layoutOf R pdu)) e in
       record {
         version = pv;
@@ -84,6 +99,8 @@ module _ (R : Reading) (s : List ℕ) where
         last = (λ _. nothing, λ _. omega arith);
         places = places;
         text = text;
+        kind = kind;
+        back = back;
       }
 
   module _ (bs : Bytes s) (large : 8 ≤ length s) (whole : headerLength s ≤ length s) where
@@ -105,6 +122,8 @@ module _ (R : Reading) (s : List ℕ) where
           last = (λ _. tt, λ _. omega arith);
           places = simp (le-leb _ _ key, le-leb _ _ info);
           text = refl;
+          kind = refl;
+          back = rw (key-starts (R .keyByCrate) s);
         })
 
     -- a report's copy and text, each behind its length, are the bytes behind the header
@@ -119,9 +138,9 @@ module _ (R : Reading) (s : List ℕ) where
         cc (part-split s 8 (8 + e) t, part-split s 8 (4 + e) 4, part-split s 8 4 e)
 
     text-found : (v : RtrProtocolVersion) (c : RtrErrorCode) (e t : ℕ) → versionNumber v ≡ number s 0 1 → typeNumber ErrorReport ≡ number s 1 1
-        → codeNumber c ≡ number s 2 2 → e ≡ number s 8 4 → t ≡ number s (12 + e) 4 → FoundIn R s (readText R v c e t s)
+        → codeNumber c ≡ number s 2 2 → codeIn (R .codeEightInV0) v (number s 2 2) ≡ true → e ≡ number s 8 4 → t ≡ number s (12 + e) 4 → FoundIn R s (readText R v c e t s)
     unfolding readText encodedLength
-    text-found v c e t pv pt pc p q =
+    text-found v c e t pv pt pc code p q =
         checked (ends (R .bytesBehindText) (16 + e + t) (headerLength s)) 4 _ _
         (λ x. checked (wellFormed (take t (drop (16 + e) s))) 8 _ _
         (λ y.
@@ -137,6 +156,8 @@ module _ (R : Reading) (s : List ℕ) where
           last = (λ z. omega arith, λ z. omega arith);
           places = simp (le-leb _ _ copy, le-leb _ _ text);
           text = y;
+          kind = rw pc code;
+          back = refl;
         }))
 
     code-found : (v : RtrProtocolVersion) (f : CodeFound) → codeFound (number s 2 2) ≡ f → versionNumber v ≡ number s 0 1
@@ -146,22 +167,22 @@ module _ (R : Reading) (s : List ℕ) where
     code-found v (CodeFound.Known c) q pv pt h =
         let e : ℕ = number s 8 4 in
         checked (codeIn (R .codeEightInV0) v (number s 2 2)) 7 _ _
-        (λ _. checked (leb (16 + e) (headerLength s)) 4 _ _
-        (λ _. text-found v c e (number s (12 + e) 4) pv pt (sym ((code-known (number s 2 2) c) .0 q)) refl refl))
+        (λ code. checked (leb (16 + e) (headerLength s)) 4 _ _
+        (λ _. text-found v c e (number s (12 + e) 4) pv pt (sym ((code-known (number s 2 2) c) .0 q)) code refl refl))
 
     as-found : (v : RtrProtocolVersion) (t : RtrPduType) → versionNumber v ≡ number s 0 1 → typeNumber t ≡ number s 1 1 → FoundIn R s (readAs R v t s)
     unfolding readAs readSerialNotify readSerialQuery readResetQuery readCacheResponse readIPv4Prefix readIPv6Prefix readEndOfData readCacheReset readRouterKey readErrorReport
-    as-found v SerialNotify pv pt = checked (eqb (headerLength s) 12) 4 _ _ (exactly _ pv pt refl refl refl tt refl refl)
-    as-found v SerialQuery pv pt = checked (eqb (headerLength s) 12) 4 _ _ (exactly _ pv pt refl refl refl tt refl refl)
-    as-found v ResetQuery pv pt = checked (eqb (headerLength s) 8) 4 _ _ (exactly _ pv pt refl refl refl tt refl refl)
-    as-found v CacheResponse pv pt = checked (eqb (headerLength s) 8) 4 _ _ (exactly _ pv pt refl refl refl tt refl refl)
+    as-found v SerialNotify pv pt = checked (eqb (headerLength s) 12) 4 _ _ (exactly _ pv pt refl refl refl tt refl refl tt refl)
+    as-found v SerialQuery pv pt = checked (eqb (headerLength s) 12) 4 _ _ (exactly _ pv pt refl refl refl tt refl refl tt refl)
+    as-found v ResetQuery pv pt = checked (eqb (headerLength s) 8) 4 _ _ (exactly _ pv pt refl refl refl tt refl refl tt refl)
+    as-found v CacheResponse pv pt = checked (eqb (headerLength s) 8) 4 _ _ (exactly _ pv pt refl refl refl tt refl refl tt refl)
     as-found v IPv4Prefix pv pt =
-        checked (eqb (headerLength s) 20) 4 _ _ (λ e. checked (leb (number s 9 1) (number s 10 1) && leb (number s 10 1) 32) 6 _ _ (λ _. exactly _ pv pt refl refl refl tt refl refl e))
+        checked (eqb (headerLength s) 20) 4 _ _ (λ e. checked (leb (number s 9 1) (number s 10 1) && leb (number s 10 1) 32) 6 _ _ (λ x. exactly _ pv pt refl refl refl tt refl refl (in-order (number s 9 1) (number s 10 1) 32 x) refl e))
     as-found v IPv6Prefix pv pt =
-        checked (eqb (headerLength s) 32) 4 _ _ (λ e. checked (leb (number s 9 1) (number s 10 1) && leb (number s 10 1) 128) 6 _ _ (λ _. exactly _ pv pt refl refl refl tt refl refl e))
-    as-found V0 EndOfData pv pt = checked (eqb (headerLength s) 12) 4 _ _ (exactly _ pv pt refl refl refl tt refl refl)
-    as-found V1 EndOfData pv pt = checked (eqb (headerLength s) 24) 4 _ _ (exactly _ pv pt refl refl refl tt refl refl)
-    as-found v CacheReset pv pt = checked (eqb (headerLength s) 8) 4 _ _ (exactly _ pv pt refl refl refl tt refl refl)
+        checked (eqb (headerLength s) 32) 4 _ _ (λ e. checked (leb (number s 9 1) (number s 10 1) && leb (number s 10 1) 128) 6 _ _ (λ x. exactly _ pv pt refl refl refl tt refl refl (in-order (number s 9 1) (number s 10 1) 128 x) refl e))
+    as-found V0 EndOfData pv pt = checked (eqb (headerLength s) 12) 4 _ _ (exactly _ pv pt refl refl refl tt refl refl tt refl)
+    as-found V1 EndOfData pv pt = checked (eqb (headerLength s) 24) 4 _ _ (exactly _ pv pt refl refl refl tt refl refl tt refl)
+    as-found v CacheReset pv pt = checked (eqb (headerLength s) 8) 4 _ _ (exactly _ pv pt refl refl refl tt refl refl tt refl)
     as-found V0 RouterKey pv pt = tt
     as-found V1 RouterKey pv pt = key-found pv pt
     as-found v ErrorReport pv pt =

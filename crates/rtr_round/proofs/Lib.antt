@@ -1,5 +1,8 @@
--- `RoundTrip` is for readers and other crates; the others are the argument.
+-- `RoundTrip`, `Payloads`, `Rule` and `Output` are for readers and other crates; the others are the argument.
 pub mod RoundTrip
+pub mod Payloads
+pub mod Rule
+pub mod Output
 mod Bytes
 mod Fields
 mod Inside

@@ -56,7 +56,7 @@ module _ (R : Reading) (pdu : RtrPdu) (s : List ℕ) (places : placesInside pdu 
   length-fixed : length (fixedBytes R pdu s) ≡ widths (layoutOf R pdu)
   length-fixed = length-fields s (layoutOf R pdu) (encodedLength R pdu) (valuesIn pdu) (payloads-inside R pdu s places)
 
-  length-encoding : length (encoding R pdu s) ≡ encodedLength R pdu
+  pub length-encoding : length (encoding R pdu s) ≡ encodedLength R pdu
   unfolding encoding encodedLength
   length-encoding = simp length-append (omega (arith, length-fixed, length-behind pdu s places))
 

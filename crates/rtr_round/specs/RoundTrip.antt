@@ -16,7 +16,7 @@ use Rattle.rtr_codec.specs.Reading.{Reading}
 use Rattle.rtr_codec.specs.Layout.{Field, lengthOf}
 use Rattle.rtr_codec.specs.Layout.Field.{ignored, total, value, payload}
 use Rattle.rtr_codec.specs.Read.{codeIn, keyFields}
-use Rattle.rtr_encode.specs.Encode.{layoutOf, valuesIn, encodedLength, placesInside, textIn}
+use Rattle.rtr_encode.specs.Encode.{layoutOf, valuesIn, encodedLength, placesInside, textIn, at}
 
 -- every element of a slice is a byte, as in any slice of the code
 abbrev pub Bytes : List ℕ → Type 0
@@ -124,3 +124,16 @@ readBack R (ErrorReport p) =
       «erroneous_pdu» = record { start = 12; len = p .«erroneous_pdu» .len };
       «error_text» = record { start = 16 + p .«erroneous_pdu» .len; len = p .«error_text» .len };
     })
+
+-- the payloads of a PDU, as they stand in s: a Router Key's identifier and info, an Error Report's copy and text
+abbrev pub payloadsOf : RtrPdu → List ℕ → List (List ℕ)
+payloadsOf (SerialNotify p) s = []
+payloadsOf (SerialQuery p) s = []
+payloadsOf (ResetQuery p) s = []
+payloadsOf (CacheResponse p) s = []
+payloadsOf (IPv4Prefix p) s = []
+payloadsOf (IPv6Prefix p) s = []
+payloadsOf (EndOfData p) s = []
+payloadsOf (CacheReset p) s = []
+payloadsOf (RouterKey p) s = at (p .«subject_key_identifier») s ∷ at (p .«subject_public_key_info») s ∷ []
+payloadsOf (ErrorReport p) s = at (p .«erroneous_pdu») s ∷ at (p .«error_text») s ∷ []

@@ -1,0 +1,46 @@
+-- What a written encoding leaves of the output: exactly its own bytes are written, those behind them stay, and the output is as long as it
+-- was. Assumes nothing.
+use Prim.Native.Nat.{ℕ, _≤_, _+_}
+use mathlib.Core.Bool.{Bool, true, false}
+use mathlib.Core.List.{List, [], _∷_, _++_}
+use mathlib.Core.Path.{_≡_, refl, ap, _∙_}
+use native.Mathlib.Omega.{arith}
+use borrow.Author.Tests.{leb-true}
+use lib.Dec.{leb}
+use lib.ListN.{length, drop, length-append, length-drop}
+use lib.Seq.{drop-at}
+use Rattle.rtr_models.specs.declared.RtrPdu.{RtrPdu}
+use Rattle.rtr_codec.specs.Reading.{Reading}
+use Rattle.rtr_encode.specs.Encode.{Writing, unless, placesInside, textIn, encodedLength, encoding, encodeSays, encode}
+use Rattle.rtr_encode.specs.Encode.Writing.{written}
+use Rattle.rtr_encode.proofs.Laws.{written-is-encoding, written-length}
+use Rattle.rtr_round.proofs.RoundTrip.{length-encoding}
+
+passed : (b : Bool) (k : ℕ) (values : List ℕ) (next : Writing) (n : ℕ) → unless b k values next ≡ written n → (b ≡ true) × (next ≡ written n)
+passed true k values next n e = (refl, e)
+passed false k values next n e = ((cc), (cc))
+
+module _ (R : Reading) (pdu : RtrPdu) (s out : List ℕ) (n : ℕ) (e : encode R pdu s out .says ≡ written n) where
+  -- every payload was inside, and there was room
+  written-passed : (placesInside pdu s ≡ true) × (encodedLength R pdu ≤ length out)
+  unfolding encode encodeSays
+  written-passed =
+      let a = passed (placesInside pdu s) 11 [] _ n e in
+      let b = passed (textIn pdu s) 8 [] _ n (a .1) in
+      let c = passed (leb (encodedLength R pdu) 4294967295) 10 [] _ n (b .1) in
+      let d = passed (leb (encodedLength R pdu) (length out)) 9 (encodedLength R pdu ∷ []) (written (encodedLength R pdu)) n (c .1) in
+      (a .0, leb-true (encodedLength R pdu) (length out) (d .0))
+
+  -- as many bytes are written as the encoding has
+  pub written-all : length (encoding R pdu s) ≡ n
+  written-all = length-encoding R pdu s (written-passed .0) ∙ (let m = written-length R pdu s out n e in cc)
+
+  -- the bytes behind them stay
+  pub written-keeps-rest : drop n (encode R pdu s out .out) ≡ drop n out
+  written-keeps-rest = ap (drop n) (written-is-encoding R pdu s out n e) ∙ drop-at (encoding R pdu s) (drop n out) n written-all
+
+  -- and the output is as long as it was
+  pub written-keeps-length : length (encode R pdu s out .out) ≡ length out
+  written-keeps-length =
+      let room : n ≤ length out = omega (arith, written-passed .1, written-length R pdu s out n e) in
+      ap length (written-is-encoding R pdu s out n e) ∙ simp (length-append, length-drop, written-all) (omega arith)

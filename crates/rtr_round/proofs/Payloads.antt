@@ -1,0 +1,105 @@
+-- Each payload of a PDU in rule is read back as the bytes that it was: what stands at its place in the encoding is what stood at its place
+-- in the slice. A key identifier stands among the fixed fields; a key's info, and a report's copy and text, stand behind them (`behind`),
+-- whose length is that of their picture. Assumes nothing.
+use Prim.Native.Nat.{ℕ, _+_, _≤_}
+use mathlib.Core.Bool.{Bool, true, false}
+use mathlib.Core.List.{List, [], _∷_, _++_, append-assoc}
+use mathlib.Core.Path.{_≡_, refl, ap, _∙_}
+use native.Mathlib.Omega.{arith}
+use borrow.Author.Tests.{leb-true, eqb-true}
+use lib.Dec.{eqb}
+use lib.ListN.{length, take, drop, length-append}
+use lib.Seq.{take-at, drop-at}
+use Rattle.rtr_models.specs.Parts.{inside, keyInside}
+use Rattle.rtr_models.specs.declared.Place.{Place}
+use Rattle.rtr_models.specs.declared.RtrRouterKey.{RtrRouterKey}
+use Rattle.rtr_models.specs.declared.RtrErrorReport.{RtrErrorReport}
+use Rattle.rtr_models.specs.Codes.{versionNumber, typeNumber}
+use Rattle.rtr_models.specs.Values.{typeOf, versionOf}
+use Rattle.rtr_models.specs.declared.RtrPdu.{RtrPdu}
+use Rattle.rtr_models.specs.declared.RtrPdu.the-variants.{SerialNotify, SerialQuery, ResetQuery, CacheResponse, IPv4Prefix, IPv6Prefix, EndOfData, CacheReset, RouterKey, ErrorReport}
+use Rattle.rtr_codec.specs.Reading.{Reading}
+use Rattle.rtr_codec.specs.Layout.{lengthOf}
+use Rattle.rtr_codec.specs.Read.{keyFields}
+use Rattle.rtr_encode.specs.Encode.{at, bytesOf, fieldBytes, layoutOf, valuesIn, encodedLength, encoding}
+use Rattle.rtr_round.specs.RoundTrip.{InRule, keyStart, readBack, payloadsOf}
+use Rattle.rtr_round.proofs.Bytes.{length-bytes, length-part}
+use Rattle.rtr_round.proofs.Fields.{length-fields}
+use Rattle.rtr_round.proofs.Inside.{both-true, payloads-inside}
+
+-- the w bytes x behind n others are what stands there
+part-at : (p x q : List ℕ) (n w : ℕ) → length p ≡ n → length x ≡ w → take w (drop n (p ++ (x ++ q))) ≡ x
+part-at p x q n w e f = ap (take w) (drop-at p (x ++ q) n e) ∙ take-at x q w f
+
+-- a key identifier stands at its byte, in either arrangement
+identifier-written : (byCrate : Bool) (v whole flags start asn : ℕ) (s q : List ℕ) → start + 20 ≤ length s
+    → take 20 (drop (keyStart byCrate) (v ∷ 9 ∷ (fieldBytes (keyFields byCrate) whole (flags ∷ start ∷ asn ∷ []) s ++ q))) ≡ take 20 (drop start s)
+unfolding bytesOf
+identifier-written true v whole flags start asn s q h =
+    let x : List ℕ = take 20 (drop start s) in
+    ap (take 20) (append-assoc x (bytesOf 4 asn) q) ∙ take-at x (bytesOf 4 asn ++ q) 20 (length-part s start 20 h)
+identifier-written false v whole flags start asn s q h =
+    let x : List ℕ = take 20 (drop start s) in
+    ap (take 20) (append-assoc x (bytesOf 4 asn) q) ∙ take-at x (bytesOf 4 asn ++ q) 20 (length-part s start 20 h)
+
+-- the bytes before what follows the fixed fields
+abbrev frontBytes : Reading → RtrPdu → List ℕ → List ℕ
+frontBytes R pdu s = versionNumber (versionOf pdu) ∷ typeNumber (typeOf pdu) ∷ fieldBytes (layoutOf R pdu) (encodedLength R pdu) (valuesIn pdu) s
+
+module _ (R : Reading) (s rest : List ℕ) where
+  length-front : (pdu : RtrPdu) → InRule R pdu s → length (frontBytes R pdu s) ≡ lengthOf (layoutOf R pdu)
+  length-front pdu rule = omega (arith, length-fields s (layoutOf R pdu) (encodedLength R pdu) (valuesIn pdu) (payloads-inside R pdu s (rule .places)))
+
+  key-payloads-back : (p : RtrRouterKey) → InRule R (RouterKey p) s
+      → payloadsOf (readBack R (RouterKey p)) (encoding R (RouterKey p) s ++ rest) ≡ payloadsOf (RouterKey p) s
+  unfolding encoding
+  key-payloads-back p rule =
+      let k : Place = p .«subject_key_identifier» in
+      let i : Place = p .«subject_public_key_info» in
+      let front : List ℕ = frontBytes R (RouterKey p) s in
+      let outer = both-true (keyInside k s) (inside i s) (rule .places) in
+      let inner = both-true (eqb (k .len) 20) (inside k s) (outer .0) in
+      let twenty : k .len ≡ 20 = eqb-true (k .len) 20 (inner .0) in
+      let room : k .start + 20 ≤ length s = omega (arith, leb-true (k .start + k .len) (length s) (inner .1)) in
+      let joined : encoding R (RouterKey p) s ++ rest ≡ front ++ (at i s ++ rest) = append-assoc front (at i s) rest in
+      let first : take 20 (drop (keyStart (R .keyByCrate)) (front ++ (at i s ++ rest))) ≡ take 20 (drop (k .start) s) =
+      identifier-written (R .keyByCrate) (versionNumber (p .version)) (encodedLength R (RouterKey p)) (p .flags) (k .start) (p .asn) s (at i s ++ rest) room in
+      let second : take (i .len) (drop (lengthOf (keyFields (R .keyByCrate))) (front ++ (at i s ++ rest))) ≡ at i s =
+      part-at front (at i s) rest (lengthOf (keyFields (R .keyByCrate))) (i .len) (length-front (RouterKey p) rule)
+      (length-part s (i .start) (i .len) (leb-true (i .start + i .len) (length s) (outer .1))) in
+      cc
+
+  report-payloads-back : (p : RtrErrorReport) → InRule R (ErrorReport p) s
+      → payloadsOf (readBack R (ErrorReport p)) (encoding R (ErrorReport p) s ++ rest) ≡ payloadsOf (ErrorReport p) s
+  unfolding encoding
+  report-payloads-back p rule =
+      let c : Place = p .«erroneous_pdu» in
+      let x : Place = p .«error_text» in
+      let n : ℕ = c .len in
+      let m : ℕ = x .len in
+      let front : List ℕ = frontBytes R (ErrorReport p) s in
+      let inside = both-true (inside c s) (inside x s) (rule .places) in
+      let long : length (at c s) ≡ n = length-part s (c .start) n (leb-true _ _ (inside .0)) in
+      let long′ : length (at x s) ≡ m = length-part s (x .start) m (leb-true _ _ (inside .1)) in
+      let eight : length front ≡ 8 = length-front (ErrorReport p) rule in
+      let joined : encoding R (ErrorReport p) s ++ rest ≡ front ++ bytesOf 4 n ++ (at c s ++ (bytesOf 4 m ++ at x s ++ rest)) = simp append-assoc in
+      let joined′ : encoding R (ErrorReport p) s ++ rest ≡ front ++ bytesOf 4 n ++ at c s ++ bytesOf 4 m ++ (at x s ++ rest) = simp append-assoc in
+      let copy = part-at (front ++ bytesOf 4 n) (at c s) (bytesOf 4 m ++ at x s ++ rest) 12 n (length-append front (bytesOf 4 n) ∙ omega (arith, length-bytes 4 n)) long in
+      let text = part-at (front ++ bytesOf 4 n ++ at c s ++ bytesOf 4 m) (at x s) rest (16 + n) m
+      (length-append (front ++ bytesOf 4 n ++ at c s) (bytesOf 4 m)
+      ∙ omega (arith, length-bytes 4 m, length-append (front ++ bytesOf 4 n) (at c s), length-append front (bytesOf 4 n), length-bytes 4 n)) long′ in
+      cc
+
+-- each payload of a PDU in rule is, at its place in the encoding, the bytes that it was in s, whatever follows the encoding
+pub payloads-back : (R : Reading) (pdu : RtrPdu) (s rest : List ℕ) → InRule R pdu s
+    → payloadsOf (readBack R pdu) (encoding R pdu s ++ rest) ≡ payloadsOf pdu s
+payloads-back R (SerialNotify p) s rest rule = refl
+payloads-back R (SerialQuery p) s rest rule = refl
+payloads-back R (ResetQuery p) s rest rule = refl
+payloads-back R (CacheResponse p) s rest rule = refl
+payloads-back R (IPv4Prefix p) s rest rule = refl
+payloads-back R (IPv6Prefix p) s rest rule = refl
+payloads-back R (EndOfData p) s rest rule = refl
+payloads-back R (CacheReset p) s rest rule = refl
+payloads-back R (RouterKey p) s rest rule = key-payloads-back R s rest p rule
+payloads-back R (ErrorReport p) s rest rule = report-payloads-back R s rest p rule
