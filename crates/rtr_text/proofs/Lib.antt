@@ -1,6 +1,7 @@
--- `Laws` and `Unique` are for readers and other crates. `Rows`, `Steps` and `Sequences` are lemmas on plain lists, for them and for the proofs.
+-- `Laws` and `Unique` are for readers and other crates. `Rows`, `Steps`, `Sequences` and `Words` are lemmas on plain lists, for them and for the proofs.
 mod Rows
 mod Sequences
 mod Steps
+mod Words
 pub mod Laws
 pub mod Unique

@@ -2,8 +2,8 @@
 // Empty text and NUL pass. No public call has a condition; nothing is written.
 ghost use mathlib.Core.Path.{_≡_};
 ghost use mathlib.Core.List.{[], _∷_};
-ghost use Prim.Native.Nat.{_<_};
-ghost use lib.ListN.{length, drop};
+ghost use Prim.Native.Nat.{ℕ, _+_, _*_, _^_, _≤_, _<_};
+ghost use lib.ListN.{length, drop, getD};
 ghost use Rattle.rtr_text.specs.Utf8.{_to_, rows, begins, character, wellFormedUpTo, wellFormed};
 
 // The length is tested here, so that no row has to.
@@ -75,16 +75,59 @@ fn character_at(text: &[u8], at: usize) -> usize
     0
 }
 
+// A byte on top of a word's lowest k bits.
+fn on_top(low: u64, byte: u8, k: u64) -> u64
+    requires { ⌜ k ≤ 56 ⌝ }
+    requires { ⌜ low < 2 ^ k ⌝ }
+    ensures { λ r. ⌜ r ≡ byte * 2 ^ k + low ⌝ }
+    ensures { λ r. ⌜ r < 2 ^ (8 + k) ⌝ }
+{
+    low | ((byte as u64) << k)
+}
+
+// So many of the next eight bytes are ASCII, from the first on. The eight are one word, and a byte is ASCII where its highest bit is not set.
+// Each byte is shifted to its own place: in this form the compiler loads the word at once. That no more are ASCII nobody has to know.
+fn ascii_run(text: &[u8], at: usize) -> usize
+    requires { ⌜ at + 8 ≤ length (now text) ⌝ }
+    ensures { λ r. ⌜ r ≤ 8 ⌝ }
+    ensures { λ r. ⌜ ((i : ℕ) → i < r → getD (now (text .entry)) (at + i) 0 < 0x80) ⌝ }
+{
+    let w1 = on_top(0, text[at], 0);
+    let w2 = on_top(w1, text[at + 1], 8);
+    let w3 = on_top(w2, text[at + 2], 16);
+    let w4 = on_top(w3, text[at + 3], 24);
+    let w5 = on_top(w4, text[at + 4], 32);
+    let w6 = on_top(w5, text[at + 5], 40);
+    let w7 = on_top(w6, text[at + 6], 48);
+    let w8 = on_top(w7, text[at + 7], 56);
+    let high = w8 & 0x8080808080808080;
+    let zeros = u64::trailing_zeros(high);
+    (zeros / 8) as usize
+}
+
+// ASCII goes by runs. Between runs it goes by characters, and on by them until one is ASCII: only there may a run begin.
 pub fn well_formed_up_to(text: &[u8]) -> usize
     ensures { λ r. ⌜ r ≡ wellFormedUpTo (now (text .entry)) ⌝ }
 {
     let mut at = 0;
     while at < text.len() {
-        let n = character_at(text, at);
-        if n == 0 {
-            return at;
+        if 8 <= text.len() - at {
+            let k = ascii_run(text, at);
+            at += k;
+            if k == 8 {
+                continue;
+            }
         }
-        at += n;
+        while at < text.len() {
+            let n = character_at(text, at);
+            if n == 0 {
+                return at;
+            }
+            at += n;
+            if n == 1 {
+                break;
+            }
+        }
     }
     at
 }
