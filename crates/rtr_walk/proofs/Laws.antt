@@ -1,6 +1,6 @@
 -- What the walk says, over every `Reading`. A PDU stops the walk, holds bytes that are refused, or holds a deeper PDU; each law goes by
 -- these three, and by the levels left. Assumes nothing.
-use Prim.Native.Nat.{ℕ, zero, suc, _+_, _≤_}
+use Prim.Native.Nat.{ℕ, zero, suc, _+_, _-_, _≤_}
 use mathlib.Core.List.{List, [], _∷_}
 use mathlib.Core.Logic.{_↔_}
 use mathlib.Core.Path.{_≡_, refl, sym, _∙_, subst}
@@ -10,7 +10,7 @@ use Rattle.rtr_models.specs.declared.RtrPdu.{RtrPdu}
 use Rattle.rtr_models.specs.declared.RtrPdu.the-variants.{SerialNotify, SerialQuery, ResetQuery, CacheResponse, IPv4Prefix, IPv6Prefix, EndOfData, CacheReset, RouterKey, ErrorReport}
 use Rattle.rtr_codec.specs.Reading.{Reading}
 use Rattle.rtr_codec.specs.Read.{Verdict, read}
-use Rattle.rtr_walk.specs.Walk.{End, Inner, inner, bytesInside, encapsulated, walkFrom, walk, readsFrom, AtLevel, HoldsAt}
+use Rattle.rtr_walk.specs.Walk.{End, Inner, inner, bytesInside, encapsulated, walkFrom, walk, readsFrom, AtLevel, HoldsAt, EndsAt}
 use Rattle.rtr_walk.specs.Walk.End.{plain, empty, refusedBy, tooDeep}
 use Rattle.rtr_walk.specs.Walk.Inner.{ends, holds}
 use Rattle.rtr_walk.specs.Walk.WalkVerdict.{walked, refused}
@@ -37,11 +37,15 @@ never-refused level end k values p = let z : _≡_ {A = ℕ} 0 1 = cc in omega a
 same-refusal : {k k′ : ℕ} {values values′ : List ℕ} → refused k values ≡ refused k′ values′ → Verdict.refused k values ≡ Verdict.refused k′ values′
 same-refusal p = cc
 
--- what a PDU means for the walk is never `tooDeep`, and holds bytes only of a report
+-- the levels left below level k
+left-of : (k : ℕ) → k ≤ 16 → (left : ℕ) × (left + k ≡ 16)
+left-of k h = (16 - k, omega (arith, h))
+
+-- what a PDU means for the walk is never a refusal or `tooDeep`, and holds bytes only of a report
 abbrev Means : RtrPdu → List ℕ → Inner → Type 0
 Means pdu s (ends (plain type)) = Unit
 Means pdu s (ends empty) = Unit
-Means pdu s (ends (refusedBy k)) = Unit
+Means pdu s (ends (refusedBy k)) = ⊥
 Means pdu s (ends tooDeep) = ⊥
 Means pdu s (holds bytes) = (report : RtrErrorReport) × (pdu ≡ ErrorReport report) × (encapsulated report s ≡ bytes)
 
@@ -139,17 +143,29 @@ module _ (R : Reading) where
       go (Verdict.accepted pdu n) e = (pdu, n, e, way 16 0 pdu s level end (sym (walk-read R s pdu n e) ∙ w))
       go (Verdict.refused k values) e = absurd (never-refused level end k values (sym w ∙ walk-unread R s k values e))
 
-  -- where a walk that goes too deep ends
-  reaches : {s : List ℕ} {left at : ℕ} {pdu : RtrPdu} {bytes : List ℕ} {level : ℕ} → Way R level tooDeep left at pdu bytes → AtLevel R s at pdu bytes → (level ≡ at + left) × HoldsAt R s level
-  reaches {pdu = pdu} {bytes} (stops same h) a = absurd (subst (Means pdu bytes) h (means pdu bytes))
-  reaches {s} {pdu = pdu} {bytes} (deep {bytes = inside} same e h) a = (omega arith, rw same (pdu, bytes, inside, a, h))
-  reaches (unread {k = k} same e h f) a = let z : _≡_ {A = ℕ} 0 1 = cc in absurd (omega arith)
-  reaches (deeper h f rest) a = let r : _ = reaches rest (next a h f) in (omega (arith, r .0), r .1)
+  -- where a walk ends
+  stopped : {s : List ℕ} {at : ℕ} {pdu : RtrPdu} {bytes : List ℕ} (end : End) → AtLevel R s at pdu bytes → at ≤ 16 → inner pdu bytes ≡ ends end → EndsAt R s at end
+  stopped {pdu = pdu} {bytes} (plain type) a e h = (e, (pdu, bytes, a, h))
+  stopped {pdu = pdu} {bytes} empty a e h = (e, (pdu, bytes, a, h))
+  stopped {pdu = pdu} {bytes} (refusedBy k) a e h = absurd (subst (Means pdu bytes) h (means pdu bytes))
+  stopped {pdu = pdu} {bytes} tooDeep a e h = absurd (subst (Means pdu bytes) h (means pdu bytes))
+
+  reaches : {s : List ℕ} {left at : ℕ} {pdu : RtrPdu} {bytes : List ℕ} {level : ℕ} {end : End} → Way R level end left at pdu bytes → AtLevel R s at pdu bytes → at + left ≡ 16 → EndsAt R s level end
+  reaches {end = end} (stops same h) a e = rw same (stopped end a (omega arith) h)
+  reaches {pdu = pdu} {bytes} (deep {bytes = inside} same f h) a e = rw (f, same) (omega arith, (pdu, bytes, inside, a, h))
+  reaches {pdu = pdu} {bytes} (unread {bytes = inside} {values} same f h g) a e = rw (f, same) (omega arith, (pdu, bytes, inside, values, a, h, g))
+  reaches (deeper h f rest) a e = reaches rest (next a h f) (omega arith)
 
   -- the walk is the walk from each of its levels
   walk-at : {s : List ℕ} {k : ℕ} {pdu : RtrPdu} {bytes : List ℕ} → AtLevel R s k pdu bytes → (left : ℕ) → left + k ≡ 16 → walk R s ≡ walkFrom R left k pdu bytes
   walk-at (first p) left e = let all : left ≡ 16 = omega arith in rw all (walk-read R _ _ _ p)
   walk-at (next {k} {pdu} {bytes = bytes} {inside} a h f) left e = walk-at a (suc left) (omega arith) ∙ from-deeper left k pdu bytes inside h f
+
+  returns : (s : List ℕ) (k : ℕ) (end : End) → EndsAt R s k end → walk R s ≡ walked k end
+  returns s k (plain type) h = let l : _ = left-of k (h .0) in walk-at (h .1 .2) (l .0) (l .1) ∙ from-end R (l .0) k _ _ (plain type) (h .1 .3)
+  returns s k empty h = let l : _ = left-of k (h .0) in walk-at (h .1 .2) (l .0) (l .1) ∙ from-end R (l .0) k _ _ empty (h .1 .3)
+  returns s k (refusedBy n) h = let l : _ = left-of (k + 1) (omega (arith, h .0)) in walk-at (h .1 .4) (suc (l .0)) (omega (arith, l .1)) ∙ from-unread (l .0) k _ _ _ (h .1 .5) (h .1 .6)
+  returns s k tooDeep h = rw (h .0) (walk-at (subst (λ n. AtLevel R s n (h .1 .0) (h .1 .1)) (h .0) (h .1 .3)) 0 refl ∙ from-deep 16 _ _ (h .1 .4))
 
 -- the level that a walk ends at is one less than the reads that succeed, one inside the other
 pub level-counts-reads : (R : Reading) (s : List ℕ) (level : ℕ) (end : End) → walk R s ≡ walked level end → level + 1 ≡ readsFrom R 17 s
@@ -159,13 +175,17 @@ level-counts-reads R s level end w = let f : _ = start R s level end w in omega 
 pub level-at-most-16 : (R : Reading) (s : List ℕ) (level : ℕ) (end : End) → walk R s ≡ walked level end → level ≤ 16
 level-at-most-16 R s level end w = omega (arith, within R (start R s level end w .3))
 
+-- a walk ends at a level in one of document 01's four ways exactly where that level of the slice is so
+pub walk-exactly : (R : Reading) (s : List ℕ) (level : ℕ) (end : End) → walk R s ≡ walked level end ↔ EndsAt R s level end
+walk-exactly R s level end = (λ w. let f : _ = start R s level end w in reaches R (f .3) (first (f .2)) refl, returns R s level end)
+
 -- a walk is too deep only at level 16
 pub too-deep-at-16 : (R : Reading) (s : List ℕ) (level : ℕ) → walk R s ≡ walked level tooDeep → level ≡ 16
-too-deep-at-16 R s level w = let f : _ = start R s level tooDeep w in omega (arith, reaches R (f .3) (first (f .2)) .0)
+too-deep-at-16 R s level w = walk-exactly R s level tooDeep .0 w .0
 
 -- it is too deep exactly where level 16 is a report with bytes inside
 pub too-deep-exactly : (R : Reading) (s : List ℕ) → walk R s ≡ walked 16 tooDeep ↔ HoldsAt R s 16
-too-deep-exactly R s = (λ w. let f : _ = start R s 16 tooDeep w in reaches R (f .3) (first (f .2)) .1, λ h. walk-at R (h .3) 0 refl ∙ from-deep R 16 _ _ (h .4))
+too-deep-exactly R s = (λ w. walk-exactly R s 16 tooDeep .0 w .1, λ h. walk-exactly R s 16 tooDeep .1 (refl, h))
 
 -- where a PDU holds bytes it is a report, and they are that part of the slice which the report names
 pub holds-is-report : (pdu : RtrPdu) (s inside : List ℕ) → inner pdu s ≡ holds inside → (report : RtrErrorReport) × (pdu ≡ ErrorReport report) × (encapsulated report s ≡ inside)

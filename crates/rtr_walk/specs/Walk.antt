@@ -1,5 +1,5 @@
 -- The nest walk: document 01, "Nest walk". Level 0 is the PDU read; level k + 1 is the read of level k's encapsulated bytes.
-use Prim.Native.Nat.{ℕ, zero, suc, _+_}
+use Prim.Native.Nat.{ℕ, zero, suc, _+_, _≤_, _<_}
 use mathlib.Core.List.{List, [], _∷_}
 use mathlib.Core.Path.{_≡_}
 use Rattle.rtr_models.specs.Parts.{inside, partIf}
@@ -122,3 +122,26 @@ pub data AtLevel (R : Reading) (s : List ℕ) : ℕ → RtrPdu → List ℕ → 
 -- level k of the slice is a report with bytes inside
 abbrev pub HoldsAt : Reading → List ℕ → ℕ → Type 0
 HoldsAt R s k = (pdu : RtrPdu) × (bytes : List ℕ) × (inside : List ℕ) × AtLevel R s k pdu bytes × (inner pdu bytes ≡ holds inside)
+
+-- level k of the slice stops the walk there
+abbrev pub StopsAt : Reading → List ℕ → ℕ → End → Type 0
+StopsAt R s k end = (pdu : RtrPdu) × (bytes : List ℕ) × AtLevel R s k pdu bytes × (inner pdu bytes ≡ ends end)
+
+-- level k of the slice is a report whose bytes are refused by a number
+abbrev pub RefusedAt : Reading → List ℕ → ℕ → ℕ → Type 0
+RefusedAt R s k number =
+    (pdu : RtrPdu)
+    × (bytes : List ℕ)
+    × (inside : List ℕ)
+    × (values : List ℕ)
+    × AtLevel R s k pdu bytes
+    × (inner pdu bytes ≡ holds inside)
+    × (read R inside ≡ Verdict.refused number values)
+
+-- document 01's four ends at level k: a PDU that is no report, a report with nothing inside, a report above level 16 whose bytes are refused,
+-- or a report at level 16 with bytes inside
+abbrev pub EndsAt : Reading → List ℕ → ℕ → End → Type 0
+EndsAt R s k (plain type) = (k ≤ deepest) × StopsAt R s k (plain type)
+EndsAt R s k empty = (k ≤ deepest) × StopsAt R s k empty
+EndsAt R s k (refusedBy number) = (k < deepest) × RefusedAt R s k number
+EndsAt R s k tooDeep = (k ≡ deepest) × HoldsAt R s k
