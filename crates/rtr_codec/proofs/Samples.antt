@@ -5,7 +5,7 @@ use mathlib.Core.Bool.{true, false}
 use mathlib.Core.List.{List, [], _∷_}
 use mathlib.Core.Path.{_≡_, refl}
 use lib.ListN.{drop}
-use Rattle.rtr_text.specs.Utf8.{wellFormed, wellFormedUpTo, characters}
+use Rattle.rtr_text.proofs.Laws.{empty-is-well-formed}
 use Rattle.rtr_models.specs.declared.RtrProtocolVersion.the-variants.{V0, V1}
 use Rattle.rtr_models.specs.declared.RtrErrorCode.the-variants.{CorruptData, UnexpectedProtocolVersion}
 use Rattle.rtr_models.specs.declared.RtrPdu.the-variants.{RouterKey, ErrorReport}
@@ -24,8 +24,8 @@ pub eight-in-crate : read crate reportOfEight
     ≡ accepted
     (ErrorReport (record { version = V0; «error_code» = UnexpectedProtocolVersion; «erroneous_pdu» = record { start = 12; len = 0 }; «error_text» = record { start = 16; len = 0 } }))
     16
-unfolding number wellFormed wellFormedUpTo characters headerLength readText readEncapsulated readCode readErrorReport readAs readTyped readVersioned read
-eight-in-crate = refl
+unfolding number headerLength readText readEncapsulated readCode readErrorReport readAs readTyped readVersioned read
+eight-in-crate = rw empty-is-well-formed refl
 
 pub eight-in-rfc : read rfc reportOfEight ≡ refused 7 (8 ∷ [])
 unfolding number headerLength readCode readErrorReport readAs readTyped readVersioned read
@@ -39,8 +39,8 @@ pub behind-in-crate : read crate byteBehind
     ≡ accepted
     (ErrorReport (record { version = V1; «error_code» = CorruptData; «erroneous_pdu» = record { start = 12; len = 0 }; «error_text» = record { start = 16; len = 0 } }))
     17
-unfolding number wellFormed wellFormedUpTo characters headerLength readText readEncapsulated readCode readErrorReport readAs readTyped readVersioned read
-behind-in-crate = refl
+unfolding number headerLength readText readEncapsulated readCode readErrorReport readAs readTyped readVersioned read
+behind-in-crate = rw empty-is-well-formed refl
 
 pub behind-in-rfc : read rfc byteBehind ≡ refused 4 (16 ∷ 17 ∷ 10 ∷ [])
 unfolding number headerLength readText readEncapsulated readCode readErrorReport readAs readTyped readVersioned read
