@@ -50,13 +50,18 @@ module _ (R : Reading) (s : List ℕ) where
   whole-verdict : 8 ≤ length s → headerLength s ≤ length s → Whole (headerLength s) (read R s)
   whole-verdict p q = rw (whole-read p q) (versioned-whole R (number s 0 1) (versionFound (number s 0 1)) s)
 
-needed-short : (s : List ℕ) → length s < 8 → needed s ≡ 8
+-- without a header 8 bytes are needed, with one as many as it names
+pub needed-short : (s : List ℕ) → length s < 8 → needed s ≡ 8
 unfolding needed
 needed-short s h = simp (lt-leb 8 (length s) h)
 
-needed-large : (s : List ℕ) → 8 ≤ length s → needed s ≡ headerLength s
+pub needed-large : (s : List ℕ) → 8 ≤ length s → needed s ≡ headerLength s
 unfolding needed
 needed-large s h = simp (le-leb 8 (length s) h)
+
+-- bytes behind a header leave the length that it names
+pub header-stays : (s t : List ℕ) → 8 ≤ length s → headerLength (s ++ t) ≡ headerLength s
+header-stays s t h = header-behind s t h
 
 -- where bytes are missing the answer is 1, with the bytes there and the bytes needed
 pub missing-is-one : (R : Reading) (s : List ℕ) → length s < needed s → read R s ≡ refused 1 (length s ∷ needed s ∷ [])

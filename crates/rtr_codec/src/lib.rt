@@ -7,7 +7,7 @@ ghost use Prim.Native.Nat.{_+_, _≤_, _<_, _^_};
 ghost use lib.ListN.{length};
 ghost use Rattle.rtr_codec.specs.Bytes.{number};
 ghost use Rattle.rtr_codec.specs.Reading.{crate};
-ghost use Rattle.rtr_codec.specs.Read.{read, headerLength, Framed, readSerialNotify, readSerialQuery, readResetQuery, readCacheResponse, readIPv4Prefix, readIPv6Prefix, readEndOfData, readCacheReset, readRouterKey, capped, readText, readEncapsulated, readErrorReport, readAs, readTyped};
+ghost use Rattle.rtr_codec.specs.Read.{read, needed, headerLength, Framed, readSerialNotify, readSerialQuery, readResetQuery, readCacheResponse, readIPv4Prefix, readIPv6Prefix, readEndOfData, readCacheReset, readRouterKey, capped, readText, readEncapsulated, readErrorReport, readAs, readTyped};
 ghost use Rattle.rtr_models.specs.Codes.{typeFound};
 ghost use Rattle.rtr_codec.specs.Answers.{verdict, refusal, numberOf};
 ghost use Rattle.rtr_codec.specs.Run.{readAt, runSaid};
@@ -530,6 +530,16 @@ pub fn parse_rtr_pdu(input: &[u8]) -> ReadAnswer
             version_byte,
         )),
     }
+}
+
+// How many bytes there must be before bytes are answered by anything but 1: the header's 8, then as many as it names.
+pub fn bytes_needed(input: &[u8]) -> u32
+    ensures { λ r. ⌜ r ≡ needed (now (input .entry)) ⌝ }
+{
+    if input.len() < RTR_HEADER_LEN {
+        return RTR_HEADER_LEN as u32;
+    }
+    be32(input, 4)
 }
 
 // ---- A run of PDUs, read by place

@@ -80,10 +80,6 @@ bytes-of-8 a b c p q r =
     cc
 
 -- a turn of the loop that copies, and its end
-pub copied-one-more : (d : List ℕ) (at : ℕ) (s : List ℕ) (j : ℕ) (cur : List ℕ) → cur ≡ paste d at s j → at + j < length d → j < length s
-    → set cur (at + j) (getD s j 0) ≡ paste d at s (j + 1)
-copied-one-more d at s j cur e p q = ap (λ (x : List ℕ). set x (at + j) (getD s j 0)) e ∙ paste-suc d at s j 0 p q ∙ ap (paste d at s) (sym (add-one j))
-
 pub copied-whole : (d : List ℕ) (at : ℕ) (s : List ℕ) (j : ℕ) (cur : List ℕ) → cur ≡ paste d at s j → j ≡ length s → cur ≡ over d at s
 unfolding over
 copied-whole d at s j cur e q =
