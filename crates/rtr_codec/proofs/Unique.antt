@@ -8,7 +8,7 @@ use lib.ListN.{getD}
 use Rattle.rtr_base.proofs.Unique.{only-one, only-this}
 use Rattle.rtr_codec.specs.Read.{Verdict}
 use Rattle.rtr_codec.specs.Read.Verdict.{accepted, refused}
-use Rattle.rtr_codec.specs.Answers.{verdict}
+use Rattle.rtr_codec.specs.Answers.{refusal, verdict}
 use Rattle.rtr_codec.specs.declared.RtrError.{RtrError}
 use Rattle.rtr_codec.specs.declared.RtrError.the-variants.{IncompletePdu, InvalidProtocolVersion, InvalidPduType, InvalidLength, RouterKeyInV0, InvalidPrefixLength, InvalidErrorCode, InvalidUtf8}
 use Rattle.rtr_codec.specs.declared.ReadAnswer.{ReadAnswer}
@@ -18,9 +18,10 @@ use Rattle.rtr_codec.specs.declared.RunRead.{RunRead}
 use Rattle.rtr_codec.proofs.parse_rtr_pdu.Reads as reads
 use Rattle.rtr_codec.proofs.read_at.Reads as read-at-reads
 use Rattle.rtr_codec.proofs.RtrError.number.Reads as number-reads
+use Rattle.rtr_codec.proofs.bytes_needed.Reads as bytes-needed-reads
 
 -- the error that has a number and values
-errorOf : ℕ → List ℕ → RtrError
+unfoldable pub errorOf : ℕ → List ℕ → RtrError
 errorOf k x =
     cond (eqb k 1) (IncompletePdu (getD x 0 0) (getD x 1 0))
     (cond (eqb k 2) (InvalidProtocolVersion (getD x 0 0))
@@ -30,28 +31,35 @@ errorOf k x =
     (cond (eqb k 6) (InvalidPrefixLength (getD x 0 0) (getD x 1 0) (getD x 2 0))
     (cond (eqb k 7) (InvalidErrorCode (getD x 0 0)) InvalidUtf8))))))
 
-answerOf : Verdict → ReadAnswer
+unfoldable pub answerOf : Verdict → ReadAnswer
 answerOf (accepted pdu n) = Read pdu n
 answerOf (refused k x) = Refused (errorOf k x)
 
--- number and values tell each answer apart
-verdict-back : (a : ReadAnswer) → answerOf (verdict a) ≡ a
+-- number and values tell each error apart
+pub error-back : (e : RtrError) → answerOf (refusal e) ≡ Refused e
 unfolding answerOf errorOf
+error-back (IncompletePdu a n) = refl
+error-back (InvalidPduType t) = refl
+error-back (InvalidProtocolVersion v) = refl
+error-back (InvalidErrorCode c) = refl
+error-back (InvalidLength e a t) = refl
+error-back (InvalidPrefixLength l m b) = refl
+error-back InvalidUtf8 = refl
+error-back RouterKeyInV0 = refl
+
+verdict-back : (a : ReadAnswer) → answerOf (verdict a) ≡ a
+unfolding answerOf
 verdict-back (Read pdu n) = refl
-verdict-back (Refused (IncompletePdu a n)) = refl
-verdict-back (Refused (InvalidPduType t)) = refl
-verdict-back (Refused (InvalidProtocolVersion v)) = refl
-verdict-back (Refused (InvalidErrorCode c)) = refl
-verdict-back (Refused (InvalidLength e a t)) = refl
-verdict-back (Refused (InvalidPrefixLength l m b)) = refl
-verdict-back (Refused InvalidUtf8) = refl
-verdict-back (Refused RouterKeyInV0) = refl
+verdict-back (Refused e) = error-back e
 
 pub parse-rtr-pdu-unique : (κs : _) (a : _) (r r′ : _) (s s′ : _) → reads.Post κs a r s → reads.Post κs a r′ s′ → r ≡ r′
 parse-rtr-pdu-unique κs a r r′ s s′ p q = only-one verdict answerOf verdict-back r r′ _ p q
 
 pub rtr-error-number-unique : (κs : _) (a : _) (r r′ : _) (s s′ : _) → number-reads.Post κs a r s → number-reads.Post κs a r′ s′ → r ≡ r′
 rtr-error-number-unique κs a r r′ s s′ p q = only-this r r′ _ p q
+
+pub bytes-needed-unique : (κs : _) (a : _) (r r′ : _) (s s′ : _) → bytes-needed-reads.Post κs a r s → bytes-needed-reads.Post κs a r′ s′ → r ≡ r′
+bytes-needed-unique κs a r r′ s s′ p q = only-this r r′ _ p q
 
 runOf : Step → RunRead
 runOf step = record { answer = answerOf (step .answer); next = step .next }

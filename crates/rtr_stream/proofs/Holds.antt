@@ -108,7 +108,7 @@ module _ (hold : List ℕ) (held n : ℕ) (stream : IsStream hold held) (name : 
           omega (arith, wants-more),
           omega (arith, wants-more),
           rw (j .1, e)
-          (sym
-          (search-judged
-          ∙ ap (λ (x : Heard). over (at + (n - held)) (take n hold′) x (searchHere hold′ n piece (at + (n - held)))) waiting)),
+              (sym
+              (search-judged
+              ∙ ap (λ (x : Heard). over (at + (n - held)) (take n hold′) x (searchHere hold′ n piece (at + (n - held)))) waiting)),
         )

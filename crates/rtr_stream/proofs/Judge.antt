@@ -10,9 +10,10 @@ use borrow.Author.Tests.{leb-true, leb-false, le-leb, lt-leb, ltb-true, ltb-fals
 use lib.Dec.{leb, ltb}
 use lib.ListN.{length, getD, take, length-append}
 use lib.Seq.{length-take-le}
+use Rattle.rtr_models.specs.declared.RtrPdu.{RtrPdu}
 use Rattle.rtr_codec.specs.Reading.{Reading, crate}
 use Rattle.rtr_codec.specs.Read.{Verdict, headerLength, read, needed}
-use Rattle.rtr_codec.proofs.Laws.{needed-short, needed-large, header-stays}
+use Rattle.rtr_codec.proofs.Laws.{needed-short, needed-large, header-stays, whole-is-not-one, read-consumes}
 use Rattle.rtr_stream.specs.Stream.{Heard, longest, passing, heardOf, lengthIn, judge}
 use Rattle.rtr_stream.specs.Stream.Heard.{waits, whole, refused}
 use Rattle.rtr_stream.specs.Search.{isWaits, isStream}
@@ -111,6 +112,103 @@ waits-waiting R H s = go (leb 8 (length s)) (leb 8 n) (leb n longest) (leb n H) 
         cut (leb-true 8 (length s) p)
         (record { least = leb-true 8 n q; most = leb-true n longest r; fits = leb-true n H t })
         (leb-false n (length s) u)
+
+-- a refusal is 4, 12 or a read's of bytes that are all there, so never 1
+pub refused-not-one : (R : Reading) (H : ℕ) (s : List ℕ) (number : ℕ) (values : List ℕ) → judge R H s ≡ refused number values → number ≡ 1 → ⊥
+unfolding judge
+refused-not-one R H s number values = go (leb 8 (length s)) (leb 8 n) (leb n longest) (leb n H) (leb n (length s)) refl refl
+  where
+    n : ℕ
+    n = headerLength s
+
+    unlike : (k : ℕ) (x : List ℕ) → (k ≡ 1 → ⊥) → refused k x ≡ refused number values → number ≡ 1 → ⊥
+    unlike k x f e one = f (let same : k ≡ number = cc in same ∙ one)
+
+    was-read : (v : Verdict) → heardOf v ≡ refused number values → v ≡ Verdict.refused number values
+    was-read (Verdict.accepted pdu m) e = absurd (let z : _≡_ {A = ℕ} 0 1 = cc in omega arith)
+    was-read (Verdict.refused k x) e = let p : k ≡ number = cc in let q : x ≡ values = cc in cc
+
+    go : (a b c d e : Bool) →
+        leb 8 (length s) ≡ a →
+        leb n (length s) ≡ e →
+        cond a
+        (passing b 4 (8 ∷ n ∷ getD s 1 0 ∷ []) (passing c 4 (longest ∷ n ∷ getD s 1 0 ∷ []) (passing d 12 (n ∷ []) (cond e (heardOf (read R s)) waits))))
+        waits
+        ≡ refused number values →
+        number ≡ 1 →
+        ⊥
+    go false b c d e p u w = absurd (not-refused _ _ (sym w))
+    go true false c d e p u w = unlike 4 _ (λ z. omega arith) w
+    go true true false d e p u w = unlike 4 _ (λ z. omega arith) w
+    go true true true false e p u w = unlike 12 _ (λ z. omega arith) w
+    go true true true true false p u w = absurd (not-refused _ _ (sym w))
+    go true true true true true p u w =
+        λ one. whole-is-not-one R s values (leb-true 8 (length s) p) (leb-true n (length s) u)
+        (was-read (read R s) w ∙ ap (λ (k : ℕ). Verdict.refused k values) one)
+
+-- bytes that are a PDU: a header in range, all that it names, and the read accepts them
+pub record WholePdu (R : Reading) (H : ℕ) (s : List ℕ) (pdu : RtrPdu) : Type 0 where
+  pub header : 8 ≤ length s
+  pub range : InRange H (headerLength s)
+  pub there : headerLength s ≤ length s
+  pub read-as : (n : ℕ) × (read R s ≡ Verdict.accepted pdu n)
+
+pub whole-pdu : (R : Reading) (H : ℕ) (s : List ℕ) (pdu : RtrPdu) → judge R H s ≡ whole pdu → WholePdu R H s pdu
+unfolding judge
+whole-pdu R H s pdu = go (leb 8 (length s)) (leb 8 n) (leb n longest) (leb n H) (leb n (length s)) refl refl refl refl refl
+  where
+    n : ℕ
+    n = headerLength s
+
+    unlike : (k : ℕ) (x : List ℕ) → refused k x ≡ whole pdu → ⊥
+    unlike k x e = let z : _≡_ {A = ℕ} 0 1 = cc in omega arith
+
+    early : waits ≡ whole pdu → ⊥
+    early e = let z : _≡_ {A = ℕ} 0 1 = cc in omega arith
+
+    was-read : (v : Verdict) → heardOf v ≡ whole pdu → (m : ℕ) × (v ≡ Verdict.accepted pdu m)
+    was-read (Verdict.accepted pdu′ m) e = (m, (let p : pdu′ ≡ pdu = cc in cc))
+    was-read (Verdict.refused k x) e = absurd (unlike k x e)
+
+    go : (a b c d e : Bool) →
+        leb 8 (length s) ≡ a →
+        leb 8 n ≡ b →
+        leb n longest ≡ c →
+        leb n H ≡ d →
+        leb n (length s) ≡ e →
+        cond a
+        (passing b 4 (8 ∷ n ∷ getD s 1 0 ∷ []) (passing c 4 (longest ∷ n ∷ getD s 1 0 ∷ []) (passing d 12 (n ∷ []) (cond e (heardOf (read R s)) waits))))
+        waits
+        ≡ whole pdu →
+        WholePdu R H s pdu
+    go false b c d e p q r t u w = absurd (early w)
+    go true false c d e p q r t u w = absurd (unlike _ _ w)
+    go true true false d e p q r t u w = absurd (unlike _ _ w)
+    go true true true false e p q r t u w = absurd (unlike _ _ w)
+    go true true true true false p q r t u w = absurd (early w)
+    go true true true true true p q r t u w =
+        record {
+          header = leb-true 8 (length s) p;
+          range = record { least = leb-true 8 n q; most = leb-true n longest r; fits = leb-true n H t };
+          there = leb-true n (length s) u;
+          read-as = was-read (read R s) w;
+        }
+
+-- a byte that makes a PDU of what waited is its last one
+pub whole-exactly : (R : Reading) (H : ℕ) (s : List ℕ) (b : ℕ) (pdu : RtrPdu) → judge R H s ≡ waits → judge R H (s ++ b ∷ []) ≡ whole pdu → read R (s ++ b ∷ []) ≡ Verdict.accepted pdu (length (s ++ b ∷ []))
+whole-exactly R H s b pdu w e =
+    go (whole-pdu R H (s ++ b ∷ []) pdu e) (waits-waiting R H s w)
+  where
+    go : WholePdu R H (s ++ b ∷ []) pdu → Waiting H s → read R (s ++ b ∷ []) ≡ Verdict.accepted pdu (length (s ++ b ∷ []))
+    go p waiting =
+        let took = read-consumes R (s ++ b ∷ []) pdu (p .read-as .0) (p .read-as .1) in
+        let long : length (s ++ b ∷ []) ≡ length s + 1 = length-append s (b ∷ []) in
+        let exact : p .read-as .0 ≡ length (s ++ b ∷ []) = last waiting took in
+        p .read-as .1 ∙ ap (Verdict.accepted pdu) exact
+      where
+        last : Waiting H s → (p .read-as .0 ≡ headerLength (s ++ b ∷ [])) × (8 ≤ p .read-as .0) × (p .read-as .0 ≤ length (s ++ b ∷ [])) → p .read-as .0 ≡ length (s ++ b ∷ [])
+        last (short h) t = omega (arith, length-append s (b ∷ []))
+        last (cut h i c) t = omega (arith, length-append s (b ∷ []), header-stays s (b ∷ []) h)
 
 -- what waits is short of what it needs
 pub waiting-lacks : {H : ℕ} {s : List ℕ} → Waiting H s → length s < needed s

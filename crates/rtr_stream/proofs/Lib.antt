@@ -1,4 +1,6 @@
 -- `Laws` and `Unique` are for readers and other crates; the others are the argument.
+pub mod Laws
+pub mod Unique
 mod Judge
 mod Runs
 mod Turns

@@ -25,8 +25,8 @@ returns : tie.Need-returns
 returns c =
     let a = c .before .before .before .before .before .before .args in (
       (λ piece at before go h.
-      found-in-hold (now (a .hold)) piece (a .whole) before at (a .next) go _ _ (omega arith) h
-      (heard-read _ _ _ _ (c .before .before .before .parse-rtr-pdu .ensures) (c .before .answer .given .1))),
+          found-in-hold (now (a .hold)) piece (a .whole) before at (a .next) go _ _ (omega arith) h
+          (heard-read _ _ _ _ (c .before .before .before .parse-rtr-pdu .ensures) (c .before .answer .given .1))),
       refl,
     )
 
@@ -34,8 +34,8 @@ returns-2 : tie.Need-returns-2
 returns-2 c =
     let a = c .before .before .before .before .before .before .args in (
       (λ piece at before go h.
-      refused-alike (now (a .hold)) piece _ before at (a .next) go (StreamError.Read (c .before .answer2 .given .0 .0)) _
-      (heard-refused _ _ _ (c .before .before .before .parse-rtr-pdu .ensures) (c .before .answer2 .given .1))),
+          refused-alike (now (a .hold)) piece _ before at (a .next) go (StreamError.Read (c .before .answer2 .given .0 .0)) _
+          (heard-refused _ _ _ (c .before .before .before .parse-rtr-pdu .ensures) (c .before .answer2 .given .1))),
       refl,
     )
 

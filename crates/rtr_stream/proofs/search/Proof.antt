@@ -60,8 +60,7 @@ loop-again c =
     let a = c .before .before .before .before .before .before .before .before .before .before .before .before .args in
     let l = c .before .before .before .before .before .before .loop in
     let t = c .before .before .before .before .one-turn .result in
-    let turned = subst (TurnedTo (l .hold) (l .held) (now (a .piece)) (l .next) (t .held) (t .next) (c .before .before .before .before .one-turn .last .0)) (c .enum-told .given .1) (c .before .before .before .before .one-turn .ensures) in
-    (
+    let turned = subst (TurnedTo (l .hold) (l .held) (now (a .piece)) (l .next) (t .held) (t .next) (c .before .before .before .before .one-turn .last .0)) (c .enum-told .given .1) (c .before .before .before .before .one-turn .ensures) in (
       turned .0,
       omega arith,
       turned .5 ∙ l .inv .2,

@@ -37,9 +37,9 @@ returns c =
     let n = c .before .before .before .before .before .before .bytes-needed .result in
     let t = c .read-hold .result in (
       judged hold 8 (t .then) (t .held) (t .next) _ _ (c .read-hold .ensures .0)
-      (header-whole hold n (c .before .before .before .before .before .before .before .before .before .pre) (c .before .before .before .before .before .before .bytes-needed .ensures)
-      (fits-of (length hold) n (getD hold 1 0) (c .before .before .before .before .test-length .result) (c .before .before .before .before .test-length .ensures) (c .before .before .enum-told .given .1))
-      (c .before .if1 .taken)),
+          (header-whole hold n (c .before .before .before .before .before .before .before .before .before .pre) (c .before .before .before .before .before .before .bytes-needed .ensures)
+          (fits-of (length hold) n (getD hold 1 0) (c .before .before .before .before .test-length .result) (c .before .before .before .before .test-length .ensures) (c .before .before .enum-told .given .1))
+          (c .before .if1 .taken)),
       c .read-hold .ensures .1,
     )
 
@@ -49,9 +49,9 @@ returns-2 c =
     let n = c .before .before .before .before .before .bytes-needed .result in
     let error = c .before .test .given .0 .0 in (
       (λ piece at before go h.
-      refused-alike hold piece (take 8 hold) before at _ go error _
-      (header-refused hold n (c .before .before .before .before .before .before .before .before .pre) (c .before .before .before .before .before .bytes-needed .ensures) (getD hold 1 0) _ refl
-      (refusal-of (length hold) n (getD hold 1 0) (c .before .before .before .test-length .result) error (c .before .before .before .test-length .ensures) (c .before .test .given .1)))),
+          refused-alike hold piece (take 8 hold) before at _ go error _
+          (header-refused hold n (c .before .before .before .before .before .before .before .before .pre) (c .before .before .before .before .before .bytes-needed .ensures) (getD hold 1 0) _ refl
+          (refusal-of (length hold) n (getD hold 1 0) (c .before .before .before .test-length .result) error (c .before .before .before .test-length .ensures) (c .before .test .given .1)))),
       refl,
     )
 

@@ -1,0 +1,223 @@
+-- The laws that higher crates cite of the stream, over every reading and every H. A piece is the fold of its bytes, so a cut anywhere changes nothing;
+-- what is held waits; and anything that goes by the bytes one by one goes by searches (`by-search`): that is the one lemma by which code
+-- that takes runs of bytes is code that takes bytes. Assumes nothing.
+use Prim.Native.Nat.{ℕ, zero, suc, _+_, _-_, _≤_, _<_}
+use mathlib.Core.Bool.{Bool, true, false}
+use mathlib.Core.List.{List, [], _∷_, _++_}
+use mathlib.Core.Path.{_≡_, refl, sym, ap, _∙_}
+use native.Mathlib.Omega.{arith}
+use lib.ListN.{length, take, drop, length-append}
+use Rattle.rtr_models.specs.declared.RtrPdu.{RtrPdu}
+use Rattle.rtr_codec.specs.Reading.{Reading, crate}
+use Rattle.rtr_codec.specs.Read.{Verdict, read, headerLength, needed}
+use Rattle.rtr_codec.proofs.Laws.{whole-is-not-one, read-consumes, needed-short, needed-large}
+use Rattle.rtr_stream.specs.Stream.{Heard, heardOf, judge, Found, State, Listened, fresh, after, onByteIn, onByte, onPiece, onPieces}
+use Rattle.rtr_stream.specs.Stream.Heard.{waits, whole, refused}
+use Rattle.rtr_stream.specs.Search.{End, Search, over, searchFrom, isStream}
+use Rattle.rtr_stream.proofs.Judge.{Waiting, IsStream, judge-short, waits-waiting, waiting-waits, is-stream, stream-is, refused-not-one, whole-exactly}
+use Rattle.rtr_stream.proofs.Judge.Waiting.{short, cut}
+
+-- pieces end to end
+abbrev pub joined : List (List ℕ) → List ℕ
+joined [] = []
+joined (piece ∷ pieces) = piece ++ joined pieces
+
+-- what a function of the bytes does at a byte, by what the bytes in hand come to
+abbrev pub byHeard : {A : Type 0} → (ℕ → List ℕ → List ℕ → A) → (ℕ → RtrPdu → List ℕ → List ℕ → A) → (ℕ → ℕ → List ℕ → List ℕ → A) → ℕ → List ℕ → List ℕ → Heard → A
+byHeard F G K at s rest waits = F at s rest
+byHeard F G K at s rest (whole pdu) = G at pdu s rest
+byHeard F G K at s rest (refused number values) = K at number values rest
+
+-- and what it does by a search's end
+abbrev pub byEnd : {A : Type 0} → (ℕ → List ℕ → List ℕ → A) → (ℕ → RtrPdu → List ℕ → List ℕ → A) → (ℕ → ℕ → List ℕ → List ℕ → A) → List ℕ → ℕ → ℕ → List ℕ → End → A
+byEnd F G K p at next held End.more = F next held []
+byEnd F G K p at next held (End.found pdu bytes) = G next pdu bytes (drop (next - at) p)
+byEnd F G K p at next held (End.stop number values) = K next number values (drop (next - at) p)
+
+module _ (R : Reading) (H : ℕ) where
+  -- ---- The fold
+
+  pub pieces-join : (s t : List ℕ) (l : Listened) → onPiece R H l (s ++ t) ≡ onPiece R H (onPiece R H l s) t
+  unfolding onPiece
+  pieces-join [] t l = refl
+  pieces-join (b ∷ s) t l = pieces-join s t (onByte R H l b)
+
+  pub pieces-are-bytes : (pieces : List (List ℕ)) (l : Listened) → onPieces R H l pieces ≡ onPiece R H l (joined pieces)
+  unfolding onPieces onPiece
+  pieces-are-bytes [] l = refl
+  pieces-are-bytes (piece ∷ pieces) l = pieces-are-bytes pieces (onPiece R H l piece) ∙ sym (pieces-join piece (joined pieces) l)
+
+  -- the same bytes cut elsewhere give the same PDUs in the same order, and leave the same bytes held
+  pub cut-anywhere : (l : Listened) (pieces pieces′ : List (List ℕ)) → joined pieces ≡ joined pieces′ → onPieces R H l pieces ≡ onPieces R H l pieces′
+  cut-anywhere l pieces pieces′ e = pieces-are-bytes pieces l ∙ ap (onPiece R H l) e ∙ sym (pieces-are-bytes pieces′ l)
+
+  -- ---- What is held never already makes a PDU or a refusal
+
+  pub nothing-waits : judge R H [] ≡ waits
+  nothing-waits = judge-short R H [] (omega arith)
+
+  abbrev pub HoldsWaiting : State → Type 0
+  HoldsWaiting (State.holding s) = judge R H s ≡ waits
+  HoldsWaiting (State.stopped number values) = Unit {0}
+
+  pub held-waits : (piece : List ℕ) (l : Listened) → HoldsWaiting (l .state) → HoldsWaiting (onPiece R H l piece .state)
+  unfolding onPiece onByte
+  held-waits [] l w = w
+  held-waits (b ∷ piece) l w = held-waits piece (onByte R H l b) (byte (l .state) w)
+    where
+      heard : (s : List ℕ) (h : Heard) → judge R H s ≡ h → HoldsWaiting (after (l .taken + 1) (l .pdus) s h .state)
+      heard s waits e = e
+      heard s (whole pdu) e = nothing-waits
+      heard s (refused number values) e = tt
+
+      byte : (t : State) → HoldsWaiting t → HoldsWaiting (onByteIn R H (l .taken) (l .pdus) t b .state)
+      byte (State.holding s) w = heard (s ++ b ∷ []) (judge R H (s ++ b ∷ [])) refl
+      byte (State.stopped number values) w = tt
+
+  pub fresh-waits : (piece : List ℕ) → HoldsWaiting (onPiece R H fresh piece .state)
+  fresh-waits piece = held-waits piece fresh nothing-waits
+
+  -- ---- Searches
+
+  -- a search goes forward, and no further than the piece
+  pub search-takes : (p : List ℕ) (at : ℕ) (s : List ℕ) → (at ≤ searchFrom R H at s p .next) × (searchFrom R H at s p .next ≤ at + length p)
+  unfolding searchFrom
+  search-takes [] at s = (omega arith, omega arith)
+  search-takes (b ∷ p) at s = go (judge R H (s ++ b ∷ [])) (search-takes p (at + 1) (s ++ b ∷ []))
+    where
+      go : (h : Heard) →
+          (at + 1 ≤ searchFrom R H (at + 1) (s ++ b ∷ []) p .next) × (searchFrom R H (at + 1) (s ++ b ∷ []) p .next ≤ at + 1 + length p) →
+          (at ≤ over (at + 1) (s ++ b ∷ []) h (searchFrom R H (at + 1) (s ++ b ∷ []) p) .next)
+          × (over (at + 1) (s ++ b ∷ []) h (searchFrom R H (at + 1) (s ++ b ∷ []) p) .next ≤ at + suc (length p))
+      go waits i = (omega arith, omega arith)
+      go (whole pdu) i = (omega arith, omega arith)
+      go (refused number values) i = (omega arith, omega arith)
+
+  -- what it leaves held waits
+  pub search-waits : (p : List ℕ) (at : ℕ) (s : List ℕ) → judge R H s ≡ waits → judge R H (searchFrom R H at s p .held) ≡ waits
+  unfolding searchFrom
+  search-waits [] at s w = w
+  search-waits (b ∷ p) at s w = go (search-waits p (at + 1) (s ++ b ∷ [])) (judge R H (s ++ b ∷ [])) refl
+    where
+      go : (judge R H (s ++ b ∷ []) ≡ waits → judge R H (searchFrom R H (at + 1) (s ++ b ∷ []) p .held) ≡ waits) →
+          (h : Heard) →
+          judge R H (s ++ b ∷ []) ≡ h →
+          judge R H (over (at + 1) (s ++ b ∷ []) h (searchFrom R H (at + 1) (s ++ b ∷ []) p) .held) ≡ waits
+      go later waits e = later e
+      go later (whole pdu) e = nothing-waits
+      go later (refused number values) e = nothing-waits
+
+  -- what waits fits a hold of 8 bytes or more
+  pub waits-fits : (s : List ℕ) → 8 ≤ H → judge R H s ≡ waits → length s ≤ H
+  waits-fits s h w = go (waits-waiting R H s w)
+    where
+      go : Waiting H s → length s ≤ H
+      go (short l) = omega arith
+      go (cut l i e) = omega (arith, i .fits)
+
+  -- a PDU that is found is what its bytes read as, all of them
+  pub found-is-read
+      : (p : List ℕ) (at : ℕ) (s : List ℕ) (pdu : RtrPdu) (bytes : List ℕ) →
+      judge R H s ≡ waits →
+      searchFrom R H at s p .end ≡ End.found pdu bytes →
+      read R bytes ≡ Verdict.accepted pdu (length bytes)
+  unfolding searchFrom
+  found-is-read [] at s pdu bytes w e = absurd (let z : _≡_ {A = ℕ} 0 1 = cc in omega arith)
+  found-is-read (b ∷ p) at s pdu bytes w e =
+      go (found-is-read p (at + 1) (s ++ b ∷ []) pdu bytes) (judge R H (s ++ b ∷ [])) refl e
+    where
+      go : (judge R H (s ++ b ∷ []) ≡ waits →
+          searchFrom R H (at + 1) (s ++ b ∷ []) p .end ≡ End.found pdu bytes →
+          read R bytes ≡ Verdict.accepted pdu (length bytes)) →
+          (h : Heard) →
+          judge R H (s ++ b ∷ []) ≡ h →
+          over (at + 1) (s ++ b ∷ []) h (searchFrom R H (at + 1) (s ++ b ∷ []) p) .end ≡ End.found pdu bytes →
+          read R bytes ≡ Verdict.accepted pdu (length bytes)
+      go later waits j e = later j e
+      go later (whole pdu′) j e =
+          let same : pdu′ ≡ pdu = cc in
+          let all : s ++ b ∷ [] ≡ bytes = cc in
+          ap (read R) (sym all) ∙ whole-exactly R H s b pdu′ w j ∙ ap (λ (x : RtrPdu). Verdict.accepted x (length (s ++ b ∷ []))) same
+          ∙ ap (λ (x : List ℕ). Verdict.accepted pdu (length x)) all
+      go later (refused number values) j e = absurd (let z : _≡_ {A = ℕ} 0 1 = cc in omega arith)
+
+  -- 1 is never a stop
+  pub never-one : (s : List ℕ) (number : ℕ) (values : List ℕ) → judge R H s ≡ refused number values → number ≡ 1 → ⊥
+  never-one s number values e one = refused-not-one R H s number values e one
+
+  module _ {A : Type 0} (F : ℕ → List ℕ → List ℕ → A) (G : ℕ → RtrPdu → List ℕ → List ℕ → A) (K : ℕ → ℕ → List ℕ → List ℕ → A) where
+    -- a function that goes by the bytes, each judged with those in hand, goes by searches
+    pub by-search
+        : ((at : ℕ) (s : List ℕ) (b : ℕ) (rest : List ℕ) → F at s (b ∷ rest) ≡ byHeard F G K (at + 1) (s ++ b ∷ []) rest (judge R H (s ++ b ∷ []))) →
+        (p : List ℕ) (at : ℕ) (s : List ℕ) →
+        F at s p ≡ byEnd F G K p at (searchFrom R H at s p .next) (searchFrom R H at s p .held) (searchFrom R H at s p .end)
+    unfolding searchFrom
+    by-search step [] at s = refl
+    by-search step (b ∷ p) at s =
+        step at s b p
+        ∙ go (judge R H (s ++ b ∷ []))
+        (by-search step p (at + 1) (s ++ b ∷ [])
+        ∙ shifted (searchFrom R H (at + 1) (s ++ b ∷ []) p .end) _ _ (search-takes p (at + 1) (s ++ b ∷ []) .0))
+      where
+        inner : Search
+        inner = searchFrom R H (at + 1) (s ++ b ∷ []) p
+
+        -- one byte further in, the rest is the same
+        further : (n : ℕ) → at + 1 ≤ n → drop (n - (at + 1)) p ≡ drop (n - at) (b ∷ p)
+        further n h = let one : n - at ≡ suc (n - (at + 1)) = omega arith in sym (ap (λ (k : ℕ). drop k (b ∷ p)) one)
+
+        rest : p ≡ drop (at + 1 - at) (b ∷ p)
+        rest = let one : at + 1 - at ≡ 1 = omega arith in sym (ap (λ (k : ℕ). drop k (b ∷ p)) one)
+
+        shifted : (e : End) (n : ℕ) (held : List ℕ) → at + 1 ≤ n → byEnd F G K p (at + 1) n held e ≡ byEnd F G K (b ∷ p) at n held e
+        shifted End.more n held h = refl
+        shifted (End.found pdu bytes) n held h = ap (G n pdu bytes) (further n h)
+        shifted (End.stop number values) n held h = ap (K n number values) (further n h)
+
+        ended : Heard → A
+        ended h = byEnd F G K (b ∷ p) at (over (at + 1) (s ++ b ∷ []) h inner .next) (over (at + 1) (s ++ b ∷ []) h inner .held) (over (at + 1) (s ++ b ∷ []) h inner .end)
+
+        go : (h : Heard) → F (at + 1) (s ++ b ∷ []) p ≡ ended waits → byHeard F G K (at + 1) (s ++ b ∷ []) p h ≡ ended h
+        go waits later = later
+        go (whole pdu) later = ap (G (at + 1) pdu (s ++ b ∷ [])) rest
+        go (refused number values) later = ap (K (at + 1) number values) rest
+
+  -- the stream is one: a piece comes to what its first search comes to, and the rest of it
+  pub search-is-stream
+      : (pdus : List Found) (p : List ℕ) (at : ℕ) (s : List ℕ) →
+      onPiece R H (record { taken = at; pdus = pdus; state = State.holding s }) p
+      ≡ byEnd
+      (λ next held rest. onPiece R H (record { taken = next; pdus = pdus; state = State.holding held }) rest)
+      (λ next pdu bytes rest. onPiece R H (record { taken = next; pdus = pdus ++ record { pdu = pdu; bytes = bytes } ∷ []; state = State.holding [] }) rest)
+      (λ next number values rest. onPiece R H (record { taken = next; pdus = pdus; state = State.stopped number values }) rest)
+      p
+      at
+      (searchFrom R H at s p .next)
+      (searchFrom R H at s p .held)
+      (searchFrom R H at s p .end)
+  unfolding onPiece onByte
+  search-is-stream pdus p at s = by-search _ _ _ (λ at s b rest. byte at (s ++ b ∷ []) rest (judge R H (s ++ b ∷ []))) p at s
+    where
+      byte : (at : ℕ) (s rest : List ℕ) (h : Heard) →
+          onPiece R H (after (at + 1) pdus s h) rest
+          ≡ byHeard
+          (λ next held rest. onPiece R H (record { taken = next; pdus = pdus; state = State.holding held }) rest)
+          (λ next pdu bytes rest. onPiece R H (record { taken = next; pdus = pdus ++ record { pdu = pdu; bytes = bytes } ∷ []; state = State.holding [] }) rest)
+          (λ next number values rest. onPiece R H (record { taken = next; pdus = pdus; state = State.stopped number values }) rest)
+          (at + 1)
+          s
+          rest
+          h
+      byte at s rest waits = refl
+      byte at s rest (whole pdu) = refl
+      byte at s rest (refused number values) = refl
+
+-- ---- The hold
+
+-- a hold of 8 bytes or more whose held bytes wait is a stream, and no other
+pub stream-exactly : (hold : List ℕ) (held : ℕ) → (8 ≤ length hold) → (held ≤ length hold) → judge crate (length hold) (take held hold) ≡ waits → isStream hold held ≡ true
+stream-exactly hold held h l w = is-stream (record { size = h; within = l; waiting = waits-waiting crate (length hold) (take held hold) w })
+
+pub stream-has : (hold : List ℕ) (held : ℕ) → isStream hold held ≡ true → (8 ≤ length hold) × (held ≤ length hold) × (judge crate (length hold) (take held hold) ≡ waits)
+stream-has hold held e =
+    let i : IsStream hold held = stream-is hold held e in (i .size, i .within, waiting-waits crate (i .waiting))

@@ -1,0 +1,74 @@
+-- What each public function promises leaves one result, and of the hold one content up to the held count (document 01, "How tight the promises
+-- are": the hold past it is the one exception). Assumes nothing.
+use Prim.Native.Nat.{ℕ}
+use mathlib.Core.List.{List}
+use mathlib.Core.Path.{_≡_, refl, sym, ap, _∙_}
+use denote.Ref.{now}
+use lib.Dec.{eqb}
+use lib.ListN.{getD, take}
+use mathlib.Core.Bool.{cond}
+use Rattle.rtr_base.proofs.Unique.{only-this}
+use Rattle.rtr_codec.specs.Read.{Verdict}
+use Rattle.rtr_codec.specs.declared.RtrError.{RtrError}
+use Rattle.rtr_codec.specs.declared.RtrError.the-variants.{IncompletePdu, InvalidProtocolVersion, InvalidPduType, InvalidLength, RouterKeyInV0, InvalidPrefixLength, InvalidErrorCode, InvalidUtf8}
+use Rattle.rtr_codec.specs.declared.ReadAnswer.{ReadAnswer}
+use Rattle.rtr_codec.proofs.Unique.{answerOf, error-back}
+use Rattle.rtr_stream.specs.Search.{Says, Outcome, streamRefusal, stopsBy, saidBy, searchSaid}
+use Rattle.rtr_stream.specs.declared.StreamError.{StreamError}
+use Rattle.rtr_stream.specs.declared.StreamAnswer.{StreamAnswer}
+use Rattle.rtr_stream.specs.declared.Searched.{Searched}
+use Rattle.rtr_stream.proofs.search.Reads as search-reads
+use Rattle.rtr_stream.proofs.Stream.new.Reads as new-reads
+
+-- the answer that has a read's number and values
+answered : ReadAnswer → StreamAnswer
+answered (ReadAnswer.Refused error) = StreamAnswer.Refused (StreamError.Read error)
+answered (ReadAnswer.Read pdu n) = StreamAnswer.More
+
+-- the answer that says this
+saying : Says → StreamAnswer
+saying (Says.pduAt pdu lies bytes) = StreamAnswer.Found pdu lies
+saying (Says.stops number values) = cond (eqb number 12) (StreamAnswer.Refused (StreamError.OverHold (getD values 0 0))) (answered (answerOf (Verdict.refused number values)))
+saying Says.wantsMore = StreamAnswer.More
+saying (Says.notAStream hold) = StreamAnswer.NotAStream
+
+error-told : (e : RtrError) → saying (stopsBy (streamRefusal (StreamError.Read e))) ≡ StreamAnswer.Refused (StreamError.Read e)
+unfolding saying answered
+error-told (IncompletePdu a n) = ap answered (error-back (IncompletePdu a n))
+error-told (InvalidPduType t) = ap answered (error-back (InvalidPduType t))
+error-told (InvalidProtocolVersion v) = ap answered (error-back (InvalidProtocolVersion v))
+error-told (InvalidErrorCode c) = ap answered (error-back (InvalidErrorCode c))
+error-told (InvalidLength e a t) = ap answered (error-back (InvalidLength e a t))
+error-told (InvalidPrefixLength l m b) = ap answered (error-back (InvalidPrefixLength l m b))
+error-told InvalidUtf8 = ap answered (error-back InvalidUtf8)
+error-told RouterKeyInV0 = ap answered (error-back RouterKeyInV0)
+
+searchedOf : Outcome → Searched
+searchedOf o = record { stream = record { held = o .count }; next = o .next; answer = saying (o .says) }
+
+answer-told : (hold piece : List ℕ) (a : StreamAnswer) → saying (saidBy a hold piece) ≡ a
+unfolding saying
+answer-told hold piece (StreamAnswer.Found pdu lies) = refl
+answer-told hold piece (StreamAnswer.Refused (StreamError.Read e)) = error-told e
+answer-told hold piece (StreamAnswer.Refused (StreamError.OverHold length)) = refl
+answer-told hold piece StreamAnswer.More = refl
+answer-told hold piece StreamAnswer.NotAStream = refl
+
+search-back : (hold piece : List ℕ) (r : Searched) → searchedOf (searchSaid r hold piece) ≡ r
+unfolding searchedOf
+search-back hold piece r = λ i. record { stream = r .stream; next = r .next; answer = answer-told hold piece (r .answer) i }
+
+one-held : (r r′ : Searched) (hold hold′ piece : List ℕ) (given : Outcome) →
+    searchSaid r hold piece ≡ given →
+    searchSaid r′ hold′ piece ≡ given →
+    (r ≡ r′) × (take (r .stream .held) hold ≡ take (r′ .stream .held) hold′)
+one-held r r′ hold hold′ piece given p q =
+    (sym (search-back hold piece r) ∙ ap searchedOf (p ∙ sym q) ∙ search-back hold′ piece r′, ap (λ (o : Outcome). o .held) (p ∙ sym q))
+
+-- two results and two holds that meet the promise are equal, the holds up to the held count
+pub search-unique : (κs : _) (a : _) (r r′ : _) (s s′ : _) → search-reads.Post κs a r s → search-reads.Post κs a r′ s′
+    → (r ≡ r′) × (take (r .stream .held) (now (s .0)) ≡ take (r′ .stream .held) (now (s′ .0)))
+search-unique κs a r r′ s s′ p q = one-held r r′ (now (s .0)) (now (s′ .0)) _ _ p q
+
+pub stream-new-unique : (κs : _) (a : _) (r r′ : _) (s s′ : _) → new-reads.Post κs a r s → new-reads.Post κs a r′ s′ → r ≡ r′
+stream-new-unique κs a r r′ s s′ p q = only-this r r′ _ p q
