@@ -1,0 +1,8 @@
+-- `Laws` and `Unique` are for readers and other crates; the others are the argument.
+pub mod Laws
+pub mod Unique
+mod Order
+mod Lists
+mod Places
+mod Tables
+mod Rooms
