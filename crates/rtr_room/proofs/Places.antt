@@ -6,9 +6,13 @@ use mathlib.Core.Path.{_≡_, refl, sym, ap, _∙_}
 use native.Mathlib.Omega.{arith}
 use lib.Dec.{ltb}
 use borrow.Author.Tests.{lt-ltb, le-ltb, ltb-true, ltb-false}
-use Rattle.rtr_room.specs.Table.{before}
+use Rattle.rtr_room.specs.Table.{before, same}
 use Rattle.rtr_room.specs.Room.{recordAt, bisect, place}
 use Rattle.rtr_room.specs.declared.Record.{Record}
+
+-- what a test says of a record that was read
+pub told : (f : Record → Bool) (x y : Record) (b : Bool) → x ≡ y → b ≡ f x → f y ≡ b
+told f x y b e g = sym (g ∙ ap f e)
 
 -- the middle, as the code computes it
 abbrev pub mid : ℕ → ℕ → ℕ
@@ -91,13 +95,19 @@ module _ (s : List ℕ) (r : Record) where
   behind zero p e = absurd (omega arith)
   behind (suc last) p e = let n : suc last - 1 ≡ last = omega arith in rw (rw n at e)
 
-  pub among : (count : ℕ) → 0 < count → before (recordAt s (count - 1)) r ≡ false → place s count r ≡ bisect (count - 1) s r 0 (count - 1)
+  pub at-last : (count : ℕ) → 0 < count → before (recordAt s (count - 1)) r ≡ false → same (recordAt s (count - 1)) r ≡ true → place s count r ≡ count - 1
   unfolding place
-  among zero p e = absurd (omega arith)
-  among (suc last) p e = let n : suc last - 1 ≡ last = omega arith in rw (n, rw n at e)
+  at-last zero p e f = absurd (omega arith)
+  at-last (suc last) p e f = let n : suc last - 1 ≡ last = omega arith in rw (n, rw n at e, rw n at f)
+
+  pub among : (count : ℕ) → 0 < count → before (recordAt s (count - 1)) r ≡ false → same (recordAt s (count - 1)) r ≡ false → place s count r ≡ bisect (count - 1) s r 0 (count - 1)
+  unfolding place
+  among zero p e f = absurd (omega arith)
+  among (suc last) p e f = let n : suc last - 1 ≡ last = omega arith in rw (n, rw n at e, rw n at f)
 
   pub place-le : (count : ℕ) → place s count r ≤ count
   unfolding place
   place-le zero = omega arith
   place-le (suc last) =
-      either (before (recordAt s last) r) (suc last) (bisect last s r 0 last) (suc last) (omega arith) (omega (arith, bisect-le last 0 last (omega arith)))
+      either (before (recordAt s last) r) (suc last) (cond (same (recordAt s last) r) last (bisect last s r 0 last)) (suc last) (omega arith)
+      (either (same (recordAt s last) r) last (bisect last s r 0 last) (suc last) (omega arith) (omega (arith, bisect-le last 0 last (omega arith))))

@@ -58,10 +58,13 @@ bisect (suc fuel) s r lo hi =
     (cond (before (recordAt s (lo + (hi - lo) / 2)) r) (bisect fuel s r (lo + (hi - lo) / 2 + 1) hi) (bisect fuel s r lo (lo + (hi - lo) / 2)))
     lo
 
--- behind all where it sorts last, which is looked at first
+-- where a record stands or would stand among the first so many: the last is looked at first, and where that is neither before the record
+-- nor the record itself, those before it are halved
 unfoldable pub place : List ℕ → ℕ → Record → ℕ
 place s zero r = 0
-place s (suc last) r = cond (before (recordAt s last) r) (suc last) (bisect last s r 0 last)
+place s (suc last) r =
+    cond (before (recordAt s last) r) (suc last)
+    (cond (same (recordAt s last) r) last (bisect last s r 0 last))
 
 -- the record stands at its place
 unfoldable pub stands : List ℕ → ℕ → Record → Bool

@@ -5,7 +5,7 @@ ghost use Prim.Native.Nat.{_+_, _-_, _*_, _≤_, _<_};
 ghost use mathlib.Core.List.{_++_};
 ghost use lib.ListN.{length, take, drop, replicate};
 ghost use Rattle.rtr_room.specs.Table.{familyOf, prefixOf, maxOf, before, same, inRule, isTable};
-ghost use Rattle.rtr_room.specs.Room.{numbers, recordAt, records, allZero, isRoom, place, lookUp, found, entered, enterSaid, gone, leaveSaid, copied, copySays, copySaid};
+ghost use Rattle.rtr_room.specs.Room.{numbers, recordAt, records, allZero, isRoom, bisect, lookUp, found, entered, enterSaid, gone, leaveSaid, copied, copySays, copySaid};
 
 // Which network may announce which prefix, as a room's six numbers: the first is family x 65,536 + prefix length x 256 + max.
 pub struct Record {
@@ -304,19 +304,13 @@ pub fn rules(room: &[u32], limit: usize, count: usize) -> bool
     is_zero_from(room, 6 * count)
 }
 
-// Where a record stands or would stand: behind all after one comparison, else by halving.
-fn place_of(room: &[u32], count: usize, r: Record) -> usize
-    requires { ⌜ 6 * count ≤ length (now room) ⌝ }
-    ensures { λ p. ⌜ (p ≡ place (now (room .entry)) count r) × (p ≤ count) ⌝ }
+// Where a record stands or would stand among the first so many, by halving.
+fn place_among(room: &[u32], end: usize, r: Record) -> usize
+    requires { ⌜ 6 * end ≤ length (now room) ⌝ }
+    ensures { λ p. ⌜ (p ≡ bisect end (now (room .entry)) r 0 end) × (p ≤ end) ⌝ }
 {
-    if count == 0 {
-        return 0;
-    }
-    if is_before(record_at(room, count - 1), r) {
-        return count;
-    }
     let mut lo = 0;
-    let mut hi = count - 1;
+    let mut hi = end;
     while lo < hi {
         let mid = lo + (hi - lo) / 2;
         if is_before(record_at(room, mid), r) {
@@ -328,16 +322,25 @@ fn place_of(room: &[u32], count: usize, r: Record) -> usize
     lo
 }
 
+// The last record is looked at first: it alone decides where a record goes behind it, or is it. Any other place is found by halving.
 pub fn look_up(room: &[u32], count: usize, r: Record) -> LookUp
     ensures { λ a. ⌜ found a ≡ lookUp (now (room .entry)) count r ⌝ }
 {
     if count > room.len() / 6 {
         return LookUp::NotARoom;
     }
-    let at = place_of(room, count, r);
-    if at == count {
-        return LookUp::Missing(at);
+    if count == 0 {
+        return LookUp::Missing(0);
     }
+    let end = count - 1;
+    let last = record_at(room, end);
+    if is_before(last, r) {
+        return LookUp::Missing(count);
+    }
+    if is_same(last, r) {
+        return LookUp::At(end);
+    }
+    let at = place_among(room, end, r);
     if is_same(record_at(room, at), r) {
         return LookUp::At(at);
     }

@@ -13,7 +13,7 @@ use Rattle.rtr_room.specs.Room.{room, recordAt, bisect, place, stands}
 use Rattle.rtr_room.specs.declared.Record.{Record}
 use Rattle.rtr_room.proofs.Laws.Order.{not-both}
 use Rattle.rtr_room.proofs.Laws.Rooms.{record-of-room}
-use Rattle.rtr_room.proofs.Laws.Ranks.{rank, rank-within, before-rank, from-rank, stands-at-rank}
+use Rattle.rtr_room.proofs.Laws.Ranks.{rank, rank-within, before-rank, from-rank, only-at-rank, stands-at-rank}
 
 module _ (s : List ℕ) (r : Record) (p : ℕ) where
   abbrev Below : Type 0
@@ -21,6 +21,10 @@ module _ (s : List ℕ) (r : Record) (p : ℕ) where
 
   abbrev From : ℕ → Type 0
   From hi = (i : ℕ) → p ≤ i → i < hi → before (recordAt s i) r ≡ false
+
+  -- and the record itself stands at p or nowhere
+  abbrev Once : ℕ → Type 0
+  Once hi = (i : ℕ) → i < hi → same (recordAt s i) r ≡ true → i ≡ p
 
   -- a test at a place says on which side of p it is
   side-before : Below → (hi i : ℕ) → From hi → i < hi → before (recordAt s i) r ≡ true → i < p
@@ -51,14 +55,15 @@ module _ (s : List ℕ) (r : Record) (p : ℕ) where
           let m : p ≤ lo + (hi - lo) / 2 = side-from b (lo + (hi - lo) / 2) e in
           rest lo (lo + (hi - lo) / 2) (λ i j k. f i j (omega (arith, ltb-true lo hi q))) l m (omega (arith, ltb-true lo hi q))
 
-  place-finds : Below → (count : ℕ) → From count → p ≤ count → place s count r ≡ p
+  place-finds : Below → (count : ℕ) → From count → Once count → p ≤ count → place s count r ≡ p
   unfolding place
-  place-finds b zero f h = omega arith
-  place-finds b (suc last) f h = go (before (recordAt s last) r) refl
+  place-finds b zero f o h = omega arith
+  place-finds b (suc last) f o h = go (before (recordAt s last) r) refl (same (recordAt s last) r) refl
     where
-      go : (c : Bool) → before (recordAt s last) r ≡ c → cond c (suc last) (bisect last s r 0 last) ≡ p
-      go true e = omega (arith, side-before b (suc last) last f (omega arith) e)
-      go false e = bisect-finds b last 0 last (λ i j k. f i j (omega arith)) (omega arith) (side-from b last e) (omega arith)
+      go : (c : Bool) → before (recordAt s last) r ≡ c → (d : Bool) → same (recordAt s last) r ≡ d → cond c (suc last) (cond d last (bisect last s r 0 last)) ≡ p
+      go true e d g = omega (arith, side-before b (suc last) last f (omega arith) e)
+      go false e true g = o last (omega arith) g
+      go false e false g = bisect-finds b last 0 last (λ i j k. f i j (omega arith)) (omega arith) (side-from b last e) (omega arith)
 
 module _ (limit : ℕ) (t : List Record) (h : ordered t ≡ true) (r : Record) where
   pub place-is-rank : place (room limit t) (length t) r ≡ rank r t
@@ -67,6 +72,7 @@ module _ (limit : ℕ) (t : List Record) (h : ordered t ≡ true) (r : Record) w
       (λ i l. rw (record-of-room limit t i r (omega (arith, rank-within r t))) (before-rank r r t i h l))
       (length t)
       (λ i l k. rw (record-of-room limit t i r k) (from-rank r r t i h l k))
+      (λ i l e. only-at-rank r r t i h l (rw (record-of-room limit t i r l) at e))
       (rank-within r t)
 
   pub stands-is-in : stands (room limit t) (length t) r ≡ isIn r t

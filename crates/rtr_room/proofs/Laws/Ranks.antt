@@ -4,7 +4,7 @@
 use Prim.Native.Nat.{ℕ, zero, suc, _<_, _≤_}
 use mathlib.Core.Bool.{Bool, true, false, cond, _&&_, _||_, false≢true}
 use mathlib.Core.List.{List, [], _∷_, _++_}
-use mathlib.Core.Path.{_≡_, refl, sym, ap}
+use mathlib.Core.Path.{_≡_, refl, sym, ap, _∙_}
 use native.Mathlib.Omega.{arith}
 use borrow.Author.Tests.{lt-ltb, le-ltb}
 use lib.Dec.{ltb, leb·suc-suc}
@@ -98,6 +98,24 @@ stands-at-rank r d (x ∷ t) h = go (sides x r) (stands-at-rank r d t (ordered-t
     go (behind-it e) rest =
         rw (none-behind r x t h (before-asymmetric r x e), after-not-same x r e, lt-ltb 0 (suc (length t)) (omega arith))
         (sym (unless (isIn r t) (λ i. not-both _ (before-transitive r x r e (first-before x r t h i)) (before-irreflexive r))))
+
+-- what stands at a place is in, and a record that stands anywhere stands at its rank
+there-is-in : (r d : Record) (t : List Record) (i : ℕ) → i < length t → same (getD t i d) r ≡ true → isIn r t ≡ true
+unfolding isIn
+there-is-in r d [] i l e = absurd (omega arith)
+there-is-in r d (x ∷ t) zero l e = rw e
+there-is-in r d (x ∷ t) (suc i) l e = go (same x r) (there-is-in r d t i (omega arith) e)
+  where
+    go : (b : Bool) → isIn r t ≡ true → b || isIn r t ≡ true
+    go true f = refl
+    go false f = f
+
+pub only-at-rank : (r d : Record) (t : List Record) (i : ℕ) → ordered t ≡ true → i < length t → same (getD t i d) r ≡ true → i ≡ rank r t
+only-at-rank r d [] i h l e = absurd (omega arith)
+only-at-rank r d (x ∷ t) zero h l e = sym (none-behind r x t h (rw (same-is-equal x r .0 e) (before-irreflexive r)))
+only-at-rank r d (x ∷ t) (suc i) h l e =
+    ap suc (only-at-rank r d t i (ordered-tail x t h) (omega arith) e)
+    ∙ sym (rank-behind r x t (first-before x r t h (there-is-in r d t i (omega arith) e)))
 
 pub remove-at-rank : (r : Record) (t : List Record) → ordered t ≡ true → isIn r t ≡ true → (rank r t < length t) × (remove r t ≡ take (rank r t) t ++ drop (suc (rank r t)) t)
 unfolding remove isIn
