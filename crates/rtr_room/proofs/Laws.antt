@@ -1,8 +1,10 @@
 -- What a room is, and what its calls do, over any limit: a table is a set of records in order, a room is its table, and the calls on the room
 -- of a table are the table's own. The argument is in the files beside this one. Assumes nothing.
-pub mod Ranks
+pub mod Tests
+pub mod Records
 pub mod Order
 pub mod Tables
+pub mod Ranks
 pub mod Rooms
 pub mod Places
 pub mod Moves
@@ -12,20 +14,49 @@ use mathlib.Core.Bool.{true, false, cond, not, _&&_, _||_}
 use mathlib.Core.List.{List, []}
 use mathlib.Core.Logic.{_↔_}
 use mathlib.Core.Path.{_≡_}
+use lib.Dec.{leb}
 use lib.ListN.{length, getD, replicate}
-use Rattle.rtr_room.specs.Table.{before, same, inRule, ordered, isTable, isIn, insert, remove, enter, leave}
+use Rattle.rtr_room.specs.Table.{packed, ipv4Record, ipv6Record, familyOf, prefixOf, maxOf, before, same, inRule, ordered, isTable, isIn, rank, insert, remove, enter, leave}
 use Rattle.rtr_room.specs.Table.Change.{changed}
 use Rattle.rtr_room.specs.Room.{room, recordAt, records, isRoom, limitOf, place, stands, lookUp, entered, gone, outcomeOf, copied, copySays}
 use Rattle.rtr_room.specs.Room.Found.{standsAt, missingAt}
 use Rattle.rtr_room.specs.Room.Said.{counted, refusedBy}
 use Rattle.rtr_room.specs.declared.Record.{Record}
-use Rattle.rtr_room.proofs.Laws.Ranks.{rank}
+use Rattle.rtr_room.proofs.Laws.Records as made
 use Rattle.rtr_room.proofs.Laws.Order as order
 use Rattle.rtr_room.proofs.Laws.Tables as tables
 use Rattle.rtr_room.proofs.Laws.Rooms as rooms
 use Rattle.rtr_room.proofs.Laws.Places as places
 use Rattle.rtr_room.proofs.Laws.Moves as moves
 use Rattle.rtr_room.proofs.Laws.Kept as kept
+
+-- a first number is family x 65,536 + prefix length x 256 + max
+pub kind-is : (r : Record) → r .kind ≡ packed (familyOf r) (prefixOf r) (maxOf r)
+kind-is r = made.kind-is (r .kind)
+
+-- a made IPv4 record has the parts that were given
+pub ipv4-parts : (length max : ℕ) → length < 256 → max < 256 → (address asn : ℕ) → (familyOf (ipv4Record length max address asn) ≡ 4) × (prefixOf (ipv4Record length max address asn) ≡ length) × (maxOf (ipv4Record length max address asn) ≡ max)
+ipv4-parts = made.ipv4-parts
+
+-- and is in rule exactly where prefix length ≤ max ≤ 32
+pub ipv4-in-rule : (length max : ℕ) → length < 256 → max < 256 → (address asn : ℕ) → inRule (ipv4Record length max address asn) ≡ (leb length max && leb max 32)
+ipv4-in-rule = made.ipv4-in-rule
+
+-- a made IPv6 record has the parts that were given
+pub ipv6-parts : (length max : ℕ) → length < 256 → max < 256 → (w0 w1 w2 w3 asn : ℕ) → (familyOf (ipv6Record length max w0 w1 w2 w3 asn) ≡ 6) × (prefixOf (ipv6Record length max w0 w1 w2 w3 asn) ≡ length) × (maxOf (ipv6Record length max w0 w1 w2 w3 asn) ≡ max)
+ipv6-parts = made.ipv6-parts
+
+-- and is in rule exactly where prefix length ≤ max ≤ 128
+pub ipv6-in-rule : (length max : ℕ) → length < 256 → max < 256 → (w0 w1 w2 w3 asn : ℕ) → inRule (ipv6Record length max w0 w1 w2 w3 asn) ≡ (leb length max && leb max 128)
+ipv6-in-rule = made.ipv6-in-rule
+
+-- a record in rule of family 4 is the IPv4 record of its parts
+pub in-rule-four : (r : Record) → inRule r ≡ true → familyOf r ≡ 4 → r ≡ ipv4Record (prefixOf r) (maxOf r) (r .w0) (r .asn)
+in-rule-four = made.in-rule-four
+
+-- a record of family 6 is the IPv6 record of its parts
+pub of-family-six : (r : Record) → familyOf r ≡ 6 → r ≡ ipv6Record (prefixOf r) (maxOf r) (r .w0) (r .w1) (r .w2) (r .w3) (r .asn)
+of-family-six = made.of-family-six
 
 -- no record is before itself
 pub before-irreflexive : (a : Record) → before a a ≡ false

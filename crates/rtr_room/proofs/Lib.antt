@@ -2,7 +2,8 @@
 pub mod Laws
 pub mod Unique
 mod Order
-mod Lists
-mod Places
 mod Tables
+mod Halving
+mod Places
 mod Rooms
+mod Lists

@@ -1,30 +1,18 @@
 -- Tests one after the other decide what the order, equality and the rules of a record say: each lemma is one way out of `is_before`,
 -- `is_same` or `is_in_rule`. Assumes nothing.
-use Prim.Native.Nat.{ℕ, _+_, _*_, _/_, _%_, _<_, _≤_}
-use mathlib.Core.Bool.{Bool, true, false, _&&_, _||_}
+use Prim.Native.Nat.{ℕ, _/_, _%_, _<_, _≤_}
+use mathlib.Core.Bool.{Bool, true, false, _&&_, _||_, and-false, and-true, or-false}
 use mathlib.Core.List.{List, [], _∷_}
 use mathlib.Core.Path.{_≡_, refl, sym, _∙_, ap}
 use native.Mathlib.Omega.{arith}
 use lib.Dec.{leb, ltb, eqb}
 use borrow.Author.Tests.{lt-ltb, le-ltb, lt-leb, le-leb, eq-eqb, ne-eqb, ltb-true, ltb-false, eqb-true, eqb-false}
-use Rattle.rtr_room.specs.Table.{familyOf, prefixOf, maxOf, lower, inRule}
+use Rattle.rtr_room.specs.Table.{packed, familyOf, prefixOf, maxOf, lower, inRule}
 use Rattle.rtr_room.specs.declared.Record.{Record}
+use Rattle.rtr_room.proofs.Laws.Records.{kind-is}
+use Rattle.rtr_room.proofs.Laws.Order.{differs, agrees}
 
--- ---- the order
-
-or-false : (b : Bool) → b ≡ b || false
-or-false true = refl
-or-false false = refl
-
--- keys that differ in their first number
-pub differs : (x y : ℕ) (xs ys : List ℕ) → (x ≡ y → ⊥) → ltb x y ≡ lower (x ∷ xs) (y ∷ ys)
-unfolding lower
-differs x y xs ys h = or-false (ltb x y) ∙ sym (ap (λ (b : Bool). ltb x y || (b && lower xs ys)) (ne-eqb x y h))
-
--- keys that do not
-pub agrees : (x y : ℕ) (xs ys : List ℕ) → x ≡ y → lower xs ys ≡ lower (x ∷ xs) (y ∷ ys)
-unfolding lower
-agrees x y xs ys h = let e = eq-eqb x y h in let f = le-ltb x y (omega arith) in rw (f, e)
+-- ---- the order: the first number whole stands for length and max
 
 same-test : (x y p q : ℕ) → (x < y → p < q) → (y ≤ x → q ≤ p) → ltb x y ≡ ltb p q
 same-test x y p q f g = go (ltb x y) refl
@@ -33,12 +21,8 @@ same-test x y p q f g = go (ltb x y) refl
     go true e = sym (lt-ltb p q (f (ltb-true x y e)))
     go false e = sym (le-ltb p q (g (ltb-false x y e)))
 
--- a first number is its three parts
-parts : (x : ℕ) → x ≡ x / 65536 * 65536 + x / 256 % 256 * 256 + x % 256
-parts x = omega arith
-
 -- numbers of one family that differ are in the order of length and max
-module _ (x y f p q m n : ℕ) (ex : x ≡ f * 65536 + p * 256 + m) (ey : y ≡ f * 65536 + q * 256 + n) (mb : m < 256) (nb : n < 256) (xs ys : List ℕ) (d : x ≡ y → ⊥) where
+module _ (x y f p q m n : ℕ) (ex : x ≡ packed f p m) (ey : y ≡ packed f q n) (mb : m < 256) (nb : n < 256) (xs ys : List ℕ) (d : x ≡ y → ⊥) where
   by-parts : ltb x y ≡ lower (p ∷ m ∷ xs) (q ∷ n ∷ ys)
   by-parts = go (eqb p q) refl
     where
@@ -53,8 +37,8 @@ module _ (x y f p q m n : ℕ) (ex : x ≡ f * 65536 + p * 256 + m) (ey : y ≡ 
 pub kind-differs : (x y : ℕ) (xs ys : List ℕ) → x / 65536 ≡ y / 65536 → (x ≡ y → ⊥)
     → ltb x y ≡ lower (x / 256 % 256 ∷ x % 256 ∷ xs) (y / 256 % 256 ∷ y % 256 ∷ ys)
 kind-differs x y xs ys f d =
-    by-parts x y (x / 65536) (x / 256 % 256) (y / 256 % 256) (x % 256) (y % 256) (parts x)
-    (parts y ∙ ap (λ (k : ℕ). k * 65536 + y / 256 % 256 * 256 + y % 256) (sym f))
+    by-parts x y (x / 65536) (x / 256 % 256) (y / 256 % 256) (x % 256) (y % 256) (kind-is x)
+    (kind-is y ∙ ap (λ (k : ℕ). packed k (y / 256 % 256) (y % 256)) (sym f))
     (omega arith) (omega arith) xs ys d
 
 pub kind-agrees : (x y : ℕ) (xs ys : List ℕ) → x ≡ y → lower xs ys ≡ lower (x / 256 % 256 ∷ x % 256 ∷ xs) (y / 256 % 256 ∷ y % 256 ∷ ys)
@@ -73,23 +57,9 @@ only-last x y = go (ltb x y) (eqb x y)
 
 -- ---- the rules of a record
 
-neither : (a b : Bool) → false ≡ (a && false) || (b && false)
-neither true true = refl
-neither true false = refl
-neither false true = refl
-neither false false = refl
-
-not-both : (a : Bool) → false ≡ (a && false) || false
-not-both true = refl
-not-both false = refl
-
-just : (a : Bool) → a ≡ (a && true) || false
-just true = refl
-just false = refl
-
 pub too-long : (r : Record) → maxOf r < prefixOf r → false ≡ inRule r
 unfolding inRule
-too-long r h = rw (lt-leb (prefixOf r) (maxOf r) h) (neither (eqb (familyOf r) 4) (eqb (familyOf r) 6))
+too-long r h = rw (lt-leb (prefixOf r) (maxOf r) h, and-false (eqb (familyOf r) 4), and-false (eqb (familyOf r) 6))
 
 pub neither-family : (r : Record) → (familyOf r ≡ 6 → ⊥) → (familyOf r ≡ 4 → ⊥) → false ≡ inRule r
 unfolding inRule
@@ -109,20 +79,19 @@ module _ (r : Record) (l : prefixOf r ≤ maxOf r) where
 
     pub spare-1 : (r .w1 ≡ 0 → ⊥) → false ≡ inRule r
     unfolding inRule
-    spare-1 a = rw (is-four, not-six, le-leb (prefixOf r) (maxOf r) l, ne-eqb (r .w1) 0 a) (not-both (leb (maxOf r) 32))
+    spare-1 a = rw (is-four, not-six, le-leb (prefixOf r) (maxOf r) l, ne-eqb (r .w1) 0 a, and-false (leb (maxOf r) 32))
 
     pub spare-2 : r .w1 ≡ 0 → (r .w2 ≡ 0 → ⊥) → false ≡ inRule r
     unfolding inRule
-    spare-2 a b = rw (is-four, not-six, le-leb (prefixOf r) (maxOf r) l, eq-eqb (r .w1) 0 a, ne-eqb (r .w2) 0 b) (not-both (leb (maxOf r) 32))
+    spare-2 a b = rw (is-four, not-six, le-leb (prefixOf r) (maxOf r) l, eq-eqb (r .w1) 0 a, ne-eqb (r .w2) 0 b, and-false (leb (maxOf r) 32))
 
     pub spare-3 : r .w1 ≡ 0 → r .w2 ≡ 0 → (r .w3 ≡ 0 → ⊥) → false ≡ inRule r
     unfolding inRule
     spare-3 a b d =
-        rw (is-four, not-six, le-leb (prefixOf r) (maxOf r) l, eq-eqb (r .w1) 0 a, eq-eqb (r .w2) 0 b, ne-eqb (r .w3) 0 d)
-        (not-both (leb (maxOf r) 32))
+        rw (is-four, not-six, le-leb (prefixOf r) (maxOf r) l, eq-eqb (r .w1) 0 a, eq-eqb (r .w2) 0 b, ne-eqb (r .w3) 0 d, and-false (leb (maxOf r) 32))
 
     pub four : r .w1 ≡ 0 → r .w2 ≡ 0 → r .w3 ≡ 0 → leb (maxOf r) 32 ≡ inRule r
     unfolding inRule
     four a b d =
-        rw (is-four, not-six, le-leb (prefixOf r) (maxOf r) l, eq-eqb (r .w1) 0 a, eq-eqb (r .w2) 0 b, eq-eqb (r .w3) 0 d)
-        (just (leb (maxOf r) 32))
+        rw (is-four, not-six, le-leb (prefixOf r) (maxOf r) l, eq-eqb (r .w1) 0 a, eq-eqb (r .w2) 0 b, eq-eqb (r .w3) 0 d, and-true (leb (maxOf r) 32))
+        (sym (or-false (leb (maxOf r) 32)))

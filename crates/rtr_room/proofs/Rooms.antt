@@ -1,6 +1,6 @@
 -- What a look-up finds, and what entering and leaving make of it. Assumes nothing.
 use Prim.Native.Nat.{ℕ, _+_, _-_, _*_, _≤_, _<_}
-use mathlib.Core.Bool.{Bool, true, false, cond, _&&_}
+use mathlib.Core.Bool.{Bool, true, false, cond}
 use mathlib.Core.List.{List, _++_, append-assoc}
 use mathlib.Core.Path.{_≡_, refl, sym, ap, _∙_}
 use native.Mathlib.Omega.{arith}
@@ -13,6 +13,7 @@ use Rattle.rtr_room.specs.Room.{numbers, recordAt, limitOf, place, stand
 use Rattle.rtr_room.specs.Room.Found.{standsAt, missingAt, refused}
 use Rattle.rtr_room.specs.Room.Said.{counted}
 use Rattle.rtr_room.specs.declared.Record.{Record}
+use Rattle.rtr_room.proofs.Laws.Tests.{first-of}
 use Rattle.rtr_room.proofs.Lists.{up, down}
 use Rattle.rtr_room.proofs.Places.{place-le}
 
@@ -32,10 +33,6 @@ told-missing : (l t : Bool) (p q : ℕ) → missingAt p ≡ cond l (cond t (stan
 told-missing false t p q e = let z : _≡_ {A = ℕ} 0 1 = cc in absurd (omega arith)
 told-missing true true p q e = let z : _≡_ {A = ℕ} 0 1 = cc in absurd (omega arith)
 told-missing true false p q e = (refl, refl, cc)
-
-both-first : (a b : Bool) → a && b ≡ true → a ≡ true
-both-first true b e = refl
-both-first false b e = e
 
 -- ---- a shift and a store
 
@@ -122,7 +119,7 @@ module _ (s : List ℕ) (count : ℕ) (r : Record) where
     pub below : p < count
     unfolding stands
     below =
-        let q = ltb-true (place s count r) count (both-first (ltb (place s count r) count) (same (recordAt s (place s count r)) r) (found-there .1)) in
+        let q = ltb-true (place s count r) count (first-of (ltb (place s count r) count) (same (recordAt s (place s count r)) r) (found-there .1)) in
         omega (arith, found-there .2)
 
     pub already-in : keeps 17 s ≡ entered s count r

@@ -1,17 +1,18 @@
 -- A table's records one after the other, and the zeros behind them. Assumes nothing.
 use Prim.Native.Nat.{ℕ, suc, _+_, _-_, _*_, _≤_, _<_}
-use mathlib.Core.Bool.{Bool, true, false, _&&_}
+use mathlib.Core.Bool.{true, false, and-false}
 use mathlib.Core.List.{List, [], _∷_}
-use mathlib.Core.Path.{_≡_, refl, sym, ap, _∙_}
-use native.Mathlib.Nat.{add-zero}
+use mathlib.Core.Path.{_≡_, sym, ap, _∙_}
 use native.Mathlib.Numerals.{add-one}
 use native.Mathlib.Omega.{arith}
 use lib.ListN.{length, drop, getD, drop-of-length-le}
-use lib.Seq.{drop-cons, drop-drop, getD-drop}
+use lib.Seq.{drop-cons, drop-drop}
 use borrow.Author.Tests.{eq-eqb, ne-eqb}
 use Rattle.rtr_room.specs.Table.{before, inRule, isTable, allInRule, ordered}
 use Rattle.rtr_room.specs.Room.{recordAt, records, allZero}
 use Rattle.rtr_room.specs.declared.Record.{Record}
+use Rattle.rtr_room.proofs.Laws.Tables.{empty-table}
+use Rattle.rtr_room.proofs.Laws.Rooms.{from-drop}
 
 -- ---- records
 
@@ -19,10 +20,9 @@ use Rattle.rtr_room.specs.declared.Record.{Record}
 records-more : (n i : ℕ) (s : List ℕ) → records (suc n) (drop (6 * i) s) ≡ recordAt s i ∷ records n (drop (6 * (i + 1)) s)
 unfolding records recordAt
 records-more n i s =
-    let a : getD (drop (6 * i) s) 0 0 ≡ getD s (6 * i) 0 = getD-drop (6 * i) s 0 0 ∙ ap (λ (k : ℕ). getD s k 0) (add-zero (6 * i)) in
     let k : 6 * i + 6 ≡ 6 * (i + 1) = omega arith in
     let t : drop 6 (drop (6 * i) s) ≡ drop (6 * (i + 1)) s = drop-drop 6 (6 * i) s ∙ ap (λ (m : ℕ). drop m s) k in
-    cc (a, t, getD-drop (6 * i) s 1 0, getD-drop (6 * i) s 2 0, getD-drop (6 * i) s 3 0, getD-drop (6 * i) s 4 0, getD-drop (6 * i) s 5 0)
+    cc (from-drop s (6 * i), t)
 
 records-next : (count i : ℕ) (s : List ℕ) → i < count
     → records (count - i) (drop (6 * i) s) ≡ recordAt s i ∷ records (count - (i + 1)) (drop (6 * (i + 1)) s)
@@ -35,14 +35,6 @@ unfolding records
 no-records count i s h = let n : count - i ≡ 0 = omega arith in ap (λ (k : ℕ). records k s) n
 
 -- ---- tables
-
-and-false : (a : Bool) → a && false ≡ false
-and-false true = refl
-and-false false = refl
-
-empty-table : isTable [] ≡ true
-unfolding allInRule ordered
-empty-table = refl
 
 one-alone : (r : Record) → inRule r ≡ true → isTable (r ∷ []) ≡ true
 unfolding allInRule ordered

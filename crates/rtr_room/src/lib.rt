@@ -4,7 +4,7 @@ ghost use mathlib.Core.Path.{_≡_};
 ghost use Prim.Native.Nat.{_+_, _-_, _*_, _≤_, _<_};
 ghost use mathlib.Core.List.{_++_};
 ghost use lib.ListN.{length, take, drop, replicate};
-ghost use Rattle.rtr_room.specs.Table.{familyOf, prefixOf, maxOf, before, same, inRule, isTable};
+ghost use Rattle.rtr_room.specs.Table.{packed, ipv4Record, ipv6Record, familyOf, prefixOf, maxOf, before, same, inRule, isTable};
 ghost use Rattle.rtr_room.specs.Room.{numbers, recordAt, records, allZero, isRoom, bisect, lookUp, found, entered, enterSaid, gone, leaveSaid, copied, copySays, copySaid};
 
 // Which network may announce which prefix, as a room's six numbers: the first is family x 65,536 + prefix length x 256 + max.
@@ -46,10 +46,10 @@ pub enum CopyAnswer {
 impl Record {
     // An IPv4 prefix with its origin; the other address numbers are 0.
     pub fn ipv4(prefix_length: u8, max_length: u8, address: u32, asn: u32) -> Record
-        ensures { λ r. ⌜ r ≡ record { kind = 4 * 65536 + «prefix_length» * 256 + «max_length»; w0 = address; w1 = 0; w2 = 0; w3 = 0; asn = asn } ⌝ }
+        ensures { λ r. ⌜ r ≡ ipv4Record «prefix_length» «max_length» address asn ⌝ }
     {
         Record {
-            kind: packed(4, prefix_length, max_length),
+            kind: pack(4, prefix_length, max_length),
             w0: address,
             w1: 0,
             w2: 0,
@@ -68,10 +68,10 @@ impl Record {
         w3: u32,
         asn: u32,
     ) -> Record
-        ensures { λ r. ⌜ r ≡ record { kind = 6 * 65536 + «prefix_length» * 256 + «max_length»; w0 = w0; w1 = w1; w2 = w2; w3 = w3; asn = asn } ⌝ }
+        ensures { λ r. ⌜ r ≡ ipv6Record «prefix_length» «max_length» w0 w1 w2 w3 asn ⌝ }
     {
         Record {
-            kind: packed(6, prefix_length, max_length),
+            kind: pack(6, prefix_length, max_length),
             w0,
             w1,
             w2,
@@ -105,9 +105,10 @@ fn wide(b: u8) -> u32
     b as u32
 }
 
-fn packed(family: u32, prefix_length: u8, max_length: u8) -> u32
+// A record's first number, of its three parts.
+fn pack(family: u32, prefix_length: u8, max_length: u8) -> u32
     requires { ⌜ family ≤ 6 ⌝ }
-    ensures { λ r. ⌜ r ≡ family * 65536 + «prefix_length» * 256 + «max_length» ⌝ }
+    ensures { λ r. ⌜ r ≡ packed family «prefix_length» «max_length» ⌝ }
 {
     family * 65536 + wide(prefix_length) * 256 + wide(max_length)
 }

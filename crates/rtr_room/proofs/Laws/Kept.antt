@@ -13,9 +13,9 @@ use Rattle.rtr_room.specs.Table.Change.{changed}
 use Rattle.rtr_room.specs.Room.{room, isRoom, limitOf, place, stands, putIn, takeOut, Outcome, keeps, entered, gone, outcomeOf}
 use Rattle.rtr_room.specs.Room.Said.{counted, refusedBy}
 use Rattle.rtr_room.specs.declared.Record.{Record}
-use Rattle.rtr_room.proofs.Laws.Order.{second-of}
+use Rattle.rtr_room.proofs.Laws.Tests.{second-of}
 use Rattle.rtr_room.proofs.Laws.Tables.{enter-keeps, leave-keeps}
-use Rattle.rtr_room.proofs.Laws.Rooms.{rules-exactly}
+use Rattle.rtr_room.proofs.Laws.Rooms.{rules-exactly, rules-met}
 use Rattle.rtr_room.proofs.Laws.Moves.{enter-is, leave-is}
 
 -- a change that is said to count n leaves a table of n records
@@ -23,10 +23,6 @@ said-changed : (limit n : ℕ) (t : List Record) (c : Change) → outcomeOf limi
 unfolding outcomeOf
 said-changed limit n t (changed t′) e = (t′, refl, (cc), refl)
 said-changed limit n t (Change.refused k) e = let z : _≡_ {A = ℕ} 0 1 = cc in absurd (omega arith)
-
--- a table's room keeps the rules
-a-room : (limit : ℕ) (t : List Record) → isTable t ≡ true → length t ≤ limit → isRoom limit (length t) (room limit t) ≡ true
-a-room limit t h l = rules-exactly limit (length t) (room limit t) .1 (t, h, refl, l, refl)
 
 enter-on : (limit count : ℕ) (s : List ℕ) (r : Record) (t : List Record) → isTable t ≡ true → length t ≡ count → count ≤ limit → s ≡ room limit t → entered s count r ≡ outcomeOf limit t (enter limit r t)
 enter-on limit count s r t h n l e = rw (e, ← n) (enter-is limit r t (second-of (allInRule t) _ h) (omega arith))
@@ -40,7 +36,7 @@ enter-keeps-room limit count n s r h i e =
     let o : entered s count r ≡ outcomeOf limit (m .0) (enter limit r (m .0)) = enter-on limit count s r (m .0) (m .1) (m .2) (m .3) (m .4) in
     let f : _ = said-changed limit n (m .0) (enter limit r (m .0)) (rw o at e) in
     let k : _ = enter-keeps limit r (m .0) (f .0) (m .1) i (f .1) in
-    (omega (arith, f .2, k .1, m .2), ap (λ (o : Outcome). isRoom limit n (o .left)) o ∙ ap₂ (isRoom limit) (f .2) (f .3) ∙ a-room limit (f .0) (k .0) (k .2))
+    (omega (arith, f .2, k .1, m .2), ap (λ (o : Outcome). isRoom limit n (o .left)) o ∙ ap₂ (isRoom limit) (f .2) (f .3) ∙ rules-met limit (f .0) (k .0) (k .2))
 
 pub leave-keeps-room : (limit count n : ℕ) (s : List ℕ) (r : Record) → isRoom limit count s ≡ true → gone s count r .says ≡ counted n → (suc n ≡ count) × (isRoom limit n (gone s count r .left) ≡ true)
 leave-keeps-room limit count n s r h e =
@@ -48,7 +44,7 @@ leave-keeps-room limit count n s r h e =
     let o : gone s count r ≡ outcomeOf limit (m .0) (leave r (m .0)) = leave-on limit count s r (m .0) (m .1) (m .2) (m .3) (m .4) in
     let f : _ = said-changed limit n (m .0) (leave r (m .0)) (rw o at e) in
     let k : _ = leave-keeps r (m .0) (f .0) (m .1) (f .1) in
-    (omega (arith, f .2, k .1, m .2), ap (λ (o : Outcome). isRoom limit n (o .left)) o ∙ ap₂ (isRoom limit) (f .2) (f .3) ∙ a-room limit (f .0) (k .0) (omega (arith, k .1, m .2, m .3)))
+    (omega (arith, f .2, k .1, m .2), ap (λ (o : Outcome). isRoom limit n (o .left)) o ∙ ap₂ (isRoom limit) (f .2) (f .3) ∙ rules-met limit (f .0) (k .0) (omega (arith, k .1, m .2, m .3)))
 
 pub enter-refused-keeps : (count n : ℕ) (s : List ℕ) (r : Record) → entered s count r .says ≡ refusedBy n → entered s count r .left ≡ s
 unfolding entered

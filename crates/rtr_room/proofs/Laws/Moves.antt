@@ -10,7 +10,7 @@ use borrow.Author.Tests.{eq-eqb, ne-eqb, le-leb, leb-true, leb-false}
 use lib.Dec.{leb, eqb}
 use lib.ListN.{length, take, drop, replicate, length-append, length-drop}
 use lib.Seq.{take-at, drop-at, drop-drop, length-take-le}
-use Rattle.rtr_room.specs.Table.{isIn, insert, remove, ordered, Change, enter, leave}
+use Rattle.rtr_room.specs.Table.{isIn, rank, insert, remove, ordered, Change, enter, leave}
 use Rattle.rtr_room.specs.Table.Change.{changed}
 use Rattle.rtr_room.specs.Room.{numbers, flat, room, limitOf, place, putIn, takeOut, lookUp, keeps, entered, gone, outcomeOf}
 use Rattle.rtr_room.specs.Room.Found.{standsAt, missingAt}
@@ -18,7 +18,7 @@ use Rattle.rtr_room.specs.Room.Said.{counted}
 use Rattle.rtr_room.specs.declared.Record.{Record}
 use Rattle.rtr_room.proofs.Laws.Tables.{insert-length, remove-length}
 use Rattle.rtr_room.proofs.Laws.Rooms.{flat-length, flat-append, take-flat, drop-flat, room-limit}
-use Rattle.rtr_room.proofs.Laws.Ranks.{rank, rank-within, insert-at-rank, remove-at-rank}
+use Rattle.rtr_room.proofs.Laws.Ranks.{rank-within, insert-at-rank, remove-at-rank}
 use Rattle.rtr_room.proofs.Laws.Places.{place-is-rank, stands-is-in}
 
 -- zeros of a room of `limit` records with `count` in use

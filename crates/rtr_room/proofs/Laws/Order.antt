@@ -1,52 +1,34 @@
 -- `before` is a strict total order on records, and `same` is equality. Keys are compared number by number, so each law of the order goes by
 -- the first number in which two keys differ; and a key has all of a record, since a first number is 65,536 times its family, 256 times its
 -- prefix length and its max. No number needs a bound. Assumes nothing.
-use Prim.Native.Nat.{ℕ, _<_, _+_, _*_, _/_, _%_}
-use mathlib.Core.Bool.{Bool, true, false, _&&_, true≢false, false≢true}
+use Prim.Native.Nat.{ℕ, _<_, _/_, _%_}
+use mathlib.Core.Bool.{Bool, true, false, _&&_, _||_, false≢true, or-false}
 use mathlib.Core.List.{List, [], _∷_}
 use mathlib.Core.Logic.{_↔_}
-use mathlib.Core.Path.{_≡_, refl, sym, _∙_}
+use mathlib.Core.Path.{_≡_, refl, sym, ap, _∙_}
 use native.Mathlib.Omega.{arith}
-use native.Mathlib.Nat.{div-div-eq-div-mul}
 use borrow.Author.Tests.{ltb-true, ltb-false, eqb-true, lt-ltb, le-ltb, eq-eqb, ne-eqb}
 use lib.Dec.{ltb, eqb}
 use lib.ListN.{length}
 use Rattle.rtr_room.specs.Table.{familyOf, prefixOf, maxOf, key, lower, before, same}
 use Rattle.rtr_room.specs.declared.Record.{Record}
+use Rattle.rtr_room.proofs.Laws.Tests.{first-of, second-of, not-both, unless}
+use Rattle.rtr_room.proofs.Laws.Records.{record-is, kind-is}
 
--- what a passed conjunction says
-pub first-of : (a b : Bool) → a && b ≡ true → a ≡ true
-first-of true b e = refl
-first-of false b e = e
+-- keys that differ in their first number, and that do not
+pub differs : (x y : ℕ) (xs ys : List ℕ) → (x ≡ y → ⊥) → ltb x y ≡ lower (x ∷ xs) (y ∷ ys)
+unfolding lower
+differs x y xs ys h = sym (or-false (ltb x y)) ∙ sym (ap (λ (b : Bool). ltb x y || (b && lower xs ys)) (ne-eqb x y h))
 
-pub second-of : (a b : Bool) → a && b ≡ true → b ≡ true
-second-of true b e = e
-second-of false b e = absurd (false≢true e)
+pub agrees : (x y : ℕ) (xs ys : List ℕ) → x ≡ y → lower xs ys ≡ lower (x ∷ xs) (y ∷ ys)
+unfolding lower
+agrees x y xs ys h = rw (le-ltb x y (omega arith), eq-eqb x y h)
 
-pub both : (a b : Bool) → a ≡ true → b ≡ true → a && b ≡ true
-both true b p q = q
-both false b p q = p
-
--- a test is not both
-pub not-both : (b : Bool) → b ≡ true → b ≡ false → ⊥
-not-both b p q = true≢false (sym p ∙ q)
-
-pub unless : (b : Bool) → (b ≡ true → ⊥) → b ≡ false
-unless true h = absurd (h refl)
-unless false h = refl
-
--- two keys that differ at the first number, and that do not
 lower-here : (x y : ℕ) (xs ys : List ℕ) → x < y → lower (x ∷ xs) (y ∷ ys) ≡ true
-unfolding lower
-lower-here x y xs ys h = rw (lt-ltb x y h)
-
-lower-there : (x y : ℕ) (xs ys : List ℕ) → x ≡ y → lower (x ∷ xs) (y ∷ ys) ≡ lower xs ys
-unfolding lower
-lower-there x y xs ys e = rw (le-ltb x y (omega arith), eq-eqb x y e)
+lower-here x y xs ys h = sym (differs x y xs ys (λ e. omega arith)) ∙ lt-ltb x y h
 
 lower-above : (x y : ℕ) (xs ys : List ℕ) → y < x → lower (x ∷ xs) (y ∷ ys) ≡ false
-unfolding lower
-lower-above x y xs ys h = rw (le-ltb x y (omega arith), ne-eqb x y (omega arith))
+lower-above x y xs ys h = sym (differs x y xs ys (λ e. omega arith)) ∙ le-ltb x y (omega arith)
 
 -- numbers are below, equal or above
 data Three (x y : ℕ) : Type 0 where
@@ -65,7 +47,7 @@ three x y = go (ltb x y) refl (ltb y x) refl
 lower-irreflexive : (k : List ℕ) → lower k k ≡ false
 unfolding lower
 lower-irreflexive [] = refl
-lower-irreflexive (x ∷ k) = lower-there x x k k refl ∙ lower-irreflexive k
+lower-irreflexive (x ∷ k) = sym (agrees x x k k refl) ∙ lower-irreflexive k
 
 lower-transitive : (a b c : List ℕ) → lower a b ≡ true → lower b c ≡ true → lower a c ≡ true
 unfolding lower
@@ -79,7 +61,7 @@ lower-transitive (x ∷ xs) (y ∷ ys) (z ∷ zs) p q = go (three x y) (three y 
     go (below h) (equal k) rest = lower-here x z xs zs (omega arith)
     go (below h) (above k) rest = absurd (not-both _ q (lower-above y z ys zs k))
     go (equal h) (below k) rest = lower-here x z xs zs (omega arith)
-    go (equal h) (equal k) rest = lower-there x z xs zs (h ∙ k) ∙ rest (sym (lower-there x y xs ys h) ∙ p) (sym (lower-there y z ys zs k) ∙ q)
+    go (equal h) (equal k) rest = sym (agrees x z xs zs (h ∙ k)) ∙ rest (agrees x y xs ys h ∙ p) (agrees y z ys zs k ∙ q)
     go (equal h) (above k) rest = absurd (not-both _ q (lower-above y z ys zs k))
     go (above h) k rest = absurd (not-both _ p (lower-above x y xs ys h))
 
@@ -93,18 +75,11 @@ lower-total (x ∷ xs) (y ∷ ys) e p q = go (three x y) (lower-total xs ys (ome
     go : Three x y → (lower xs ys ≡ false → lower ys xs ≡ false → xs ≡ ys) → _≡_ {A = List ℕ} (x ∷ xs) (y ∷ ys)
     go (below h) rest = absurd (not-both _ (lower-here x y xs ys h) p)
     go (equal h) rest =
-        let t : xs ≡ ys = rest (sym (lower-there x y xs ys h) ∙ p) (sym (lower-there y x ys xs (sym h)) ∙ q) in
+        let t : xs ≡ ys = rest (agrees x y xs ys h ∙ p) (agrees y x ys xs (sym h) ∙ q) in
         cc
     go (above h) rest = absurd (not-both _ (lower-here y x ys xs h) q)
 
--- a record is its six numbers
-pub record-is : (a b : Record) → a .kind ≡ b .kind → a .w0 ≡ b .w0 → a .w1 ≡ b .w1 → a .w2 ≡ b .w2 → a .w3 ≡ b .w3 → a .asn ≡ b .asn → a ≡ b
-record-is a b p q r s t u = λ i. record { kind = p i; w0 = q i; w1 = r i; w2 = s i; w3 = t i; asn = u i }
-
--- a first number is made of family, prefix length and max
-kind-is : (k : ℕ) → k ≡ 65536 * (k / 65536) + 256 * (k / 256 % 256) + k % 256
-kind-is k = omega (arith, div-div-eq-div-mul k 256 256)
-
+-- two first numbers with the same parts are one, so a key has all of a record
 kind-determined : (j k : ℕ) → j / 65536 ≡ k / 65536 → j / 256 % 256 ≡ k / 256 % 256 → j % 256 ≡ k % 256 → j ≡ k
 kind-determined j k p q r = cc (kind-is j, kind-is k)
 

@@ -1,6 +1,6 @@
 -- Where bisection ends: where the records below p are before r and those from p on are not, halving keeps p within lo to hi, and ends with
 -- lo at p. In the room of an ordered table p is the rank. Assumes nothing.
-use Prim.Native.Nat.{ℕ, zero, suc, _+_, _-_, _/_, _<_, _≤_}
+use Prim.Native.Nat.{ℕ, zero, suc, _+_, _-_, _<_, _≤_}
 use mathlib.Core.Bool.{Bool, true, false, cond, _&&_}
 use mathlib.Core.List.{List}
 use mathlib.Core.Path.{_≡_, refl, _∙_}
@@ -8,12 +8,13 @@ use native.Mathlib.Omega.{arith}
 use borrow.Author.Tests.{ltb-true, ltb-false}
 use lib.Dec.{ltb}
 use lib.ListN.{length, getD}
-use Rattle.rtr_room.specs.Table.{before, same, isIn, ordered}
+use Rattle.rtr_room.specs.Table.{before, same, isIn, rank, ordered}
 use Rattle.rtr_room.specs.Room.{room, recordAt, bisect, place, stands}
 use Rattle.rtr_room.specs.declared.Record.{Record}
-use Rattle.rtr_room.proofs.Laws.Order.{not-both}
+use Rattle.rtr_room.proofs.Halving.{mid, met, halved}
+use Rattle.rtr_room.proofs.Laws.Tests.{not-both}
 use Rattle.rtr_room.proofs.Laws.Rooms.{record-of-room}
-use Rattle.rtr_room.proofs.Laws.Ranks.{rank, rank-within, before-rank, from-rank, only-at-rank, stands-at-rank}
+use Rattle.rtr_room.proofs.Laws.Ranks.{rank-within, before-rank, from-rank, only-at-rank, stands-at-rank}
 
 module _ (s : List ℕ) (r : Record) (p : ℕ) where
   abbrev Below : Type 0
@@ -42,18 +43,21 @@ module _ (s : List ℕ) (r : Record) (p : ℕ) where
       go false q = ltb-false i p q
 
   bisect-finds : Below → (fuel lo hi : ℕ) → From hi → lo ≤ p → p ≤ hi → hi - lo ≤ fuel → bisect fuel s r lo hi ≡ p
-  unfolding bisect
-  bisect-finds b zero lo hi f l h n = omega arith
-  bisect-finds b (suc fuel) lo hi f l h n = go (ltb lo hi) refl (before (recordAt s (lo + (hi - lo) / 2)) r) refl (bisect-finds b fuel)
+  bisect-finds b zero lo hi f l h n = omega (arith, met s r zero lo hi (omega arith))
+  bisect-finds b (suc fuel) lo hi f l h n = go (ltb lo hi) refl (before (recordAt s (mid lo hi)) r) refl (bisect-finds b fuel)
     where
-      go : (c : Bool) → ltb lo hi ≡ c → (d : Bool) → before (recordAt s (lo + (hi - lo) / 2)) r ≡ d → ((lo hi : ℕ) → From hi → lo ≤ p → p ≤ hi → hi - lo ≤ fuel → bisect fuel s r lo hi ≡ p) → cond c (cond d (bisect fuel s r (lo + (hi - lo) / 2 + 1) hi) (bisect fuel s r lo (lo + (hi - lo) / 2))) lo ≡ p
-      go false q d e rest = omega (arith, ltb-false lo hi q)
+      go : (c : Bool) → ltb lo hi ≡ c → (d : Bool) → before (recordAt s (mid lo hi)) r ≡ d → ((lo hi : ℕ) → From hi → lo ≤ p → p ≤ hi → hi - lo ≤ fuel → bisect fuel s r lo hi ≡ p) → bisect (suc fuel) s r lo hi ≡ p
+      go false q d e rest =
+          let k : hi ≤ lo = ltb-false lo hi q in
+          omega (arith, met s r (suc fuel) lo hi k)
       go true q true e rest =
-          let m : lo + (hi - lo) / 2 < p = side-before b hi (lo + (hi - lo) / 2) f (omega (arith, ltb-true lo hi q)) e in
-          rest (lo + (hi - lo) / 2 + 1) hi f (omega arith) h (omega (arith, ltb-true lo hi q))
+          let k : lo < hi = ltb-true lo hi q in
+          let m : mid lo hi < p = side-before b hi (mid lo hi) f (omega arith) e in
+          rw (halved s r fuel lo hi k, e) (rest (mid lo hi + 1) hi f (omega arith) h (omega arith))
       go true q false e rest =
-          let m : p ≤ lo + (hi - lo) / 2 = side-from b (lo + (hi - lo) / 2) e in
-          rest lo (lo + (hi - lo) / 2) (λ i j k. f i j (omega (arith, ltb-true lo hi q))) l m (omega (arith, ltb-true lo hi q))
+          let k : lo < hi = ltb-true lo hi q in
+          let m : p ≤ mid lo hi = side-from b (mid lo hi) e in
+          rw (halved s r fuel lo hi k, e) (rest lo (mid lo hi) (λ i j k′. f i j (omega arith)) l m (omega arith))
 
   place-finds : Below → (count : ℕ) → From count → Once count → p ≤ count → place s count r ≡ p
   unfolding place

@@ -9,16 +9,12 @@ use native.Mathlib.Omega.{arith}
 use borrow.Author.Tests.{lt-ltb, le-ltb}
 use lib.Dec.{ltb, leb·suc-suc}
 use lib.ListN.{length, getD, take, drop}
-use Rattle.rtr_room.specs.Table.{before, same, isIn, insert, remove, ordered}
+use Rattle.rtr_room.specs.Table.{before, same, isIn, rank, insert, remove, ordered}
 use Rattle.rtr_room.specs.declared.Record.{Record}
-use Rattle.rtr_room.proofs.Laws.Order.{not-both, unless, before-transitive, before-not-same, after-not-same, before-asymmetric, before-irreflexive, same-is-equal, Sides, sides}
+use Rattle.rtr_room.proofs.Laws.Tests.{not-both, unless}
+use Rattle.rtr_room.proofs.Laws.Order.{before-transitive, before-not-same, after-not-same, before-asymmetric, before-irreflexive, same-is-equal, Sides, sides}
 use Rattle.rtr_room.proofs.Laws.Order.Sides.{before-it, the-same, behind-it}
 use Rattle.rtr_room.proofs.Laws.Tables.{ordered-above, ordered-tail, first-before}
-
--- how many records of a table are before r
-unfoldable pub rank : Record → List Record → ℕ
-rank r [] = 0
-rank r (x ∷ t) = cond (before x r) (suc (rank r t)) (rank r t)
 
 rank-behind : (r x : Record) (t : List Record) → before x r ≡ true → rank r (x ∷ t) ≡ suc (rank r t)
 unfolding rank

@@ -12,10 +12,12 @@ use borrow.Author.Tests.{leb-true, eqb-true, le-leb, eq-eqb}
 use lib.Dec.{leb, eqb}
 use lib.ListN.{length, getD, take, drop, replicate, length-append, length-drop, length-replicate, take-append-drop}
 use lib.Seq.{take-at, drop-at, drop-cons, getD-drop, length-take-le}
-use Rattle.rtr_room.specs.Table.{inRule, allInRule, ordered, isTable}
+use Rattle.rtr_room.specs.Table.{inRule, allInRule, isTable}
 use Rattle.rtr_room.specs.Room.{numbers, flat, room, recordFrom, recordAt, records, allZero, isRoom, limitOf, copied, copySays}
 use Rattle.rtr_room.specs.declared.Record.{Record}
-use Rattle.rtr_room.proofs.Laws.Order.{first-of, second-of, both, record-is}
+use Rattle.rtr_room.proofs.Laws.Tests.{first-of, second-of, both}
+use Rattle.rtr_room.proofs.Laws.Records.{record-is}
+use Rattle.rtr_room.proofs.Laws.Tables.{empty-table}
 
 -- the numbers of a table
 pub flat-length : (t : List Record) → length (flat t) ≡ 6 * length t
@@ -67,7 +69,8 @@ unfolding records
 records-length zero s = refl
 records-length (suc n) s = ap suc (records-length n (drop 6 s))
 
-from-drop : (s : List ℕ) (at : ℕ) → recordFrom s at ≡ recordFrom (drop at s) 0
+-- a record from a place on is the first one of what stands from there on
+pub from-drop : (s : List ℕ) (at : ℕ) → recordFrom s at ≡ recordFrom (drop at s) 0
 from-drop s at =
     record-is _ _
     (sym (getD-drop at s 0 0 ∙ ap (λ (n : ℕ). getD s n 0) (omega arith)))
@@ -165,7 +168,7 @@ room-spare : (limit : ℕ) (t : List Record) → allZero (drop (6 * length t) (r
 unfolding room
 room-spare limit t = rw (drop-at (flat t) (replicate (6 * limit - 6 * length t) 0) (6 * length t) (flat-length t)) (zeros-are-zero (6 * limit - 6 * length t))
 
-rules-met : (limit : ℕ) (t : List Record) → isTable t ≡ true → length t ≤ limit → isRoom limit (length t) (room limit t) ≡ true
+pub rules-met : (limit : ℕ) (t : List Record) → isTable t ≡ true → length t ≤ limit → isRoom limit (length t) (room limit t) ≡ true
 unfolding isRoom
 rules-met limit t h l =
     both _ _ (eq-eqb _ _ (room-length limit t l))
@@ -178,10 +181,6 @@ rules-exactly limit count s = (rules-read limit count s, λ m. rw (m .4, ← (m 
 empty-room : (limit : ℕ) → replicate (6 * limit) 0 ≡ room limit []
 unfolding room flat
 empty-room limit = let e : 6 * limit - 6 * 0 ≡ 6 * limit = omega arith in rw e
-
-empty-table : isTable [] ≡ true
-unfolding allInRule ordered
-empty-table = refl
 
 pub empty-is : (limit : ℕ) → (replicate (6 * limit) 0 ≡ room limit []) × (isRoom limit 0 (replicate (6 * limit) 0) ≡ true)
 empty-is limit = let e : replicate (6 * limit) 0 ≡ room limit [] = empty-room limit in (e, rw e (rules-met limit [] (empty-table) (omega arith)))

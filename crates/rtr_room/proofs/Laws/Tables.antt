@@ -12,8 +12,13 @@ use lib.ListN.{length}
 use Rattle.rtr_room.specs.Table.{before, same, isIn, insert, remove, inRule, above, ordered, allInRule, isTable, enter, leave}
 use Rattle.rtr_room.specs.Table.Change.{changed, refused}
 use Rattle.rtr_room.specs.declared.Record.{Record}
-use Rattle.rtr_room.proofs.Laws.Order.{first-of, second-of, both, not-both, unless, before-irreflexive, before-transitive, before-asymmetric, same-is-equal, before-not-same, after-not-same, Sides, sides}
+use Rattle.rtr_room.proofs.Laws.Tests.{first-of, second-of, both, not-both, unless}
+use Rattle.rtr_room.proofs.Laws.Order.{before-irreflexive, before-transitive, before-asymmetric, same-is-equal, before-not-same, after-not-same, Sides, sides}
 use Rattle.rtr_room.proofs.Laws.Order.Sides.{before-it, the-same, behind-it}
+
+pub empty-table : isTable [] ≡ true
+unfolding allInRule ordered
+empty-table = refl
 
 -- the parts of an ordered list
 pub ordered-above : (x : Record) (t : List Record) → ordered (x ∷ t) ≡ true → above x t ≡ true

@@ -1,7 +1,8 @@
 -- `is_before` compares number by number: the first that differs decides, and those before it agree. Assumes nothing.
 use mathlib.Core.Path.{_∙_}
 use Rattle.rtr_room.specs.Table.{before}
-use Rattle.rtr_room.proofs.Order.{differs, agrees, kind-differs, kind-agrees, only-last}
+use Rattle.rtr_room.proofs.Laws.Order.{differs, agrees}
+use Rattle.rtr_room.proofs.Order.{kind-differs, kind-agrees, only-last}
 use Rattle.rtr_room.proofs.is_before.Statement.{statement}
 use Rattle.rtr_room.proofs.is_before.Tie as tie
 

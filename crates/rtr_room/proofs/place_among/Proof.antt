@@ -1,12 +1,14 @@
 -- `place_among`: halving between the ends that are left comes to what it comes to between the first two, and the ends stay in order. The
 -- measure is their distance. Assumes nothing.
 use Prim.Native.Nat.{_-_, _≤_}
+use mathlib.Core.Bool.{true, false}
 use mathlib.Core.Path.{_≡_, refl, sym, _∙_}
 use native.Mathlib.Omega.{arith}
 use denote.Ref.{now}
 use Rattle.rtr_room.specs.Table.{before}
 use Rattle.rtr_room.specs.Room.{bisect}
-use Rattle.rtr_room.proofs.Places.{met, upper, lesser, told}
+use Rattle.rtr_room.proofs.Halving.{met, turn}
+use Rattle.rtr_room.proofs.Places.{told}
 use Rattle.rtr_room.proofs.place_among.Statement.{statement}
 use Rattle.rtr_room.proofs.place_among.Tie as tie
 
@@ -41,7 +43,7 @@ loop-again : tie.Need-loop-again Inv-loop μ-loop
 loop-again c =
     let a = c .before .before .before .before .before .before .args in
     let at-loop = c .before .before .before .before .loop in (
-      upper (now (a .room)) (a .r) (a .end) (at-loop .lo) (at-loop .hi) (c .before .before .before .loop-test .taken) (omega arith)
+      turn (now (a .room)) (a .r) (a .end) (at-loop .lo) (at-loop .hi) (c .before .before .before .loop-test .taken) (omega arith) true
           (told (λ x. before x (a .r)) _ _ _ (c .before .before .record-at .ensures) (c .before .is-before .ensures) ∙ c .if1 .taken)
           ∙ at-loop .inv .0,
       omega arith,
@@ -55,7 +57,7 @@ loop-again-2 : tie.Need-loop-again-2 Inv-loop μ-loop
 loop-again-2 c =
     let a = c .before .before .before .before .before .before .args in
     let at-loop = c .before .before .before .before .loop in (
-      lesser (now (a .room)) (a .r) (a .end) (at-loop .lo) (at-loop .hi) (c .before .before .before .loop-test .taken) (omega arith)
+      turn (now (a .room)) (a .r) (a .end) (at-loop .lo) (at-loop .hi) (c .before .before .before .loop-test .taken) (omega arith) false
           (told (λ x. before x (a .r)) _ _ _ (c .before .before .record-at .ensures) (c .before .is-before .ensures) ∙ c .if1 .left)
           ∙ at-loop .inv .0,
       omega arith,

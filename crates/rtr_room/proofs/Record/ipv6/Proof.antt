@@ -3,11 +3,11 @@ use borrow.Author.Needs.{needs}
 use Rattle.rtr_room.proofs.Record.ipv6.Statement.{statement}
 use Rattle.rtr_room.proofs.Record.ipv6.Tie as tie
 
-packed-requires : tie.Need-packed-requires
-packed-requires c κs = search needs
+pack-requires : tie.Need-pack-requires
+pack-requires c κs = search needs
 
 returns : tie.Need-returns
 returns c = cc
 
 pub ipv6-spec : {M : Type 1} → statement M
-ipv6-spec = tie.close (tie.spec packed-requires returns)
+ipv6-spec = tie.close (tie.spec pack-requires returns)
