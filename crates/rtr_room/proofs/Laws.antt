@@ -1,0 +1,179 @@
+-- What a room is, and what its calls do, over any limit: a table is a set of records in order, a room is its table, and the calls on the room
+-- of a table are the table's own. The argument is in the files beside this one. Assumes nothing.
+pub mod Tests
+pub mod Records
+pub mod Order
+pub mod Tables
+pub mod Ranks
+pub mod Rooms
+pub mod Places
+pub mod Moves
+pub mod Kept
+use Prim.Native.Nat.{ℕ, suc, _*_, _<_, _≤_}
+use mathlib.Core.Bool.{true, false, cond, not, _&&_, _||_}
+use mathlib.Core.List.{List, []}
+use mathlib.Core.Logic.{_↔_}
+use mathlib.Core.Path.{_≡_}
+use lib.Dec.{leb}
+use lib.ListN.{length, getD, replicate}
+use Rattle.rtr_room.specs.Table.{packed, ipv4Record, ipv6Record, familyOf, prefixOf, maxOf, before, same, inRule, ordered, isTable, isIn, rank, insert, remove, enter, leave}
+use Rattle.rtr_room.specs.Table.Change.{changed}
+use Rattle.rtr_room.specs.Room.{room, recordAt, records, isRoom, limitOf, place, stands, lookUp, entered, gone, outcomeOf, copied, copySays}
+use Rattle.rtr_room.specs.Room.Found.{standsAt, missingAt}
+use Rattle.rtr_room.specs.Room.Said.{counted, refusedBy}
+use Rattle.rtr_room.specs.declared.Record.{Record}
+use Rattle.rtr_room.proofs.Laws.Records as made
+use Rattle.rtr_room.proofs.Laws.Order as order
+use Rattle.rtr_room.proofs.Laws.Tables as tables
+use Rattle.rtr_room.proofs.Laws.Rooms as rooms
+use Rattle.rtr_room.proofs.Laws.Places as places
+use Rattle.rtr_room.proofs.Laws.Moves as moves
+use Rattle.rtr_room.proofs.Laws.Kept as kept
+
+-- a first number is family x 65,536 + prefix length x 256 + max
+pub kind-is : (r : Record) → r .kind ≡ packed (familyOf r) (prefixOf r) (maxOf r)
+kind-is r = made.kind-is (r .kind)
+
+-- a made IPv4 record has the parts that were given
+pub ipv4-parts : (length max : ℕ) → length < 256 → max < 256 → (address asn : ℕ) → (familyOf (ipv4Record length max address asn) ≡ 4) × (prefixOf (ipv4Record length max address asn) ≡ length) × (maxOf (ipv4Record length max address asn) ≡ max)
+ipv4-parts = made.ipv4-parts
+
+-- and is in rule exactly where prefix length ≤ max ≤ 32
+pub ipv4-in-rule : (length max : ℕ) → length < 256 → max < 256 → (address asn : ℕ) → inRule (ipv4Record length max address asn) ≡ (leb length max && leb max 32)
+ipv4-in-rule = made.ipv4-in-rule
+
+-- a made IPv6 record has the parts that were given
+pub ipv6-parts : (length max : ℕ) → length < 256 → max < 256 → (w0 w1 w2 w3 asn : ℕ) → (familyOf (ipv6Record length max w0 w1 w2 w3 asn) ≡ 6) × (prefixOf (ipv6Record length max w0 w1 w2 w3 asn) ≡ length) × (maxOf (ipv6Record length max w0 w1 w2 w3 asn) ≡ max)
+ipv6-parts = made.ipv6-parts
+
+-- and is in rule exactly where prefix length ≤ max ≤ 128
+pub ipv6-in-rule : (length max : ℕ) → length < 256 → max < 256 → (w0 w1 w2 w3 asn : ℕ) → inRule (ipv6Record length max w0 w1 w2 w3 asn) ≡ (leb length max && leb max 128)
+ipv6-in-rule = made.ipv6-in-rule
+
+-- a record in rule of family 4 is the IPv4 record of its parts
+pub in-rule-four : (r : Record) → inRule r ≡ true → familyOf r ≡ 4 → r ≡ ipv4Record (prefixOf r) (maxOf r) (r .w0) (r .asn)
+in-rule-four = made.in-rule-four
+
+-- a record of family 6 is the IPv6 record of its parts
+pub of-family-six : (r : Record) → familyOf r ≡ 6 → r ≡ ipv6Record (prefixOf r) (maxOf r) (r .w0) (r .w1) (r .w2) (r .w3) (r .asn)
+of-family-six = made.of-family-six
+
+-- no record is before itself
+pub before-irreflexive : (a : Record) → before a a ≡ false
+before-irreflexive = order.before-irreflexive
+
+-- what is before a record is before all that the record is before
+pub before-transitive : (a b c : Record) → before a b ≡ true → before b c ≡ true → before a c ≡ true
+before-transitive = order.before-transitive
+
+-- two records of which neither is before the other are one
+pub before-total : (a b : Record) → before a b ≡ false → before b a ≡ false → a ≡ b
+before-total = order.before-total
+
+-- two records are the same exactly where they are equal
+pub same-is-equal : (a b : Record) → same a b ≡ true ↔ a ≡ b
+same-is-equal = order.same-is-equal
+
+-- a record that is not in goes in in order
+pub enter-keeps-order : (r : Record) (t : List Record) → ordered t ≡ true → isIn r t ≡ false → ordered (insert r t) ≡ true
+enter-keeps-order = tables.enter-keeps-order
+
+-- a record in rule that is not in makes a table of a table
+pub enter-keeps-rules : (r : Record) (t : List Record) → isTable t ≡ true → inRule r ≡ true → isIn r t ≡ false → isTable (insert r t) ≡ true
+enter-keeps-rules = tables.enter-keeps-rules
+
+-- a table without a record is a table
+pub leave-keeps-rules : (r : Record) (t : List Record) → isTable t ≡ true → isTable (remove r t) ≡ true
+leave-keeps-rules = tables.leave-keeps-rules
+
+-- entering makes a table of one record more, within the limit
+pub enter-keeps : (limit : ℕ) (r : Record) (t t′ : List Record) → isTable t ≡ true → inRule r ≡ true → enter limit r t ≡ changed t′ → (isTable t′ ≡ true) × (length t′ ≡ suc (length t)) × (length t′ ≤ limit)
+enter-keeps = tables.enter-keeps
+
+-- leaving makes a table of one record less
+pub leave-keeps : (r : Record) (t t′ : List Record) → isTable t ≡ true → leave r t ≡ changed t′ → (isTable t′ ≡ true) × (suc (length t′) ≡ length t)
+leave-keeps = tables.leave-keeps
+
+-- entering adds that record to the members, and no other
+pub enter-membership : (limit : ℕ) (r : Record) (t t′ : List Record) → enter limit r t ≡ changed t′ → (x : Record) → isIn x t′ ≡ (same r x || isIn x t)
+enter-membership = tables.enter-membership
+
+-- leaving takes that record from the members, and no other
+pub leave-membership : (r : Record) (t t′ : List Record) → ordered t ≡ true → leave r t ≡ changed t′ → (x : Record) → isIn x t′ ≡ (not (same r x) && isIn x t)
+leave-membership = tables.leave-membership
+
+-- two ordered tables with the same members are one: a table is its set
+pub tables-equal : (t u : List Record) → ordered t ≡ true → ordered u ≡ true → ((x : Record) → isIn x t ≡ isIn x u) → t ≡ u
+tables-equal = tables.tables-equal
+
+-- a room has six numbers for each record that it has room for
+pub room-length : (limit : ℕ) (t : List Record) → length t ≤ limit → length (room limit t) ≡ 6 * limit
+room-length = rooms.room-length
+
+-- so its numbers tell its limit
+pub room-limit : (limit : ℕ) (t : List Record) → length t ≤ limit → limitOf (room limit t) ≡ limit
+room-limit = rooms.room-limit
+
+-- the records read from a table's room are the table
+pub records-of-room : (limit : ℕ) (t : List Record) → records (length t) (room limit t) ≡ t
+records-of-room = rooms.records-of-room
+
+-- record i of a table's room is the table's
+pub record-of-room : (limit : ℕ) (t : List Record) (i : ℕ) (d : Record) → i < length t → recordAt (room limit t) i ≡ getD t i d
+record-of-room = rooms.record-of-room
+
+-- no two tables have one room
+pub room-determines : (limit : ℕ) (t u : List Record) → isTable t ≡ true → isTable u ≡ true → room limit t ≡ room limit u → t ≡ u
+room-determines = rooms.room-determines
+
+-- numbers keep the room rules exactly where they are the room of a table of that count, within the limit
+pub rules-exactly : (limit count : ℕ) (s : List ℕ) → isRoom limit count s ≡ true ↔ ((t : List Record) × (isTable t ≡ true) × (length t ≡ count) × (count ≤ limit) × (s ≡ room limit t))
+rules-exactly = rooms.rules-exactly
+
+-- bisection finds how many records of an ordered table are before r
+pub place-is-rank : (limit : ℕ) (t : List Record) → ordered t ≡ true → (r : Record) → place (room limit t) (length t) r ≡ rank r t
+place-is-rank = places.place-is-rank
+
+-- a record stands at its place exactly where it is in the table
+pub stands-is-in : (limit : ℕ) (t : List Record) → ordered t ≡ true → (r : Record) → stands (room limit t) (length t) r ≡ isIn r t
+stands-is-in = places.stands-is-in
+
+-- a look-up in the room of a table finds the record's rank, and whether it is in
+pub look-up-is : (limit : ℕ) (r : Record) (t : List Record) → ordered t ≡ true → length t ≤ limit → lookUp (room limit t) (length t) r ≡ cond (isIn r t) (standsAt (rank r t)) (missingAt (rank r t))
+look-up-is = moves.look-up-is
+
+-- entering into the room of a table is entering into the table
+pub enter-is : (limit : ℕ) (r : Record) (t : List Record) → ordered t ≡ true → length t ≤ limit → entered (room limit t) (length t) r ≡ outcomeOf limit t (enter limit r t)
+enter-is = moves.enter-is
+
+-- leaving the room of a table is leaving the table
+pub leave-is : (limit : ℕ) (r : Record) (t : List Record) → ordered t ≡ true → length t ≤ limit → gone (room limit t) (length t) r ≡ outcomeOf limit t (leave r t)
+leave-is = moves.leave-is
+
+-- zeros are the room of the empty table, and keep the rules
+pub empty-is : (limit : ℕ) → (replicate (6 * limit) 0 ≡ room limit []) × (isRoom limit 0 (replicate (6 * limit) 0) ≡ true)
+empty-is = rooms.empty-is
+
+-- a room copied over any numbers of its size is that room
+pub copy-over : (limit : ℕ) (t : List Record) (s : List ℕ) → length t ≤ limit → length s ≡ 6 * limit → (copied (room limit t) s ≡ room limit t) × (copySays (room limit t) s ≡ 0)
+copy-over = rooms.copy-over
+
+-- of two rooms of one limit, the first copied over the second is the first
+pub copy-is : (limit : ℕ) (t u : List Record) → length t ≤ limit → length u ≤ limit → (copied (room limit t) (room limit u) ≡ room limit t) × (copySays (room limit t) (room limit u) ≡ 0)
+copy-is limit t u h k = rooms.copy-over limit t (room limit u) h (rooms.room-length limit u k)
+
+-- numbers that keep the room rules keep them, with one record more, where a record in rule is entered
+pub enter-keeps-room : (limit count n : ℕ) (s : List ℕ) (r : Record) → isRoom limit count s ≡ true → inRule r ≡ true → entered s count r .says ≡ counted n → (n ≡ suc count) × (isRoom limit n (entered s count r .left) ≡ true)
+enter-keeps-room = kept.enter-keeps-room
+
+-- and with one record less where a record leaves
+pub leave-keeps-room : (limit count n : ℕ) (s : List ℕ) (r : Record) → isRoom limit count s ≡ true → gone s count r .says ≡ counted n → (suc n ≡ count) × (isRoom limit n (gone s count r .left) ≡ true)
+leave-keeps-room = kept.leave-keeps-room
+
+-- a refusal to enter leaves any numbers as they were
+pub enter-refused-keeps : (count n : ℕ) (s : List ℕ) (r : Record) → entered s count r .says ≡ refusedBy n → entered s count r .left ≡ s
+enter-refused-keeps = kept.enter-refused-keeps
+
+-- and so does a refusal to leave
+pub leave-refused-keeps : (count n : ℕ) (s : List ℕ) (r : Record) → gone s count r .says ≡ refusedBy n → gone s count r .left ≡ s
+leave-refused-keeps = kept.leave-refused-keeps
