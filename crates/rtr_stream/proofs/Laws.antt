@@ -93,6 +93,34 @@ module _ (R : Reading) (H : ℕ) where
       go (whole pdu) i = (omega arith, omega arith)
       go (refused number values) i = (omega arith, omega arith)
 
+  -- a PDU or a refusal takes a byte at least
+  pub search-moves : (p : List ℕ) (at : ℕ) (s : List ℕ) → (searchFrom R H at s p .end ≡ End.more → ⊥) → at < searchFrom R H at s p .next
+  unfolding searchFrom
+  search-moves [] at s h = absurd (h refl)
+  search-moves (b ∷ p) at s h = go (search-moves p (at + 1) (s ++ b ∷ [])) (judge R H (s ++ b ∷ [])) h
+    where
+      go : ((searchFrom R H (at + 1) (s ++ b ∷ []) p .end ≡ End.more → ⊥) → at + 1 < searchFrom R H (at + 1) (s ++ b ∷ []) p .next) →
+          (h : Heard) →
+          (over (at + 1) (s ++ b ∷ []) h (searchFrom R H (at + 1) (s ++ b ∷ []) p) .end ≡ End.more → ⊥) →
+          at < over (at + 1) (s ++ b ∷ []) h (searchFrom R H (at + 1) (s ++ b ∷ []) p) .next
+      go later waits h = omega (arith, later h)
+      go later (whole pdu) h = omega arith
+      go later (refused number values) h = omega arith
+
+  -- the wish for more has taken the whole piece
+  pub search-all : (p : List ℕ) (at : ℕ) (s : List ℕ) → searchFrom R H at s p .end ≡ End.more → searchFrom R H at s p .next ≡ at + length p
+  unfolding searchFrom
+  search-all [] at s e = omega arith
+  search-all (b ∷ p) at s e = go (search-all p (at + 1) (s ++ b ∷ [])) (judge R H (s ++ b ∷ [])) e
+    where
+      go : (searchFrom R H (at + 1) (s ++ b ∷ []) p .end ≡ End.more → searchFrom R H (at + 1) (s ++ b ∷ []) p .next ≡ at + 1 + length p) →
+          (h : Heard) →
+          over (at + 1) (s ++ b ∷ []) h (searchFrom R H (at + 1) (s ++ b ∷ []) p) .end ≡ End.more →
+          over (at + 1) (s ++ b ∷ []) h (searchFrom R H (at + 1) (s ++ b ∷ []) p) .next ≡ at + suc (length p)
+      go later waits e = omega (arith, later e)
+      go later (whole pdu) e = absurd (let z : _≡_ {A = ℕ} 0 1 = cc in omega arith)
+      go later (refused number values) e = absurd (let z : _≡_ {A = ℕ} 0 1 = cc in omega arith)
+
   -- what it leaves held waits
   pub search-waits : (p : List ℕ) (at : ℕ) (s : List ℕ) → judge R H s ≡ waits → judge R H (searchFrom R H at s p .held) ≡ waits
   unfolding searchFrom

@@ -18,7 +18,9 @@ use Rattle.rtr_stream.specs.declared.StreamError.{StreamError}
 use Rattle.rtr_stream.specs.declared.StreamAnswer.{StreamAnswer}
 use Rattle.rtr_stream.specs.declared.Searched.{Searched}
 use Rattle.rtr_stream.proofs.search.Reads as search-reads
+use Rattle.rtr_stream.proofs.is_stream.Reads as is-stream-reads
 use Rattle.rtr_stream.proofs.Stream.new.Reads as new-reads
+use Rattle.rtr_stream.proofs.StreamError.number.Reads as number-reads
 
 -- the answer that has a read's number and values
 answered : ReadAnswer → StreamAnswer
@@ -72,3 +74,9 @@ search-unique κs a r r′ s s′ p q = one-held r r′ (now (s .0)) (now (s′ 
 
 pub stream-new-unique : (κs : _) (a : _) (r r′ : _) (s s′ : _) → new-reads.Post κs a r s → new-reads.Post κs a r′ s′ → r ≡ r′
 stream-new-unique κs a r r′ s s′ p q = only-this r r′ _ p q
+
+pub is-stream-unique : (κs : _) (a : _) (r r′ : _) (s s′ : _) → is-stream-reads.Post κs a r s → is-stream-reads.Post κs a r′ s′ → r ≡ r′
+is-stream-unique κs a r r′ s s′ p q = only-this r r′ _ p q
+
+pub stream-error-number-unique : (κs : _) (a : _) (r r′ : _) (s s′ : _) → number-reads.Post κs a r s → number-reads.Post κs a r′ s′ → r ≡ r′
+stream-error-number-unique κs a r r′ s s′ p q = only-this r r′ _ p q

@@ -12,9 +12,10 @@ ghost use mathlib.Core.Path.{_≡_};
 ghost use Prim.Native.Nat.{_+_, _-_, _≤_, _<_};
 ghost use lib.ListN.{length, take, drop, getD};
 ghost use Rattle.rtr_codec.specs.Reading.{crate};
+ghost use Rattle.rtr_codec.specs.Answers.{numberOf};
 ghost use Rattle.rtr_stream.specs.Stream.{judge};
 ghost use Rattle.rtr_stream.specs.Stream.Heard.{waits};
-ghost use Rattle.rtr_stream.specs.Search.{isStream, search, searchSaid};
+ghost use Rattle.rtr_stream.specs.Search.{isStream, search, searchSaid, streamRefusal};
 ghost use Rattle.rtr_stream.specs.Turns.{LengthTested, Turned, ReadHere, HeaderHere};
 
 // The longest PDU that is listened to: an Error Report with a copy and a text of 65,535 bytes each.
@@ -37,6 +38,18 @@ impl Stream {
 pub enum StreamError {
     Read(RtrError),
     OverHold { length: u32 },
+}
+
+impl StreamError {
+    // Document 01's number of it.
+    pub fn number(self) -> u8
+        ensures { λ r. ⌜ r ≡ numberOf (streamRefusal self) ⌝ }
+    {
+        match self {
+            StreamError::Read(error) => error.number(),
+            StreamError::OverHold { length: _ } => 12,
+        }
+    }
 }
 
 // Where the bytes of a PDU lie that was found; its own places count from there.
@@ -102,8 +115,9 @@ fn test_length(length: u32, pdu_type: u8, hold_len: usize) -> LengthTest
     LengthTest::Fits
 }
 
-// What is held waits: its header, if it is in, passes the test and names more than is held.
-fn is_stream(hold: &[u8], held: usize) -> bool
+// Whether a hold and a count make a stream: 8 bytes or more, no more held than it has, and what is held waits, that is, its header, if it is in,
+// passes the test and names more than is held.
+pub fn is_stream(hold: &[u8], held: usize) -> bool
     ensures { λ r. ⌜ r ≡ isStream (now (hold .entry)) held ⌝ }
 {
     if hold.len() < 8 {
