@@ -1,19 +1,19 @@
 -- The smallest slice of each departure, read both ways, and one slice of its kind to which it does not apply: docs/DIFFERENCES.md has them in
--- hex. Each is computed. Assumes nothing.
+-- hex. Then document 01's edges of reading, which rtr_edges cites. Each is computed. Assumes nothing.
 use Prim.Native.Nat.{ℕ}
 use mathlib.Core.Bool.{true, false}
 use mathlib.Core.List.{List, [], _∷_}
 use mathlib.Core.Path.{_≡_, refl}
-use lib.ListN.{drop}
+use lib.ListN.{drop, replicate}
 use Rattle.rtr_text.proofs.Laws.{empty-is-well-formed}
 use Rattle.rtr_models.specs.declared.RtrProtocolVersion.the-variants.{V0, V1}
 use Rattle.rtr_models.specs.declared.RtrErrorCode.the-variants.{CorruptData, UnexpectedProtocolVersion}
-use Rattle.rtr_models.specs.declared.RtrPdu.the-variants.{RouterKey, ErrorReport}
+use Rattle.rtr_models.specs.declared.RtrPdu.the-variants.{ResetQuery, RouterKey, ErrorReport}
 use Rattle.rtr_codec.specs.Bytes.{number}
 use Rattle.rtr_codec.specs.Reading.{rfc, crate}
 use Rattle.rtr_codec.specs.Departures.{applies}
 use Rattle.rtr_codec.specs.Departures.Departure.{codeEightInV0, bytesBehindText, keyByCrate}
-use Rattle.rtr_codec.specs.Read.{headerLength, readRouterKey, readText, readEncapsulated, readCode, readErrorReport, readAs, readTyped, readVersioned, read}
+use Rattle.rtr_codec.specs.Read.{headerLength, readResetQuery, readRouterKey, readText, readEncapsulated, readCode, readErrorReport, readAs, readTyped, readVersioned, read}
 use Rattle.rtr_codec.specs.Read.Verdict.{accepted, refused}
 
 -- a version 0 report of code 8, with nothing in it
@@ -83,3 +83,52 @@ pub departures-spare
     : (applies codeEightInV0 (1 ∷ drop 1 reportOfEight) ≡ false) × (applies bytesBehindText reportOfEight ≡ false) × (applies keyByCrate (0 ∷ drop 1 bareKey) ≡ false)
 unfolding number headerLength applies
 departures-spare = (refl, refl, refl)
+
+-- Document 01, Either side of each edge: the lines for reading
+
+pub nothing-read : read crate [] ≡ refused 1 (0 ∷ 8 ∷ [])
+unfolding read
+nothing-read = refl
+
+pub query-read : read crate (0x01 ∷ 0x02 ∷ 0x00 ∷ 0x00 ∷ 0x00 ∷ 0x00 ∷ 0x00 ∷ 0x08 ∷ []) ≡ accepted (ResetQuery (record { version = V1 })) 8
+unfolding number headerLength readResetQuery readAs readTyped readVersioned read
+query-read = refl
+
+pub query-of-no-length : read crate (0x01 ∷ 0x02 ∷ 0x00 ∷ 0x00 ∷ 0x00 ∷ 0x00 ∷ 0x00 ∷ 0x00 ∷ []) ≡ refused 4 (8 ∷ 0 ∷ 2 ∷ [])
+unfolding number headerLength readResetQuery readAs readTyped readVersioned read
+query-of-no-length = refl
+
+pub missing-before-version : read crate (0x09 ∷ 0x05 ∷ 0x00 ∷ 0x00 ∷ 0x00 ∷ 0x00 ∷ 0x00 ∷ 0x09 ∷ []) ≡ refused 1 (8 ∷ 9 ∷ [])
+unfolding number headerLength read
+missing-before-version = refl
+
+pub version-before-type : read crate (0x09 ∷ 0x05 ∷ 0x00 ∷ 0x00 ∷ 0x00 ∷ 0x00 ∷ 0x00 ∷ 0x08 ∷ []) ≡ refused 2 (9 ∷ [])
+unfolding number headerLength readVersioned read
+version-before-type = refl
+
+pub type-unknown-read : read crate (0x01 ∷ 0x05 ∷ 0x00 ∷ 0x00 ∷ 0x00 ∷ 0x00 ∷ 0x00 ∷ 0x08 ∷ []) ≡ refused 3 (5 ∷ [])
+unfolding number headerLength readTyped readVersioned read
+type-unknown-read = refl
+
+pub key-in-version-0 : read crate (0x00 ∷ 0x09 ∷ 0x00 ∷ 0x00 ∷ 0x00 ∷ 0x00 ∷ 0x00 ∷ 0x08 ∷ []) ≡ refused 5 []
+unfolding number headerLength readRouterKey readAs readTyped readVersioned read
+key-in-version-0 = refl
+
+pub code-nine : read crate (0x01 ∷ 0x0a ∷ 0x00 ∷ 0x09 ∷ 0x00 ∷ 0x00 ∷ 0x00 ∷ 0x10 ∷ replicate 8 0) ≡ refused 7 (9 ∷ [])
+unfolding number headerLength readCode readErrorReport readAs readTyped readVersioned read
+code-nine = refl
+
+pub copy-past-the-end
+    : read crate (0x01 ∷ 0x0a ∷ 0x00 ∷ 0x00 ∷ 0x00 ∷ 0x00 ∷ 0x00 ∷ 0x10 ∷ 0x00 ∷ 0x00 ∷ 0x00 ∷ 0x01 ∷ replicate 4 0) ≡ refused 4 (17 ∷ 16 ∷ 10 ∷ [])
+unfolding number headerLength readEncapsulated readCode readErrorReport readAs readTyped readVersioned read
+copy-past-the-end = refl
+
+-- a report about that Reset Query
+pub report-of-query : read crate
+    (0x01 ∷ 0x0a ∷ 0x00 ∷ 0x00 ∷ 0x00 ∷ 0x00 ∷ 0x00 ∷ 0x18 ∷ 0x00 ∷ 0x00 ∷ 0x00 ∷ 0x08
+    ∷ 0x01 ∷ 0x02 ∷ 0x00 ∷ 0x00 ∷ 0x00 ∷ 0x00 ∷ 0x00 ∷ 0x08 ∷ replicate 4 0)
+    ≡ accepted
+    (ErrorReport (record { version = V1; «error_code» = CorruptData; «erroneous_pdu» = record { start = 12; len = 8 }; «error_text» = record { start = 24; len = 0 } }))
+    24
+unfolding number headerLength readText readEncapsulated readCode readErrorReport readAs readTyped readVersioned read
+report-of-query = rw empty-is-well-formed refl

@@ -3,7 +3,7 @@
 // reading; no contract can say how long it takes.
 use rtr_models::*;
 ghost use mathlib.Core.Path.{_≡_};
-ghost use Prim.Native.Nat.{_+_, _≤_, _<_, _^_};
+ghost use Prim.Native.Nat.{_+_, _≤_, _<_};
 ghost use lib.ListN.{length};
 ghost use Rattle.rtr_codec.specs.Bytes.{number};
 ghost use Rattle.rtr_codec.specs.Reading.{crate};

@@ -1,13 +1,30 @@
--- Every line of the table holds, by computing it. Assumes nothing.
-use mathlib.Core.Path.{refl}
-use Rattle.rtr_text.specs.Utf8.{wellFormed, wellFormedUpTo, characters}
-use Rattle.rtr_codec.specs.Bytes.{number}
-use Rattle.rtr_codec.specs.Read.{headerLength, readResetQuery, readRouterKey, readText, readEncapsulated, readCode, readErrorReport, readAs, readTyped, readVersioned, read}
-use Rattle.rtr_encode.specs.Encode.{bytesOf, encodedLength, encoding, encodeSays, encode}
-use Rattle.rtr_walk.specs.Walk.{walkFrom, walk}
-use Rattle.rtr_edges.specs.Edges.{AllHold, edges}
+-- Every line of the table holds: each by the sample or the law of the floor that it is about. Assumes nothing.
+use mathlib.Core.Path.{_≡_, refl}
+use native.Mathlib.Omega.{arith}
+use lib.ListN.{drop}
+use Rattle.rtr_models.specs.declared.RtrProtocolVersion.the-variants.{V1}
+use Rattle.rtr_models.specs.declared.RtrPduType.{RtrPduType}
+use Rattle.rtr_models.specs.declared.RtrPdu.the-variants.{ResetQuery}
+use Rattle.rtr_codec.specs.Reading.{crate}
+use Rattle.rtr_codec.proofs.Samples.{nothing-read, query-read, query-of-no-length, missing-before-version, version-before-type, type-unknown-read, key-in-version-0, code-nine, copy-past-the-end, behind-in-crate, report-of-query}
+use Rattle.rtr_encode.proofs.Samples.{behind-not-written}
+use Rattle.rtr_walk.specs.Walk.{walk}
+use Rattle.rtr_walk.specs.Walk.End.{plain}
+use Rattle.rtr_walk.specs.Walk.WalkVerdict.{walked}
+use Rattle.rtr_walk.specs.Walk.AtLevel.{first, next}
+use Rattle.rtr_walk.proofs.Laws.{walk-exactly}
+use Rattle.rtr_edges.specs.Edges.{AllHold, reportOfQuery, edges}
+
+-- a report about a Reset Query: its level 1 is that query, which ends the walk
+query-at-level-1 : walk crate reportOfQuery ≡ walked 1 (plain RtrPduType.ResetQuery)
+query-at-level-1 =
+    walk-exactly crate reportOfQuery 1 (plain RtrPduType.ResetQuery) .1
+    (omega arith, (ResetQuery (record { version = V1 }), _, next (first report-of-query) refl query-read, refl))
+
+-- the lines from an unknown type on
+later-edges : AllHold (drop 5 edges)
+later-edges = (type-unknown-read, (key-in-version-0, (code-nine, (copy-past-the-end, (behind-in-crate, (rw behind-in-crate behind-not-written, (query-at-level-1, tt)))))))
 
 -- document 01's edges hold
 pub edges-hold : AllHold edges
-unfolding wellFormed wellFormedUpTo characters number headerLength readResetQuery readRouterKey readText readEncapsulated readCode readErrorReport readAs readTyped readVersioned read bytesOf encodedLength encoding encodeSays encode walkFrom walk
-edges-hold = (refl, (refl, (refl, (refl, (refl, (refl, (refl, (refl, (refl, (refl, (refl, (refl, tt))))))))))))
+edges-hold = (nothing-read, (query-read, (query-of-no-length, (missing-before-version, (version-before-type, later-edges)))))

@@ -37,7 +37,7 @@ abbrev pub AllHold : List Edge → Type 0
 AllHold [] = Unit {0}
 AllHold (e ∷ es) = Holds e × AllHold es
 
--- a report of 17 bytes with nothing in it but the byte behind its text
+-- a report of 17 bytes with nothing in it but the byte behind its text (rtr_codec's Samples.antt has it too: specs import no proofs)
 abbrev pub byteBehind : List ℕ
 byteBehind = 0x01 ∷ 0x0a ∷ 0x00 ∷ 0x00 ∷ 0x00 ∷ 0x00 ∷ 0x00 ∷ 0x11 ∷ replicate 8 0 ++ (0xff ∷ [])
 

@@ -1,7 +1,8 @@
--- `Laws`, `Departs` and `Unique` are for readers and other crates; the others are the argument.
+-- `Laws`, `Departs`, `Unique` and `Samples` are for readers and other crates; the others are the argument.
 pub mod Laws
 pub mod Departs
 pub mod Unique
+pub mod Samples
 mod Overs
 mod Written
 mod Payloads

@@ -1,6 +1,6 @@
 -- Stores one behind the other are one store of all their bytes: `over-over`. From there a run of stores from the front is
 -- `over out 0 bytes`, which is the bytes and then what stood behind them. Assumes nothing.
-use Prim.Native.Nat.{ℕ, _+_, _-_, _≤_, _<_, _/_, _%_}
+use Prim.Native.Nat.{ℕ, _+_, _≤_, _<_, _/_, _%_}
 use mathlib.Core.List.{List, [], _∷_, _++_, append-assoc}
 use mathlib.Core.Path.{_≡_, refl, sym, ap, _∙_}
 use native.Mathlib.Nat.{add-assoc}

@@ -4,7 +4,7 @@ use rtr_models::*;
 ghost use mathlib.Core.Path.{_≡_};
 ghost use mathlib.Core.List.{[], _∷_, _++_};
 ghost use Prim.Native.Nat.{_+_, _≤_, _<_};
-ghost use lib.ListN.{length, take, drop};
+ghost use lib.ListN.{length};
 ghost use Rattle.rtr_models.specs.Codes.{versionNumber};
 ghost use Rattle.rtr_codec.specs.Reading.{crate};
 ghost use Rattle.rtr_encode.specs.Encode.{bytesOf, encode, withVersion, endOfData, keyBytes, reportBytes, lastChecks};

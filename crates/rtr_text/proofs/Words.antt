@@ -64,10 +64,10 @@ trailing-zeros (suc k) n (suc j) h = by (n % 2) refl h (trailing-zeros k (n / 2)
 pub below : (n k b low w : ℕ) → n % 2 ^ (8 + k) ≡ w → w ≡ b * 2 ^ k + low → low < 2 ^ k → n % 2 ^ k ≡ low
 below n k b low w e d h = sym (mod-mod-pow n 8 k) ∙ rw (e, d) (pow.low b k h)
 
--- a byte below the trailing zeros of the masked word
-pub run-byte : (n k b low w mask : ℕ) → n % 2 ^ (8 + k) ≡ w → w ≡ b * 2 ^ k + low → low < 2 ^ k → w < 2 ^ (8 + k) → mask < 2 ^ k → 0x8080808080808080 % 2 ^ (8 + k) ≡ 0x80 * 2 ^ k + mask → 8 + k ≤ trailingZeros 64 (bitAnd n 0x8080808080808080) → b < 0x80
-run-byte n k b low w mask e d h f m g t =
-    top-byte k b low w mask d h f m (sym (and-mod n 0x8080808080808080 (8 + k) ∙ rw (e, g)) ∙ trailing-zeros 64 (bitAnd n 0x8080808080808080) (8 + k) t)
+-- a byte below the trailing zeros of a word under a mask that has its highest bit
+pub run-byte : (n all k b low w mask : ℕ) → n % 2 ^ (8 + k) ≡ w → w ≡ b * 2 ^ k + low → low < 2 ^ k → w < 2 ^ (8 + k) → mask < 2 ^ k → all % 2 ^ (8 + k) ≡ 0x80 * 2 ^ k + mask → 8 + k ≤ trailingZeros 64 (bitAnd n all) → b < 0x80
+run-byte n all k b low w mask e d h f m g t =
+    top-byte k b low w mask d h f m (sym (and-mod n all (8 + k) ∙ rw (e, g)) ∙ trailing-zeros 64 (bitAnd n all) (8 + k) t)
 
 -- a number below eight is one of eight
 pub one-of-eight : (P : ℕ → Type 0) (r : ℕ) → r ≤ 8 → (0 < r → P 0) → (1 < r → P 1) → (2 < r → P 2) → (3 < r → P 3) → (4 < r → P 4) → (5 < r → P 5) → (6 < r → P 6) → (7 < r → P 7) → (i : ℕ) → i < r → P i
