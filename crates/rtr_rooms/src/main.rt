@@ -173,43 +173,61 @@ fn put_rules(out: &mut [u8], at: usize, room: &[u32], count: usize) -> usize {
     put::put_text(out, at, b", out of rule")
 }
 
-// A record enters; its answer, and whether the rules hold. The count after it.
-fn show_enter(label: &[u8], room: &mut [u32], count: usize, r: Record) -> usize {
-    let mut out = [0u8; 256];
-    let at = put::put_text(&mut out, 0, label);
-    match rtr_room::enter(room, count, r) {
-        EnterAnswer::Entered(n) => {
-            let at = put::put_field(&mut out, at, b": entered, count=", n as u64);
-            let at = put_rules(&mut out, at, room, n);
-            flush(&out, at);
-            n
-        }
-        EnterAnswer::AlreadyIn => show_refused(&mut out, at, b": refused 17", room, count),
-        EnterAnswer::Full => show_refused(&mut out, at, b": refused 18", room, count),
-        EnterAnswer::NotARoom => show_refused(&mut out, at, b": refused 22", room, count),
+// Document 01's number of an answer, 0 for none, and the count after it.
+struct Said {
+    number: u64,
+    count: usize,
+}
+
+fn enter_said(answer: EnterAnswer, count: usize) -> Said {
+    match answer {
+        EnterAnswer::Entered(n) => Said {
+            number: 0,
+            count: n,
+        },
+        EnterAnswer::AlreadyIn => Said { number: 17, count },
+        EnterAnswer::Full => Said { number: 18, count },
+        EnterAnswer::NotARoom => Said { number: 22, count },
     }
 }
 
-fn show_refused(out: &mut [u8], at: usize, why: &[u8], room: &[u32], count: usize) -> usize {
-    let at = put::put_text(out, at, why);
-    let at = put_rules(out, at, room, count);
-    flush(out, at);
-    count
+fn leave_said(answer: LeaveAnswer, count: usize) -> Said {
+    match answer {
+        LeaveAnswer::Left(n) => Said {
+            number: 0,
+            count: n,
+        },
+        LeaveAnswer::NotIn => Said { number: 16, count },
+        LeaveAnswer::NotARoom => Said { number: 22, count },
+    }
+}
+
+fn put_said(out: &mut [u8], at: usize, done: &[u8], said: Said) -> usize {
+    if said.number != 0 {
+        return put::put_field(out, at, b": refused ", said.number);
+    }
+    put::put_field(out, at, done, said.count as u64)
+}
+
+fn show_said(label: &[u8], done: &[u8], said: Said, room: &[u32]) {
+    let mut out = [0u8; 256];
+    let at = put::put_text(&mut out, 0, label);
+    let at = put_said(&mut out, at, done, said);
+    let at = put_rules(&mut out, at, room, said.count);
+    flush(&out, at);
+}
+
+// A record enters: its answer, and whether the rules hold. The count after it.
+fn show_enter(label: &[u8], room: &mut [u32], count: usize, r: Record) -> usize {
+    let said = enter_said(rtr_room::enter(room, count, r), count);
+    show_said(label, b": entered, count=", said, room);
+    said.count
 }
 
 fn show_leave(label: &[u8], room: &mut [u32], count: usize, r: Record) -> usize {
-    let mut out = [0u8; 256];
-    let at = put::put_text(&mut out, 0, label);
-    match rtr_room::leave(room, count, r) {
-        LeaveAnswer::Left(n) => {
-            let at = put::put_field(&mut out, at, b": left, count=", n as u64);
-            let at = put_rules(&mut out, at, room, n);
-            flush(&out, at);
-            n
-        }
-        LeaveAnswer::NotIn => show_refused(&mut out, at, b": refused 16", room, count),
-        LeaveAnswer::NotARoom => show_refused(&mut out, at, b": refused 22", room, count),
-    }
+    let said = leave_said(rtr_room::leave(room, count, r), count);
+    show_said(label, b": left, count=", said, room);
+    said.count
 }
 
 fn show_look_up(label: &[u8], room: &[u32], count: usize, r: Record) {
@@ -227,54 +245,72 @@ fn put_found(out: &mut [u8], at: usize, found: LookUp) -> usize {
     }
 }
 
-fn show_copy(label: &[u8], from: &[u32], room: &mut [u32]) {
-    let mut out = [0u8; 256];
-    let at = put::put_text(&mut out, 0, label);
-    match rtr_room::copy(from, room) {
-        CopyAnswer::Copied => {
-            let at = put::put_field(&mut out, at, b": copied, differing=", differing(from, room));
-            flush(&out, at);
-        }
-        CopyAnswer::NotARoom => {
-            let at = put::put_field(
-                &mut out,
-                at,
-                b": refused 22, differing=",
-                differing(from, room),
-            );
-            flush(&out, at);
-        }
+fn put_copied(out: &mut [u8], at: usize, answer: CopyAnswer) -> usize {
+    match answer {
+        CopyAnswer::Copied => put::put_text(out, at, b": copied"),
+        CopyAnswer::NotARoom => put::put_text(out, at, b": refused 22"),
     }
 }
 
-// Document 01: record 1,024 enters; the next new one: 18; a repeated one: 17; after a withdrawal one more enters.
+fn show_copy(label: &[u8], from: &[u32], room: &mut [u32]) {
+    let mut out = [0u8; 256];
+    let answer = rtr_room::copy(from, room);
+    let at = put::put_text(&mut out, 0, label);
+    let at = put_copied(&mut out, at, answer);
+    let at = put::put_field(&mut out, at, b", differing=", differing(from, room));
+    flush(&out, at);
+}
+
+// Document 01: record 1,024 enters; the next new one: 18; a repeated one: 17.
+fn refusals(room: &mut [u32], count: usize) -> usize {
+    let between = Record::ipv4(16, 16, 167772161, 64500);
+    let count = show_enter(b" next new, behind all", room, count, record_number(1024));
+    let count = show_enter(b" next new, between", room, count, between);
+    let count = show_enter(b" repeated, last", room, count, record_number(1023));
+    show_enter(b" repeated, between", room, count, record_number(300))
+}
+
+// After a withdrawal one more enters.
+fn withdrawals(room: &mut [u32], count: usize) -> usize {
+    let count = show_leave(b" withdrawn", room, count, record_number(300));
+    let count = show_leave(b" withdrawn again", room, count, record_number(300));
+    let count = show_enter(b" one more", room, count, record_number(1024));
+    show_enter(b" and one", room, count, record_number(300))
+}
+
+fn last_withdrawn(room: &mut [u32], count: usize) -> usize {
+    let count = show_leave(b" last withdrawn", room, count, record_number(1024));
+    show_enter(b" one more", room, count, record_number(300))
+}
+
+fn emptied(room: &mut [u32], count: usize, back: Way) {
+    let cleared = clear(room, count, back);
+    show_steps(b" leaving all", cleared);
+    let zeros = [0u32; 6144];
+    show_number(b" differing from zeros", differing(room, &zeros));
+}
+
 fn full_room(label: &[u8], way: Way, back: Way, in_order: &[u32]) {
     let mut room = [0u32; 6144];
     let filled = fill(&mut room, way);
     show_steps(label, filled);
     show_number(b" differing from in order", differing(&room, in_order));
-    let count = filled.count;
-    let between = Record::ipv4(16, 16, 167772161, 64500);
-    let count = show_enter(
-        b" next new, behind all",
-        &mut room,
-        count,
-        record_number(1024),
-    );
-    let count = show_enter(b" next new, between", &mut room, count, between);
-    let count = show_enter(b" repeated, last", &mut room, count, record_number(1023));
-    let count = show_enter(b" repeated, between", &mut room, count, record_number(300));
-    let count = show_leave(b" withdrawn", &mut room, count, record_number(300));
-    let count = show_leave(b" withdrawn again", &mut room, count, record_number(300));
-    let count = show_enter(b" one more", &mut room, count, record_number(1024));
-    let count = show_enter(b" and one", &mut room, count, record_number(300));
-    let count = show_leave(b" last withdrawn", &mut room, count, record_number(1024));
-    let count = show_enter(b" one more", &mut room, count, record_number(300));
+    let count = refusals(&mut room, filled.count);
+    let count = withdrawals(&mut room, count);
+    let count = last_withdrawn(&mut room, count);
     show_number(b" differing from in order", differing(&room, in_order));
-    let cleared = clear(&mut room, count, back);
-    show_steps(b" leaving all", cleared);
+    emptied(&mut room, count, back);
+}
+
+fn copied(in_order: &[u32], count: usize) {
+    let mut copy = [7u32; 6144];
+    show_copy(b"copy of a full room", in_order, &mut copy);
+    show_look_up(b"first", &copy, count, record_number(0));
+    show_look_up(b"last", &copy, count, record_number(1023));
+    show_look_up(b"behind all", &copy, count, record_number(1024));
+    rtr_room::empty(&mut copy);
     let zeros = [0u32; 6144];
-    show_number(b" differing from zeros", differing(&room, &zeros));
+    show_number(b"differing from zeros, emptied", differing(&copy, &zeros));
 }
 
 fn full_rooms() {
@@ -289,14 +325,7 @@ fn full_rooms() {
         Way::Shuffled,
         &in_order,
     );
-    let mut copy = [7u32; 6144];
-    show_copy(b"copy of a full room", &in_order, &mut copy);
-    show_look_up(b"first", &copy, filled.count, record_number(0));
-    show_look_up(b"last", &copy, filled.count, record_number(1023));
-    show_look_up(b"behind all", &copy, filled.count, record_number(1024));
-    rtr_room::empty(&mut copy);
-    let zeros = [0u32; 6144];
-    show_number(b"differing from zeros, emptied", differing(&copy, &zeros));
+    copied(&in_order, filled.count);
 }
 
 fn put_address(out: &mut [u8], at: usize, r: Record) -> usize {
@@ -332,32 +361,54 @@ fn show_record(room: &[u32; 24], i: usize) {
     }
 }
 
+fn show_four(room: &[u32; 24]) {
+    show_record(room, 0);
+    show_record(room, 1);
+    show_record(room, 2);
+    show_record(room, 3);
+}
+
 // The order of the table is not the order of the six numbers: 9.0.0.0/24 comes before 10.0.0.0/8.
 fn listed() {
     let mut room = [0u32; 24];
     let ten = Record::ipv4(8, 24, 167772160, 64496);
+    let ten_to_8 = Record::ipv4(8, 8, 167772160, 64499);
     let nine = Record::ipv4(24, 24, 150994944, 64497);
     let six = Record::ipv6(32, 48, 536939960, 0, 0, 1, 64498);
-    let ten_to_8 = Record::ipv4(8, 8, 167772160, 64499);
     let count = show_enter(b"2001:db8::1/32-48", &mut room, 0, six);
     let count = show_enter(b"10.0.0.0/8-24", &mut room, count, ten);
     let count = show_enter(b"9.0.0.0/24", &mut room, count, nine);
     let count = show_enter(b"10.0.0.0/8", &mut room, count, ten_to_8);
-    show_record(&room, 0);
-    show_record(&room, 1);
-    show_record(&room, 2);
-    show_record(&room, 3);
-    show_look_up(b"10.0.0.0/8-24", &room, count, ten);
+    show_four(&room);
+    found_and_left(&mut room, count);
+    show_four(&room);
+}
+
+fn found_and_left(room: &mut [u32], count: usize) {
+    show_look_up(
+        b"10.0.0.0/8-24",
+        room,
+        count,
+        Record::ipv4(8, 24, 167772160, 64496),
+    );
     show_look_up(
         b"10.0.0.0/9-24",
-        &room,
+        room,
         count,
         Record::ipv4(9, 24, 167772160, 64496),
     );
-    let count = show_leave(b"10.0.0.0/8", &mut room, count, ten_to_8);
-    show_record(&room, 2);
-    show_record(&room, 3);
-    let _count = show_leave(b"2001:db8::1/32-48", &mut room, count, six);
+    let count = show_leave(
+        b"10.0.0.0/8",
+        room,
+        count,
+        Record::ipv4(8, 8, 167772160, 64499),
+    );
+    let _count = show_leave(
+        b"9.0.0.0/24",
+        room,
+        count,
+        Record::ipv4(24, 24, 150994944, 64497),
+    );
 }
 
 // A room of one record.
@@ -367,24 +418,28 @@ fn show_rule(label: &[u8], r: Record) {
 }
 
 // Records in and out of rule: entering does not ask, the rules' test does.
-fn records_in_rule() {
+fn ipv4_rules() {
     show_rule(b"IPv4 32-32", Record::ipv4(32, 32, 1, 0));
     show_rule(b"IPv4 32-33", Record::ipv4(32, 33, 1, 0));
     show_rule(b"IPv4 25-24", Record::ipv4(25, 24, 1, 0));
     show_rule(b"IPv4 0-0", Record::ipv4(0, 0, 0, 0));
+}
+
+fn ipv6_rules() {
     show_rule(b"IPv6 128-128", Record::ipv6(128, 128, 0, 0, 0, 1, 0));
     show_rule(b"IPv6 128-129", Record::ipv6(128, 129, 0, 0, 0, 1, 0));
     show_rule(b"IPv6 49-48", Record::ipv6(49, 48, 0, 0, 0, 1, 0));
-    let four = Record::ipv4(24, 24, 1, 0);
+}
+
+fn odd_records() {
     let spare = Record {
-        kind: four.kind,
+        kind: 4 * 65536 + 24 * 256 + 24,
         w0: 1,
         w1: 0,
         w2: 0,
         w3: 1,
         asn: 0,
     };
-    show_rule(b"IPv4 with a fourth number", spare);
     let five = Record {
         kind: 5 * 65536 + 24 * 256 + 24,
         w0: 1,
@@ -393,18 +448,25 @@ fn records_in_rule() {
         w3: 0,
         asn: 0,
     };
+    show_rule(b"IPv4 with a fourth number", spare);
     show_rule(b"family 5", five);
 }
 
-// Counts over the limit, rooms of no record, and numbers that are no six.
-fn odd_rooms() {
+// A count over the limit.
+fn over() {
     let r = Record::ipv4(24, 24, 3221225984, 64496);
     let mut one = [0u32; 6];
-    let mut eight = [9u32; 8];
-    let mut none = [0u32; 5];
     show_look_up(b"count 2 of 1", &one, 2, r);
     let _n = show_enter(b"count 2 of 1", &mut one, 2, r);
     let _n = show_leave(b"count 2 of 1", &mut one, 2, r);
+}
+
+// Rooms of no record, and numbers that are no six.
+fn odd_rooms() {
+    let r = Record::ipv4(24, 24, 3221225984, 64496);
+    let one = [0u32; 6];
+    let mut eight = [9u32; 8];
+    let mut none = [0u32; 5];
     let _n = show_enter(b"room of no record", &mut none, 0, r);
     let _n = show_leave(b"room of no record", &mut none, 0, r);
     let n = show_enter(b"eight numbers", &mut eight, 0, r);
@@ -415,6 +477,9 @@ fn odd_rooms() {
 fn main() {
     full_rooms();
     listed();
-    records_in_rule();
+    ipv4_rules();
+    ipv6_rules();
+    odd_records();
+    over();
     odd_rooms();
 }
