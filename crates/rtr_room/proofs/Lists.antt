@@ -1,4 +1,5 @@
--- What the loops that write numbers leave, turn by turn. Assumes nothing.
+-- What the loops that write numbers leave. At a loop's head the list is a part that is done and a part that is as it was, and a turn moves the
+-- border between them by one: upward and downward for the two shifts, upward for zeros and a copy. Assumes nothing.
 use Prim.Native.Nat.{ℕ, suc, _+_, _-_, _≤_, _<_}
 use mathlib.Core.List.{List, [], _∷_, _++_, append-assoc, append-nil}
 use mathlib.Core.Path.{_≡_, refl, sym, ap, _∙_}

@@ -1,4 +1,5 @@
--- What a look-up finds, and what entering and leaving make of it. Assumes nothing.
+-- What a look-up's tests say of what it finds; what its answer says back to entering and leaving, as each answer can come from one case
+-- alone; and that a shift and a store of six numbers are the definition's putting in and taking out. Assumes nothing.
 use Prim.Native.Nat.{ℕ, _+_, _-_, _*_, _≤_, _<_}
 use mathlib.Core.Bool.{Bool, true, false, cond}
 use mathlib.Core.List.{List, _++_, append-assoc}

@@ -1,4 +1,6 @@
--- A table's records one after the other, and the zeros behind them. Assumes nothing.
+-- The two loops of the rules' test. Over the records: the last record read and those behind it are a table exactly where the whole is, as long
+-- as each record read was in rule and before the next; the first that is not decides. Over the spare numbers: the first that is not 0
+-- decides. Assumes nothing.
 use Prim.Native.Nat.{ℕ, suc, _+_, _-_, _*_, _≤_, _<_}
 use mathlib.Core.Bool.{true, false, and-false}
 use mathlib.Core.List.{List, [], _∷_}

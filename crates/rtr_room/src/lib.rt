@@ -396,10 +396,10 @@ pub fn leave(room: &mut [u32], count: usize, r: Record) -> LeaveAnswer
 pub fn empty(room: &mut [u32])
     ensures { λ _. ⌜ now (room .exit) ≡ replicate (length (now (room .entry))) 0 ⌝ }
 {
-    let mut i = 0;
-    while i < room.len() {
-        room[i] = 0;
-        i += 1;
+    let mut at = 0;
+    while at < room.len() {
+        room[at] = 0;
+        at += 1;
     }
 }
 

@@ -1,4 +1,4 @@
--- `empty`: at the loop's head the first i numbers are 0. The measure is what is left. Assumes nothing.
+-- `empty`: at the loop's head the first `at` numbers are 0. The measure is what is left. Assumes nothing.
 use Prim.Native.Nat.{ℕ, _≤_, _-_}
 use mathlib.Core.Path.{_≡_, _∙_, ap}
 use native.Mathlib.Omega.{arith}
@@ -11,10 +11,10 @@ use Rattle.rtr_room.proofs.empty.Statement.{statement}
 use Rattle.rtr_room.proofs.empty.Tie as tie
 
 abbrev Inv-loop : tie.InvT-loop
-Inv-loop room₀ i₀ room i = (room ≡ replicate i 0 ++ drop i room₀) × (i ≤ length room₀) × (length room ≡ length room₀)
+Inv-loop room₀ at₀ room at = (room ≡ replicate at 0 ++ drop at room₀) × (at ≤ length room₀) × (length room ≡ length room₀)
 
 abbrev μ-loop : tie.MeasureT-loop
-μ-loop room₀ i₀ room i = length room₀ - i
+μ-loop room₀ at₀ room at = length room₀ - at
 
 loop-holds : tie.Need-loop-holds Inv-loop μ-loop
 loop-holds c = (fill-none (now (c .args .room)) 0, omega arith, omega arith)
@@ -25,8 +25,8 @@ mul-room c = omega arith
 slice-write-room : tie.Need-slice-write-room Inv-loop μ-loop
 slice-write-room c = omega arith
 
-add-i : tie.Need-add-i Inv-loop μ-loop
-add-i c = omega arith
+add-at : tie.Need-add-at Inv-loop μ-loop
+add-at c = omega arith
 
 loop-less : tie.Need-loop-less Inv-loop μ-loop
 loop-less c = omega arith
@@ -35,7 +35,7 @@ loop-again : tie.Need-loop-again Inv-loop μ-loop
 loop-again c =
     let s = now (c .before .before .args .room) in
     let at-loop = c .before .loop in (
-      ap (λ (x : List ℕ). set x (at-loop .i) 0) (at-loop .inv .0) ∙ fill-more (at-loop .i) 0 s (omega arith),
+      ap (λ (x : List ℕ). set x (at-loop .at) 0) (at-loop .inv .0) ∙ fill-more (at-loop .at) 0 s (omega arith),
       omega arith,
       simp length-set (omega arith),
     )
@@ -44,7 +44,7 @@ same-length : tie.Need-same-length Inv-loop μ-loop
 same-length c = omega arith
 
 returns : tie.Need-returns Inv-loop μ-loop
-returns c = c .before .loop .inv .0 ∙ filled (now (c .before .before .args .room)) (c .before .loop .i) (omega arith)
+returns c = c .before .loop .inv .0 ∙ filled (now (c .before .before .args .room)) (c .before .loop .at) (omega arith)
 
 pub empty-spec : {M : Type 1} → statement M
 empty-spec =
@@ -55,7 +55,7 @@ empty-spec =
     loop-holds
     mul-room
     slice-write-room
-    add-i
+    add-at
     loop-less
     loop-again
     same-length

@@ -1,4 +1,4 @@
--- `is_in_rule` tests part by part. Assumes nothing.
+-- `is_in_rule`: each way out has tested enough parts to decide both cases of the definition, family 4 and family 6. Assumes nothing.
 use Rattle.rtr_room.proofs.Order.{too-long, six, neither-family, spare-1, spare-2, spare-3, four}
 use Rattle.rtr_room.proofs.is_in_rule.Statement.{statement}
 use Rattle.rtr_room.proofs.is_in_rule.Tie as tie

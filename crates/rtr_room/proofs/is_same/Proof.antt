@@ -1,4 +1,4 @@
--- `is_same` compares number by number. Assumes nothing.
+-- `is_same`: the first number that differs decides, and where none of the first five does, the last test is the answer. Assumes nothing.
 use borrow.Author.Tests.{eq-eqb, ne-eqb}
 use Rattle.rtr_room.specs.Table.{same}
 use Rattle.rtr_room.proofs.is_same.Statement.{statement}

@@ -1,4 +1,4 @@
--- `put` stores six numbers. Assumes nothing.
+-- `put`: six stores, one behind the other, replace six numbers at once. Each place is inside, since six numbers from the first on are. Assumes nothing.
 use native.Mathlib.Omega.{arith}
 use denote.Ref.{now}
 use lib.ListN.{length-set}

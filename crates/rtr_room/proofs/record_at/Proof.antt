@@ -1,4 +1,5 @@
--- `record_at` reads six numbers. Assumes nothing.
+-- `record_at`: each of the six places is inside, since six numbers from the first on are, and what is read there is the definition's number.
+-- Assumes nothing.
 use mathlib.Core.Path.{refl}
 use borrow.Author.Needs.{needs}
 use Rattle.rtr_room.specs.Room.{recordAt}

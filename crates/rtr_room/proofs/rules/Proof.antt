@@ -1,4 +1,5 @@
--- `rules` tests rule by rule. Assumes nothing.
+-- `rules`: each way out has made the tests of the definition up to one that fails: a length that is no multiple of six, or of another limit; a
+-- count over the limit; no table. Where none fails, the test of the spare numbers is the answer. Assumes nothing.
 use Prim.Native.Nat.{_*_}
 use mathlib.Core.Bool.{true, false}
 use mathlib.Core.Path.{_≡_, sym, _∙_}

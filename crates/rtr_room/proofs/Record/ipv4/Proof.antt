@@ -1,4 +1,4 @@
--- `ipv4` packs the first number. Assumes nothing.
+-- `ipv4`: the first number is packed by a call, and the others are as given or 0. Assumes nothing.
 use borrow.Author.Needs.{needs}
 use Rattle.rtr_room.proofs.Record.ipv4.Statement.{statement}
 use Rattle.rtr_room.proofs.Record.ipv4.Tie as tie

@@ -1,4 +1,4 @@
--- `ipv6` packs the first number. Assumes nothing.
+-- `ipv6`: the first number is packed by a call, and the others are as given. Assumes nothing.
 use borrow.Author.Needs.{needs}
 use Rattle.rtr_room.proofs.Record.ipv6.Statement.{statement}
 use Rattle.rtr_room.proofs.Record.ipv6.Tie as tie
