@@ -1,12 +1,13 @@
 -- What the private functions of src/lib.rt promise each other; no public promise rests on this page.
 use Prim.Native.Nat.{ℕ, _+_, _≤_, _<_}
-use mathlib.Core.Bool.{Bool, true, false}
+use mathlib.Core.Bool.{Bool, true, false, not, _&&_, _||_}
 use mathlib.Core.List.{List, []}
 use mathlib.Core.Path.{_≡_}
+use lib.Dec.{eqb}
 use lib.ListN.{length, take, drop}
 use Rattle.rtr_room.specs.Room.{isRoom}
 use Rattle.rtr_receiver.specs.Receiver.{Receiver, Deed, Feed, listens, onPiece}
-use Rattle.rtr_receiver.specs.Promises.{stageOf, receiverOf, isReceiver, leaves, inMemory, fedTo, fedSaidBy}
+use Rattle.rtr_receiver.specs.Promises.{hasTable, changeUnderWay, isLoading, isStopped, stageOf, receiverOf, isReceiver, leaves, inMemory, fedTo, fedSaidBy}
 use Rattle.rtr_encode.specs.declared.EncodeAnswer.{EncodeAnswer}
 use Rattle.rtr_receiver.specs.declared.Stop.{Stop}
 use Rattle.rtr_receiver.specs.declared.Phase.{Phase}
@@ -18,6 +19,13 @@ use Rattle.rtr_receiver.specs.declared.DeedDone.{DeedDone}
 use Rattle.rtr_receiver.specs.declared.FeedAnswer.{FeedAnswer}
 use Rattle.rtr_receiver.specs.declared.Then.{Then}
 use Rattle.rtr_receiver.specs.declared.Step.{Step}
+
+-- the two halves of `inOrder`
+abbrev pub tabled : Session → Bool
+tabled s = hasTable (s .table) || (eqb (s .live) 0 && not (changeUnderWay (s .phase)))
+
+abbrev pub cleared : Session → Bool
+cleared s = (isLoading (s .phase) || eqb (s .working) 0) && (not (isStopped (s .phase)) || eqb (s .held) 0)
 
 -- both rooms keep the rules, and nothing is held: a whole PDU has just been taken out of the hold
 abbrev pub BothRooms : ℕ → Session → List ℕ → List ℕ → Type 0

@@ -1,17 +1,23 @@
 -- A session record and lent memory stand for a receiver; what each call promises of them: document 01, "Refusal numbers" (22) and "How tight the
 -- promises are". Everything is over any record limit; 1,024 is a constant of the code.
-use Prim.Native.Nat.{ℕ, _*_}
+use Prim.Native.Nat.{ℕ, _*_, _<_}
 use mathlib.Core.Bool.{Bool, true, false, not, cond, _&&_, _||_}
 use mathlib.Core.List.{List, [], _∷_}
+use mathlib.Core.Path.{_≡_}
 use lib.Dec.{eqb, leb}
 use lib.ListN.{length, take}
 use Rattle.rtr_models.specs.Codes.{codeNumber}
 use Rattle.rtr_models.specs.declared.RtrProtocolVersion.{RtrProtocolVersion}
+use Rattle.rtr_models.specs.declared.RtrPdu.{RtrPdu}
+use Rattle.rtr_codec.specs.Reading.{crate}
 use Rattle.rtr_codec.specs.Read.{Verdict}
 use Rattle.rtr_encode.specs.Encode.{Writing}
 use Rattle.rtr_encode.specs.Answers.{encodeRefusal}
+use Rattle.rtr_stream.specs.Stream.{Heard, judge}
 use Rattle.rtr_stream.specs.Search.{isStream, streamRefusal}
+use Rattle.rtr_room.specs.Table.{isTable}
 use Rattle.rtr_room.specs.Room.{room, records, isRoom}
+use Rattle.rtr_room.specs.declared.Record.{Record}
 use Rattle.rtr_receiver.specs.Receiver.{Stage, Receiver, Feed, Query, Asked, Notified, fresh, feed, fullQuery, changeQuery, ask, reconnected, notified}
 use Rattle.rtr_receiver.specs.Receiver.Stage.{idle, mustReset, askedFull, askedChange, loading, stopped}
 use Rattle.rtr_receiver.specs.declared.LoadKind.{LoadKind}
@@ -108,6 +114,27 @@ inOrder s =
 unfoldable pub isReceiver : ℕ → Session → List ℕ → List ℕ → List ℕ → Bool
 isReceiver limit s live working hold =
     isRoom limit (s .live) live && (isRoom limit (s .working) working && (isStream hold (s .held) && inOrder s))
+
+-- "a room breaks the room rules": it is the room of no table of so many records
+abbrev pub BreaksRules : ℕ → ℕ → List ℕ → Type 0
+BreaksRules limit count s = (t : List Record) → isTable t ≡ true → length t ≡ count → s ≡ room limit t → ⊥
+
+-- document 01's reasons for 22, one by one, over any limit: proofs/Shape.antt has that receiver shape is missing exactly where one of them holds
+pub data Reason (limit : ℕ) (s : Session) (live working hold : List ℕ) : Type 0 where
+  liveSize : (length live ≡ 6 * limit → ⊥) → Reason limit s live working hold
+  workingSize : (length working ≡ 6 * limit → ⊥) → Reason limit s live working hold
+  holdSize : length hold < 8 → Reason limit s live working hold
+  liveOver : limit < s .live → Reason limit s live working hold
+  workingOver : limit < s .working → Reason limit s live working hold
+  heldOver : length hold < s .held → Reason limit s live working hold
+  liveRules : BreaksRules limit (s .live) live → Reason limit s live working hold
+  workingRules : BreaksRules limit (s .working) working → Reason limit s live working hold
+  recordsWithoutTable : s .table ≡ LiveTable.NoTable → 0 < s .live → Reason limit s live working hold
+  changeWithoutTable : s .table ≡ LiveTable.NoTable → changeUnderWay (s .phase) ≡ true → Reason limit s live working hold
+  workingOutsideLoading : isLoading (s .phase) ≡ false → 0 < s .working → Reason limit s live working hold
+  heldInStopped : isStopped (s .phase) ≡ true → 0 < s .held → Reason limit s live working hold
+  heldPdu : (pdu : RtrPdu) → judge crate (length hold) (take (s .held) hold) ≡ Heard.whole pdu → Reason limit s live working hold
+  heldRefusal : (number : ℕ) (values : List ℕ) → judge crate (length hold) (take (s .held) hold) ≡ Heard.refused number values → Reason limit s live working hold
 
 -- what a call leaves: the session record, both rooms whole, and the hold up to the held count
 pub record Left : Type 0 where

@@ -30,8 +30,8 @@ ghost use Rattle.rtr_codec.specs.Answers.{numberOf};
 ghost use Rattle.rtr_room.specs.Table.{enter, leave};
 ghost use Rattle.rtr_room.specs.Room.{records};
 ghost use Rattle.rtr_receiver.specs.Receiver.{onCacheResponse, onChangeResponse, changedTo, onRecord, onRouterKey, onCacheReset, finish, onEndOfData, onKind, onPdu, compared};
-ghost use Rattle.rtr_receiver.specs.Promises.{NotifySays, stopSaid, stageOf, receiverOf, inOrder, isReceiver, feedSays, fedSaid, startSays, startSaid, fullAskSays, changeAskSays, askSaid, reconnectSays, reconnectSaid, notifySays, notifySaid};
-ghost use Rattle.rtr_receiver.specs.Private.{BothRooms, Stands, Did, stoppedSession, askedFor, afterPdu, feedHere, StepAsks, Stepped};
+ghost use Rattle.rtr_receiver.specs.Promises.{NotifySays, stopSaid, changeUnderWay, stageOf, receiverOf, inOrder, isReceiver, feedSays, fedSaid, startSays, startSaid, fullAskSays, changeAskSays, askSaid, reconnectSays, reconnectSaid, notifySays, notifySaid};
+ghost use Rattle.rtr_receiver.specs.Private.{tabled, cleared, BothRooms, Stands, Did, stoppedSession, askedFor, afterPdu, feedHere, StepAsks, Stepped};
 
 // How many records a room has at the most.
 pub const RECORD_LIMIT: usize = 1024;
@@ -181,37 +181,55 @@ impl Stop {
 
 // ---- Shape: 22
 
-// A live record or a change has its table, the working room is empty outside Loading, nothing is held in Stopped.
-fn in_order(s: Session) -> bool
-    ensures { λ r. ⌜ r ≡ inOrder s ⌝ }
+fn change_under_way(phase: Phase) -> bool
+    ensures { λ r. ⌜ r ≡ changeUnderWay phase ⌝ }
 {
-    let phase = s.phase;
+    match phase {
+        Phase::AskedChange => true,
+        Phase::Loading(kind, _) => match kind {
+            LoadKind::Full => false,
+            LoadKind::Change => true,
+        },
+        _ => false,
+    }
+}
+
+// A live record or a change has its table.
+fn is_tabled(s: Session) -> bool
+    ensures { λ r. ⌜ r ≡ tabled s ⌝ }
+{
     let table = s.table;
     match table {
-        LiveTable::Known(_) => {}
+        LiveTable::Known(_) => true,
         LiveTable::NoTable => {
-            if s.live != 0 {
-                return false;
+            if s.live == 0 {
+                let phase = s.phase;
+                return !change_under_way(phase);
             }
-            match phase {
-                Phase::AskedChange => {
-                    return false;
-                }
-                Phase::Loading(kind, _) => match kind {
-                    LoadKind::Change => {
-                        return false;
-                    }
-                    LoadKind::Full => {}
-                },
-                _ => {}
-            }
+            false
         }
     }
+}
+
+// The working room is empty outside Loading, nothing is held in Stopped.
+fn is_cleared(s: Session) -> bool
+    ensures { λ r. ⌜ r ≡ cleared s ⌝ }
+{
+    let phase = s.phase;
     match phase {
         Phase::Loading(_, _) => true,
         Phase::Stopped(_) => s.working == 0 && s.held == 0,
         _ => s.working == 0,
     }
+}
+
+fn in_order(s: Session) -> bool
+    ensures { λ r. ⌜ r ≡ inOrder s ⌝ }
+{
+    if !is_tabled(s) {
+        return false;
+    }
+    is_cleared(s)
 }
 
 // Receiver shape, each number of the rooms read once.
