@@ -21,13 +21,17 @@ use Rattle.rtr_room.specs.Room.{room, isRoom}
 use Rattle.rtr_room.proofs.Laws.{empty-is}
 use Rattle.rtr_receiver.specs.Receiver.{Stage, Receiver, Query, Asked, Notified, inStage, resetQuery, fullQuery, serialQuery, changeQuery, askedBy, ask, reconnected, notified, compared, fresh}
 use Rattle.rtr_receiver.specs.Promises.{Left, AskSays, ReconnectSays, StartSays, NotifySays, hasTable, changeUnderWay, isLoading, isStopped, stageOf, receiverOf, isReceiver, leaves, inMemory, startSays, askedTo, askSays, askSaid, reconnectSays, notifySays}
-use Rattle.rtr_receiver.specs.Private.{askedFor}
+use Rattle.rtr_receiver.specs.Private.{tabled, askedFor}
 use Rattle.rtr_receiver.specs.declared.LoadKind.{LoadKind}
+use Rattle.rtr_receiver.specs.declared.Stop.{Stop}
 use Rattle.rtr_receiver.specs.declared.Phase.{Phase}
 use Rattle.rtr_receiver.specs.declared.Table.{Table}
 use Rattle.rtr_receiver.specs.declared.LiveTable.{LiveTable}
 use Rattle.rtr_receiver.specs.declared.Note.{Note}
 use Rattle.rtr_receiver.specs.declared.Session.{Session}
+use Rattle.rtr_receiver.specs.declared.AskError.{AskError}
+use Rattle.rtr_receiver.specs.declared.AskAnswer.{AskAnswer}
+use Rattle.rtr_receiver.specs.declared.AskedSession.{AskedSession}
 use Rattle.rtr_receiver.proofs.Phase as phase
 use Rattle.rtr_receiver.proofs.Memory.{left-alike, room-stands, room-size, shape-of, standing, stopped-is}
 
@@ -52,6 +56,27 @@ cleared-else Phase.AskedChange w h k = and-true (eqb w 0)
 cleared-else (Phase.Loading kind session) w h k = absurd (miss (0 ∷ 1 ∷ 2 ∷ 3 ∷ []) 4 tt k)
 cleared-else (Phase.Stopped stop) w h k = absurd (miss (0 ∷ 1 ∷ 2 ∷ 3 ∷ []) 5 tt k)
 
+-- a stop has nothing held and an empty working room
+stopped-cleared : (p : Phase) (w h : ℕ) (stop : Stop) → p ≡ Phase.Stopped stop → ((isLoading p || eqb w 0) && (not (isStopped p) || eqb h 0)) ≡ (eqb w 0 && eqb h 0)
+stopped-cleared p w h stop e = ap (λ (x : Phase). (isLoading x || eqb w 0) && (not (isStopped x) || eqb h 0)) e
+
+pub stopped-empty : (p : Phase) (w h : ℕ) (stop : Stop) → p ≡ Phase.Stopped stop → w ≡ 0 → ((isLoading p || eqb w 0) && (not (isStopped p) || eqb h 0)) ≡ eqb h 0
+stopped-empty p w h stop e q = stopped-cleared p w h stop e ∙ ap (λ (b : Bool). b && eqb h 0) (eq-eqb w 0 q)
+
+pub stopped-full : (p : Phase) (w h : ℕ) (stop : Stop) → p ≡ Phase.Stopped stop → (w ≡ 0 → ⊥) → ((isLoading p || eqb w 0) && (not (isStopped p) || eqb h 0)) ≡ eqb w 0
+stopped-full p w h stop e q = stopped-cleared p w h stop e ∙ ap (λ (b : Bool). b && eqb h 0) (ne-eqb w 0 q) ∙ sym (ne-eqb w 0 q)
+
+-- without a table there is no record, and no change
+pub tableless : (s : Session) → s .table ≡ LiveTable.NoTable → s .live ≡ 0 → tabled s ≡ not (changeUnderWay (s .phase))
+tableless s e q =
+    ap (λ (t : LiveTable). hasTable t || (eqb (s .live) 0 && not (changeUnderWay (s .phase)))) e
+    ∙ ap (λ (b : Bool). b && not (changeUnderWay (s .phase))) (eq-eqb (s .live) 0 q)
+
+pub tableless-records : (s : Session) → s .table ≡ LiveTable.NoTable → (s .live ≡ 0 → ⊥) → tabled s ≡ false
+tableless-records s e q =
+    ap (λ (t : LiveTable). hasTable t || (eqb (s .live) 0 && not (changeUnderWay (s .phase)))) e
+    ∙ ap (λ (b : Bool). b && not (changeUnderWay (s .phase))) (ne-eqb (s .live) 0 q)
+
 -- a full ask in another phase than Idle and MustReset
 pub full-else : (p : Phase) (r : Receiver) → OneOf (2 ∷ 3 ∷ 4 ∷ 5 ∷ []) (tag p) → fullQuery (stageOf p) r ≡ Query.refused 20
 full-else Phase.Idle r h = absurd (miss (2 ∷ 3 ∷ 4 ∷ 5 ∷ []) 0 tt h)
@@ -71,6 +96,20 @@ change-else (Phase.Loading kind session) r h = refl
 change-else (Phase.Stopped stop) r h = ap (λ (t : Stage). changeQuery t r) (stopped-is stop .2)
 
 -- ---- The asks
+
+pub asked-written
+    : (s t : Session) (answer : EncodeAnswer) (phase : Phase) (n : ℕ) →
+    answer ≡ EncodeAnswer.Written n →
+    t ≡ record { version = s .version; phase = phase; table = s .table; note = s .note; live = s .live; working = s .working; held = s .held } →
+    _≡_ {A = AskedSession} (record { session = t; answer = AskAnswer.Written n }) (askedFor s answer phase)
+asked-written s t answer phase n e f =
+    ap {B = AskedSession} (λ (x : Session). record { session = x; answer = AskAnswer.Written n }) f ∙ sym (ap (λ (x : EncodeAnswer). askedFor s x phase) e)
+
+pub asked-refused
+    : (s : Session) (answer : EncodeAnswer) (phase : Phase) (error : EncodeError) →
+    answer ≡ EncodeAnswer.Refused error →
+    _≡_ {A = AskedSession} (record { session = s; answer = AskAnswer.Refused (AskError.Encoding error) }) (askedFor s answer phase)
+asked-refused s answer phase error e = sym (ap (λ (x : EncodeAnswer). askedFor s x phase) e)
 
 -- the same left in another stage
 abbrev inStageLeft : Stage → Left → Left
@@ -92,9 +131,11 @@ module _ (limit : ℕ) (s : Session) (live working hold : List ℕ) where
   module _ (queryOf : Receiver → Query) (out : List ℕ) where
     -- 22
     pub ask-shapeless
-        : isReceiver limit s live working hold ≡ false →
-        record { says = Writing.refused 22 []; out = out; left = leaves s live working hold } ≡ askSays limit queryOf s live working hold out
-    ask-shapeless e = simp e
+        : (t : AskedSession) →
+        t ≡ record { session = s; answer = AskAnswer.Refused AskError.NotAReceiver } →
+        isReceiver limit s live working hold ≡ false →
+        askSaid t live working hold out ≡ askSays limit queryOf s live working hold out
+    ask-shapeless t q e = ap (λ (x : AskedSession). askSaid x live working hold out) q ∙ simp e
 
     ask-is
         : (q : Query) →
@@ -104,24 +145,42 @@ module _ (limit : ℕ) (s : Session) (live working hold : List ℕ) where
     ask-is q e f = simp e (ap (λ (x : Query). askedTo limit (ask x (receiverOf s live working hold) out)) f)
 
     -- 20 and 21 leave everything
-    pub ask-refused
+    refused-by
         : (number : ℕ) →
         isReceiver limit s live working hold ≡ true →
         queryOf (receiverOf s live working hold) ≡ Query.refused number →
         record { says = Writing.refused number []; out = out; left = leaves s live working hold } ≡ askSays limit queryOf s live working hold out
-    ask-refused number e f =
+    refused-by number e f =
         ap (λ (l : Left). record { says = Writing.refused number []; out = out; left = l }) (standing limit s live working hold e)
         ∙ sym (ask-is (Query.refused number) e f)
 
+    pub ask-in-wrong-phase
+        : (t : AskedSession) →
+        t ≡ record { session = s; answer = AskAnswer.Refused AskError.WrongPhase } →
+        isReceiver limit s live working hold ≡ true →
+        queryOf (receiverOf s live working hold) ≡ Query.refused 20 →
+        askSaid t live working hold out ≡ askSays limit queryOf s live working hold out
+    ask-in-wrong-phase t q e f = ap (λ (x : AskedSession). askSaid x live working hold out) q ∙ refused-by 20 e f
+
+    pub ask-without-table
+        : (t : AskedSession) →
+        t ≡ record { session = s; answer = AskAnswer.Refused AskError.NoTable } →
+        isReceiver limit s live working hold ≡ true →
+        queryOf (receiverOf s live working hold) ≡ Query.refused 21 →
+        askSaid t live working hold out ≡ askSays limit queryOf s live working hold out
+    ask-without-table t q e f = ap (λ (x : AskedSession). askSaid x live working hold out) q ∙ refused-by 21 e f
+
     -- a query that is written, or refused by the encoder
     pub ask-written
-        : (answer : EncodeAnswer) (phase : Phase) (pdu : RtrPdu) (out′ : List ℕ) →
+        : (t : AskedSession) (answer : EncodeAnswer) (phase : Phase) (pdu : RtrPdu) (out′ : List ℕ) →
+        t ≡ askedFor s answer phase →
         isReceiver limit s live working hold ≡ true →
         queryOf (receiverOf s live working hold) ≡ Query.query pdu (stageOf phase) →
         record { says = writing answer; out = out′ } ≡ encode crate pdu [] out →
-        askSaid (askedFor s answer phase) live working hold out′ ≡ askSays limit queryOf s live working hold out
-    ask-written answer phase pdu out′ e f g =
-        said answer
+        askSaid t live working hold out′ ≡ askSays limit queryOf s live working hold out
+    ask-written t answer phase pdu out′ q e f g =
+        ap (λ (x : AskedSession). askSaid x live working hold out′) q
+        ∙ said answer
         ∙ ap (λ (x : Encoded). askedTo limit (askedBy (x .says) (stageOf phase) (receiverOf s live working hold) (x .out))) g
         ∙ sym (ask-is (Query.query pdu (stageOf phase)) e f)
       where
@@ -183,12 +242,15 @@ without-table table note e = ap (λ (t : LiveTable). notified t note) e
 pub without-note : (table : LiveTable) (note : Note) (t : Table) → table ≡ LiveTable.Known t → note ≡ Note.NoNote → notified table note ≡ Notified.none
 without-note table note t e f = ap (λ (x : LiveTable). notified x note) e ∙ ap (λ (x : Note). notified (LiveTable.Known t) x) f
 
-pub with-note
-    : (table : LiveTable) (note : Note) (t : Table) (session serial : ℕ) →
-    table ≡ LiveTable.Known t →
-    note ≡ Note.Noted session serial →
-    notified table note ≡ cond (eqb session (t .session)) (compared serial (t .serial)) Notified.otherSession
-with-note table note t session serial e f = ap (λ (x : LiveTable). notified x note) e ∙ ap (λ (x : Note). notified (LiveTable.Known t) x) f
+module _ (table : LiveTable) (note : Note) (t : Table) (session serial : ℕ) (e : table ≡ LiveTable.Known t) (f : note ≡ Note.Noted session serial) where
+  with-note : notified table note ≡ cond (eqb session (t .session)) (compared serial (t .serial)) Notified.otherSession
+  with-note = ap (λ (x : LiveTable). notified x note) e ∙ ap (λ (x : Note). notified (LiveTable.Known t) x) f
+
+  pub of-other-session : (session ≡ t .session → ⊥) → notified table note ≡ Notified.otherSession
+  of-other-session h = with-note ∙ simp (ne-eqb session (t .session) h)
+
+  pub of-same-session : session ≡ t .session → notified table note ≡ compared serial (t .serial)
+  of-same-session h = with-note ∙ simp (eq-eqb session (t .session) h)
 
 -- ---- RFC 1982: n is a ahead of t, over 32 bits that wrap
 

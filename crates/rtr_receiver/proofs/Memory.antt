@@ -1,9 +1,10 @@
 -- A session record and lent memory of receiver shape are a receiver in memory: each room is the room of the records read from it, and as many are
 -- read as the count says. Receiver shape is its four tests. A stop is always a refusal. Assumes nothing.
 use Prim.Native.Nat.{ℕ, _*_, _≤_}
-use mathlib.Core.Bool.{Bool, true, false, _&&_}
+use mathlib.Core.Bool.{Bool, true, false, not, _&&_}
 use mathlib.Core.List.{List, []}
 use mathlib.Core.Path.{_≡_, refl, sym, ap, _∙_}
+use borrow.Author.Tests.{not-true, not-false}
 use lib.ListN.{length, take}
 use lib.Seq.{length-take-le}
 use Rattle.rtr_codec.specs.Read.{Verdict}
@@ -21,6 +22,14 @@ use Rattle.rtr_receiver.specs.Promises.{Left, stopSaid, stageOf, receive
 use Rattle.rtr_receiver.specs.declared.Stop.{Stop}
 use Rattle.rtr_receiver.specs.declared.Phase.{Phase}
 use Rattle.rtr_receiver.specs.declared.Session.{Session}
+
+-- ---- A test of the code, taken with `!`
+
+pub fails : {r b : Bool} → r ≡ b → not r ≡ true → b ≡ false
+fails {r} e h = sym e ∙ not-true r h
+
+pub holds : {r b : Bool} → r ≡ b → not r ≡ false → b ≡ true
+holds {r} e h = sym e ∙ not-false r h
 
 -- ---- Rooms
 
