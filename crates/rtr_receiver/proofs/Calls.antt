@@ -5,24 +5,21 @@ use mathlib.Core.List.{List, [], _∷_}
 use mathlib.Core.Path.{_≡_, refl, sym, ap, _∙_}
 use native.Mathlib.Omega.{arith}
 use borrow.Author.Tests.{lt-ltb, le-ltb, le-leb, lt-leb, eq-eqb, ne-eqb, leb-true, leb-false}
-use lib.Dec.{leb, ltb, eqb}
-use lib.ListN.{length, take, replicate}
+use lib.Dec.{leb, eqb}
+use lib.ListN.{length, replicate}
 use types.Run.{OneOf, miss}
 use denote.Enum.Declared.{tagOf}
 use Rattle.rtr_models.specs.declared.RtrProtocolVersion.{RtrProtocolVersion}
 use Rattle.rtr_models.specs.declared.RtrPdu.{RtrPdu}
-use Rattle.rtr_models.specs.declared.RtrPdu.the-variants.{SerialQuery, ResetQuery}
 use Rattle.rtr_codec.specs.Reading.{crate}
 use Rattle.rtr_encode.specs.Encode.{Writing, Encoded, encode}
 use Rattle.rtr_encode.specs.Answers.{writing}
 use Rattle.rtr_encode.specs.declared.EncodeError.{EncodeError}
 use Rattle.rtr_encode.specs.declared.EncodeAnswer.{EncodeAnswer}
-use Rattle.rtr_room.specs.Room.{room, isRoom}
 use Rattle.rtr_room.proofs.Laws.{empty-is}
-use Rattle.rtr_receiver.specs.Receiver.{Stage, Receiver, Query, Asked, Notified, inStage, resetQuery, fullQuery, serialQuery, changeQuery, askedBy, ask, reconnected, notified, compared, fresh}
-use Rattle.rtr_receiver.specs.Promises.{Left, AskSays, ReconnectSays, StartSays, NotifySays, hasTable, changeUnderWay, isLoading, isStopped, stageOf, receiverOf, isReceiver, leaves, inMemory, startSays, askedTo, askSays, askSaid, reconnectSays, notifySays}
+use Rattle.rtr_receiver.specs.Receiver.{Stage, Receiver, Query, Notified, fullQuery, changeQuery, askedBy, ask, reconnected, notified, compared, fresh}
+use Rattle.rtr_receiver.specs.Promises.{Left, StartSays, NotifySays, hasTable, changeUnderWay, isLoading, isStopped, stageOf, receiverOf, isReceiver, leaves, inMemory, startSays, askedTo, askSays, askSaid, reconnectSays, notifySays}
 use Rattle.rtr_receiver.specs.Private.{tabled, askedFor}
-use Rattle.rtr_receiver.specs.declared.LoadKind.{LoadKind}
 use Rattle.rtr_receiver.specs.declared.Stop.{Stop}
 use Rattle.rtr_receiver.specs.declared.Phase.{Phase}
 use Rattle.rtr_receiver.specs.declared.Table.{Table}

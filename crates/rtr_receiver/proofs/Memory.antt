@@ -2,22 +2,21 @@
 -- read as the count says. Receiver shape is its four tests. A stop is always a refusal. Assumes nothing.
 use Prim.Native.Nat.{ℕ, _*_, _≤_}
 use mathlib.Core.Bool.{Bool, true, false, not, _&&_}
-use mathlib.Core.List.{List, []}
+use mathlib.Core.List.{List}
 use mathlib.Core.Path.{_≡_, refl, sym, ap, _∙_}
 use borrow.Author.Tests.{not-true, not-false}
-use lib.ListN.{length, take}
+use lib.ListN.{length}
 use lib.Seq.{length-take-le}
 use Rattle.rtr_codec.specs.Read.{Verdict}
 use Rattle.rtr_codec.specs.Answers.{refusal}
 use Rattle.rtr_codec.specs.declared.RtrError.{RtrError}
-use Rattle.rtr_stream.specs.Search.{isStream, streamRefusal}
+use Rattle.rtr_stream.specs.Search.{isStream}
 use Rattle.rtr_stream.specs.declared.StreamError.{StreamError}
 use Rattle.rtr_stream.proofs.Laws.{stream-has}
 use Rattle.rtr_room.specs.Room.{room, records, isRoom}
-use Rattle.rtr_room.specs.declared.Record.{Record}
 use Rattle.rtr_room.proofs.Laws.{rules-exactly, records-of-room, room-length}
 use Rattle.rtr_room.proofs.Laws.Tests.{first-of, second-of, both, not-both, unless}
-use Rattle.rtr_receiver.specs.Receiver.{Stage, Receiver}
+use Rattle.rtr_receiver.specs.Receiver.{Stage}
 use Rattle.rtr_receiver.specs.Promises.{Left, stopSaid, stageOf, receiverOf, inOrder, isReceiver, leaves, inMemory}
 use Rattle.rtr_receiver.specs.declared.Stop.{Stop}
 use Rattle.rtr_receiver.specs.declared.Phase.{Phase}
