@@ -1,0 +1,94 @@
+-- What the private functions of src/lib.rt promise each other; no public promise rests on this page.
+use Prim.Native.Nat.{ℕ, _+_, _≤_, _<_}
+use mathlib.Core.Bool.{Bool, true, false, not, _&&_, _||_}
+use mathlib.Core.List.{List, []}
+use mathlib.Core.Path.{_≡_}
+use lib.Dec.{eqb}
+use lib.ListN.{length, take, drop}
+use Rattle.rtr_room.specs.Room.{isRoom}
+use Rattle.rtr_receiver.specs.Receiver.{Receiver, Deed, Feed, listens, onPiece}
+use Rattle.rtr_receiver.specs.Promises.{hasTable, changeUnderWay, isLoading, isStopped, stageOf, receiverOf, isReceiver, leaves, inMemory, fedTo, fedSaidBy}
+use Rattle.rtr_encode.specs.declared.EncodeAnswer.{EncodeAnswer}
+use Rattle.rtr_receiver.specs.declared.Stop.{Stop}
+use Rattle.rtr_receiver.specs.declared.Phase.{Phase}
+use Rattle.rtr_receiver.specs.declared.Session.{Session}
+use Rattle.rtr_receiver.specs.declared.AskError.{AskError}
+use Rattle.rtr_receiver.specs.declared.AskAnswer.{AskAnswer}
+use Rattle.rtr_receiver.specs.declared.AskedSession.{AskedSession}
+use Rattle.rtr_receiver.specs.declared.DeedDone.{DeedDone}
+use Rattle.rtr_receiver.specs.declared.FeedAnswer.{FeedAnswer}
+use Rattle.rtr_receiver.specs.declared.Then.{Then}
+use Rattle.rtr_receiver.specs.declared.Step.{Step}
+
+-- the two halves of `inOrder`
+abbrev pub tabled : Session → Bool
+tabled s = hasTable (s .table) || (eqb (s .live) 0 && not (changeUnderWay (s .phase)))
+
+abbrev pub cleared : Session → Bool
+cleared s = (isLoading (s .phase) || eqb (s .working) 0) && (not (isStopped (s .phase)) || eqb (s .held) 0)
+
+-- both rooms keep the rules, and nothing is held: a whole PDU has just been taken out of the hold
+abbrev pub BothRooms : ℕ → Session → List ℕ → List ℕ → Type 0
+BothRooms limit s live working = (isRoom limit (s .live) live ≡ true) × (isRoom limit (s .working) working ≡ true) × (s .held ≡ 0)
+
+-- the session record and the rooms are this receiver's, nothing held
+abbrev pub Stands : ℕ → Session → List ℕ → List ℕ → Receiver → Type 0
+Stands limit s live working r = leaves s live working [] ≡ inMemory limit r
+
+abbrev pub Did : ℕ → DeedDone → List ℕ → List ℕ → Deed → Type 0
+Did limit d live working deed = Stands limit (d .session) live working (deed .then) × (d .updates ≡ deed .updates)
+
+-- the feed from here: what the piece from a place on makes of it
+abbrev pub feedHere : ℕ → Session → List ℕ → List ℕ → List ℕ → List ℕ → ℕ → ℕ → Feed
+feedHere limit s live working hold piece at updates =
+    onPiece limit (length hold) (record { receiver = receiverOf s live working hold; taken = at; updates = updates }) (drop at piece)
+
+-- one step: the feed is over, as the definition has it, or goes on from further in the piece to the same end
+abbrev pub SteppedTo : ℕ → Feed → List ℕ → ℕ → Session → ℕ → ℕ → List ℕ → List ℕ → List ℕ → Then → Type 0
+SteppedTo limit f piece at s next updates live working hold (Then.Done answer) =
+    fedSaidBy answer next updates (leaves s live working hold) hold ≡ fedTo limit f
+SteppedTo limit f piece at s next updates live working hold Then.Again =
+    (isReceiver limit s live working hold ≡ true)
+    × (listens (stageOf (s .phase)) ≡ true)
+    × (at < next)
+    × (next ≤ length piece)
+    × (updates ≤ next)
+    × (feedHere limit s live working hold piece next updates ≡ f)
+
+abbrev pub Stepped : ℕ → Feed → List ℕ → ℕ → Step → List ℕ → List ℕ → List ℕ → Type 0
+Stepped limit f piece at t live working hold = SteppedTo limit f piece at (t .session) (t .next) (t .updates) live working hold (t .then)
+
+-- a session that stopped
+abbrev pub stoppedSession : Session → Stop → Session
+stoppedSession s stop =
+    record { version = s .version; phase = Phase.Stopped stop; table = s .table; note = s .note; live = s .live; working = 0; held = 0 }
+
+-- an ask whose query was written, or refused
+abbrev pub askedFor : Session → EncodeAnswer → Phase → AskedSession
+askedFor s (EncodeAnswer.Written n) phase =
+    record {
+      session = record { version = s .version; phase = phase; table = s .table; note = s .note; live = s .live; working = s .working; held = s .held };
+      answer = AskAnswer.Written n;
+    }
+askedFor s (EncodeAnswer.Refused error) phase = record { session = s; answer = AskAnswer.Refused (AskError.Encoding error) }
+
+-- what a step asks: receiver shape, listening, a place in the piece, and no more updates than bytes
+abbrev pub StepAsks : ℕ → Session → List ℕ → List ℕ → List ℕ → List ℕ → ℕ → ℕ → Type 0
+StepAsks limit s live working hold piece at updates =
+    (isReceiver limit s live working hold ≡ true)
+    × (listens (stageOf (s .phase)) ≡ true)
+    × (at ≤ length piece)
+    × (updates ≤ at)
+
+-- after a PDU the feed goes on, unless it stopped
+abbrev pub goesOnIn : Phase → Then
+goesOnIn Phase.Idle = Then.Again
+goesOnIn Phase.MustReset = Then.Again
+goesOnIn Phase.AskedFull = Then.Again
+goesOnIn Phase.AskedChange = Then.Again
+goesOnIn (Phase.Loading kind session) = Then.Again
+goesOnIn (Phase.Stopped stop) = Then.Done (FeedAnswer.Stopped stop)
+
+abbrev pub afterPdu : DeedDone → ℕ → ℕ → Step
+afterPdu d next updates =
+    record { session = d .session; next = next; updates = updates + d .updates; then = goesOnIn (d .session .phase) }

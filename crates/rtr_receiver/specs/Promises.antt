@@ -1,0 +1,302 @@
+-- A session record and lent memory stand for a receiver; what each call promises of them: document 01, "Refusal numbers" (22) and "How tight the
+-- promises are". Everything is over any record limit; 1,024 is a constant of the code.
+use Prim.Native.Nat.{ℕ, _*_, _<_}
+use mathlib.Core.Bool.{Bool, true, false, not, cond, _&&_, _||_}
+use mathlib.Core.List.{List, [], _∷_}
+use mathlib.Core.Path.{_≡_}
+use lib.Dec.{eqb, leb}
+use lib.ListN.{length, take}
+use Rattle.rtr_models.specs.Codes.{codeNumber}
+use Rattle.rtr_models.specs.declared.RtrProtocolVersion.{RtrProtocolVersion}
+use Rattle.rtr_models.specs.declared.RtrPdu.{RtrPdu}
+use Rattle.rtr_codec.specs.Reading.{crate}
+use Rattle.rtr_codec.specs.Read.{Verdict}
+use Rattle.rtr_encode.specs.Encode.{Writing}
+use Rattle.rtr_encode.specs.Answers.{encodeRefusal}
+use Rattle.rtr_stream.specs.Stream.{Heard, judge}
+use Rattle.rtr_stream.specs.Search.{isStream, streamRefusal}
+use Rattle.rtr_room.specs.Table.{isTable}
+use Rattle.rtr_room.specs.Room.{room, records, isRoom}
+use Rattle.rtr_room.specs.declared.Record.{Record}
+use Rattle.rtr_receiver.specs.Receiver.{Stage, Receiver, Feed, Query, Asked, Notified, fresh, feed, fullQuery, changeQuery, ask, reconnected, notified}
+use Rattle.rtr_receiver.specs.Receiver.Stage.{idle, mustReset, askedFull, askedChange, loading, stopped}
+use Rattle.rtr_receiver.specs.declared.LoadKind.{LoadKind}
+use Rattle.rtr_receiver.specs.declared.Stop.{Stop}
+use Rattle.rtr_receiver.specs.declared.Phase.{Phase}
+use Rattle.rtr_receiver.specs.declared.LiveTable.{LiveTable}
+use Rattle.rtr_receiver.specs.declared.Note.{Note}
+use Rattle.rtr_receiver.specs.declared.Session.{Session}
+use Rattle.rtr_receiver.specs.declared.StartAnswer.{StartAnswer}
+use Rattle.rtr_receiver.specs.declared.AskError.{AskError}
+use Rattle.rtr_receiver.specs.declared.AskAnswer.{AskAnswer}
+use Rattle.rtr_receiver.specs.declared.AskedSession.{AskedSession}
+use Rattle.rtr_receiver.specs.declared.FeedAnswer.{FeedAnswer}
+use Rattle.rtr_receiver.specs.declared.Fed.{Fed}
+use Rattle.rtr_receiver.specs.declared.ReconnectAnswer.{ReconnectAnswer}
+use Rattle.rtr_receiver.specs.declared.Reconnected.{Reconnected}
+use Rattle.rtr_receiver.specs.declared.NotifyAnswer.{NotifyAnswer}
+
+-- document 01's number and values of a stop
+abbrev pub stopSaid : Stop → Verdict
+stopSaid (Stop.Stream error) = streamRefusal error
+stopSaid Stop.OutOfTurn = Verdict.refused 13 []
+stopSaid Stop.OtherVersion = Verdict.refused 14 []
+stopSaid Stop.OtherSession = Verdict.refused 15 []
+stopSaid Stop.NotIn = Verdict.refused 16 []
+stopSaid Stop.AlreadyIn = Verdict.refused 17 []
+stopSaid Stop.RoomFull = Verdict.refused 18 []
+stopSaid (Stop.ErrorReport code) = Verdict.refused 19 (codeNumber code ∷ [])
+
+abbrev pub stoppedBy : Verdict → Stage
+stoppedBy (Verdict.accepted pdu consumed) = idle
+stoppedBy (Verdict.refused number values) = stopped number values
+
+-- the phase that the session record holds
+abbrev pub stageOf : Phase → Stage
+stageOf Phase.Idle = idle
+stageOf Phase.MustReset = mustReset
+stageOf Phase.AskedFull = askedFull
+stageOf Phase.AskedChange = askedChange
+stageOf (Phase.Loading kind session) = loading kind session
+stageOf (Phase.Stopped stop) = stoppedBy (stopSaid stop)
+
+-- the receiver that a session record and lent memory stand for
+abbrev pub receiverOf : Session → List ℕ → List ℕ → List ℕ → Receiver
+receiverOf s live working hold =
+    record {
+      version = s .version;
+      stage = stageOf (s .phase);
+      table = s .table;
+      note = s .note;
+      live = records (s .live) live;
+      working = records (s .working) working;
+      held = take (s .held) hold;
+    }
+
+abbrev pub hasTable : LiveTable → Bool
+hasTable LiveTable.NoTable = false
+hasTable (LiveTable.Known t) = true
+
+-- a change is under way in AskedChange and in a load that a change began
+abbrev pub changeUnderWay : Phase → Bool
+changeUnderWay Phase.Idle = false
+changeUnderWay Phase.MustReset = false
+changeUnderWay Phase.AskedFull = false
+changeUnderWay Phase.AskedChange = true
+changeUnderWay (Phase.Loading LoadKind.Full session) = false
+changeUnderWay (Phase.Loading LoadKind.Change session) = true
+changeUnderWay (Phase.Stopped stop) = false
+
+abbrev pub isLoading : Phase → Bool
+isLoading Phase.Idle = false
+isLoading Phase.MustReset = false
+isLoading Phase.AskedFull = false
+isLoading Phase.AskedChange = false
+isLoading (Phase.Loading kind session) = true
+isLoading (Phase.Stopped stop) = false
+
+abbrev pub isStopped : Phase → Bool
+isStopped Phase.Idle = false
+isStopped Phase.MustReset = false
+isStopped Phase.AskedFull = false
+isStopped Phase.AskedChange = false
+isStopped (Phase.Loading kind session) = false
+isStopped (Phase.Stopped stop) = true
+
+-- a live record or a change has its table; the working room is empty outside Loading; nothing is held in Stopped
+abbrev pub inOrder : Session → Bool
+inOrder s =
+    (hasTable (s .table) || (eqb (s .live) 0 && not (changeUnderWay (s .phase))))
+    && ((isLoading (s .phase) || eqb (s .working) 0) && (not (isStopped (s .phase)) || eqb (s .held) 0))
+
+-- receiver shape: where it is missing the answer is 22. Both rooms are rooms of the limit and keep the room rules up to their counts; the hold is a
+-- stream (8 bytes or more, no more held than it has, what is held makes neither a PDU nor a refusal)
+unfoldable pub isReceiver : ℕ → Session → List ℕ → List ℕ → List ℕ → Bool
+isReceiver limit s live working hold =
+    isRoom limit (s .live) live && (isRoom limit (s .working) working && (isStream hold (s .held) && inOrder s))
+
+-- "a room breaks the room rules": it is the room of no table of so many records
+abbrev pub BreaksRules : ℕ → ℕ → List ℕ → Type 0
+BreaksRules limit count s = (t : List Record) → isTable t ≡ true → length t ≡ count → s ≡ room limit t → ⊥
+
+-- document 01's reasons for 22, one by one, over any limit: proofs/Shape.antt has that receiver shape is missing exactly where one of them holds
+pub data Reason (limit : ℕ) (s : Session) (live working hold : List ℕ) : Type 0 where
+  liveSize : (length live ≡ 6 * limit → ⊥) → Reason limit s live working hold
+  workingSize : (length working ≡ 6 * limit → ⊥) → Reason limit s live working hold
+  holdSize : length hold < 8 → Reason limit s live working hold
+  liveOver : limit < s .live → Reason limit s live working hold
+  workingOver : limit < s .working → Reason limit s live working hold
+  heldOver : length hold < s .held → Reason limit s live working hold
+  liveRules : BreaksRules limit (s .live) live → Reason limit s live working hold
+  workingRules : BreaksRules limit (s .working) working → Reason limit s live working hold
+  recordsWithoutTable : s .table ≡ LiveTable.NoTable → 0 < s .live → Reason limit s live working hold
+  changeWithoutTable : s .table ≡ LiveTable.NoTable → changeUnderWay (s .phase) ≡ true → Reason limit s live working hold
+  workingOutsideLoading : isLoading (s .phase) ≡ false → 0 < s .working → Reason limit s live working hold
+  heldInStopped : isStopped (s .phase) ≡ true → 0 < s .held → Reason limit s live working hold
+  heldPdu : (pdu : RtrPdu) → judge crate (length hold) (take (s .held) hold) ≡ Heard.whole pdu → Reason limit s live working hold
+  heldRefusal : (number : ℕ) (values : List ℕ) → judge crate (length hold) (take (s .held) hold) ≡ Heard.refused number values → Reason limit s live working hold
+
+-- what a call leaves: the session record, both rooms whole, and the hold up to the held count
+pub record Left : Type 0 where
+  pub version : RtrProtocolVersion
+  pub stage : Stage
+  pub table : LiveTable
+  pub note : Note
+  pub liveCount : ℕ
+  pub workingCount : ℕ
+  pub heldCount : ℕ
+  pub live : List ℕ
+  pub working : List ℕ
+  pub held : List ℕ
+
+abbrev pub leaves : Session → List ℕ → List ℕ → List ℕ → Left
+leaves s live working hold =
+    record {
+      version = s .version;
+      stage = stageOf (s .phase);
+      table = s .table;
+      note = s .note;
+      liveCount = s .live;
+      workingCount = s .working;
+      heldCount = s .held;
+      live = live;
+      working = working;
+      held = take (s .held) hold;
+    }
+
+-- a receiver in memory
+abbrev pub inMemory : ℕ → Receiver → Left
+inMemory limit r =
+    record {
+      version = r .version;
+      stage = r .stage;
+      table = r .table;
+      note = r .note;
+      liveCount = length (r .live);
+      workingCount = length (r .working);
+      heldCount = length (r .held);
+      live = room limit (r .live);
+      working = room limit (r .working);
+      held = r .held;
+    }
+
+-- a stop with its number and values, or none
+pub data Ending : Type 0 where
+  goesOn : Ending
+  stops : ℕ → List ℕ → Ending
+
+abbrev pub endingOf : Stage → Ending
+endingOf idle = goesOn
+endingOf mustReset = goesOn
+endingOf askedFull = goesOn
+endingOf askedChange = goesOn
+endingOf (loading kind session) = goesOn
+endingOf (stopped number values) = stops number values
+
+-- ---- feed: bytes taken, updates finished, the stop if there is one, and what is left; or 22, which takes and counts 0 and leaves all, the whole hold too
+pub data FeedSays : Type 0 where
+  fed : ℕ → ℕ → Ending → Left → FeedSays
+  notAReceiver : ℕ → ℕ → Left → List ℕ → FeedSays
+
+abbrev pub fedTo : ℕ → Feed → FeedSays
+fedTo limit f = fed (f .taken) (f .updates) (endingOf (f .receiver .stage)) (inMemory limit (f .receiver))
+
+unfoldable pub feedSays : ℕ → Session → List ℕ → List ℕ → List ℕ → List ℕ → FeedSays
+feedSays limit s live working hold piece =
+    cond (isReceiver limit s live working hold)
+    (fedTo limit (feed limit (length hold) (receiverOf s live working hold) piece))
+    (notAReceiver 0 0 (leaves s live working hold) hold)
+
+-- what the code's answer says, given the memory that it leaves
+abbrev pub fedSaidBy : FeedAnswer → ℕ → ℕ → Left → List ℕ → FeedSays
+fedSaidBy FeedAnswer.GoesOn taken updates left hold = fed taken updates goesOn left
+fedSaidBy (FeedAnswer.Stopped stop) taken updates left hold = fed taken updates (endingOf (stoppedBy (stopSaid stop))) left
+fedSaidBy FeedAnswer.NotAReceiver taken updates left hold = notAReceiver taken updates left hold
+
+abbrev pub fedSaid : Fed → List ℕ → List ℕ → List ℕ → FeedSays
+fedSaid r live working hold = fedSaidBy (r .done .answer) (r .done .taken) (r .done .updates) (leaves (r .session) live working hold) hold
+
+-- ---- start: a fresh receiver in both rooms, or 22 for a room's size or H, and both rooms as they were
+pub data StartSays : Type 0 where
+  started : Left → StartSays
+  refusedStart : List ℕ → List ℕ → StartSays
+
+unfoldable pub startSays : ℕ → RtrProtocolVersion → List ℕ → List ℕ → List ℕ → StartSays
+startSays limit version live working hold =
+    cond (eqb (length live) (6 * limit) && (eqb (length working) (6 * limit) && leb 8 (length hold)))
+    (started (inMemory limit (fresh version)))
+    (refusedStart live working)
+
+abbrev pub startSaid : StartAnswer → List ℕ → List ℕ → List ℕ → StartSays
+startSaid (StartAnswer.Started s) live working hold = started (leaves s live working hold)
+startSaid StartAnswer.NotAReceiver live working hold = refusedStart live working
+
+-- ---- the asks: 22, 20, 21, 9; what was written or the refusal, the output, and what is left
+pub record AskSays : Type 0 where
+  pub says : Writing
+  pub out : List ℕ
+  pub left : Left
+
+abbrev pub askedTo : ℕ → Asked → AskSays
+askedTo limit a = record { says = a .says; out = a .out; left = inMemory limit (a .receiver) }
+
+abbrev pub askSays : ℕ → (Receiver → Query) → Session → List ℕ → List ℕ → List ℕ → List ℕ → AskSays
+askSays limit queryOf s live working hold out =
+    cond (isReceiver limit s live working hold)
+    (askedTo limit (ask (queryOf (receiverOf s live working hold)) (receiverOf s live working hold) out))
+    (record { says = Writing.refused 22 []; out = out; left = leaves s live working hold })
+
+unfoldable pub fullAskSays : ℕ → Session → List ℕ → List ℕ → List ℕ → List ℕ → AskSays
+fullAskSays limit s live working hold out = askSays limit (λ r. fullQuery (r .stage) r) s live working hold out
+
+unfoldable pub changeAskSays : ℕ → Session → List ℕ → List ℕ → List ℕ → List ℕ → AskSays
+changeAskSays limit s live working hold out = askSays limit (λ r. changeQuery (r .stage) r) s live working hold out
+
+abbrev pub askError : AskError → Writing
+askError AskError.NotAReceiver = Writing.refused 22 []
+askError AskError.WrongPhase = Writing.refused 20 []
+askError AskError.NoTable = Writing.refused 21 []
+askError (AskError.Encoding error) = encodeRefusal error
+
+abbrev pub askWriting : AskAnswer → Writing
+askWriting (AskAnswer.Written n) = Writing.written n
+askWriting (AskAnswer.Refused error) = askError error
+
+abbrev pub askSaid : AskedSession → List ℕ → List ℕ → List ℕ → List ℕ → AskSays
+askSaid r live working hold out =
+    record { says = askWriting (r .answer); out = out; left = leaves (r .session) live working hold }
+
+-- ---- reconnect: 22, or what is left of it
+pub record ReconnectSays : Type 0 where
+  pub number : ℕ
+  pub left : Left
+
+unfoldable pub reconnectSays : ℕ → Session → List ℕ → List ℕ → List ℕ → ReconnectSays
+reconnectSays limit s live working hold =
+    cond (isReceiver limit s live working hold)
+    (record { number = 0; left = inMemory limit (reconnected (receiverOf s live working hold)) })
+    (record { number = 22; left = leaves s live working hold })
+
+abbrev pub reconnectNumber : ReconnectAnswer → ℕ
+reconnectNumber ReconnectAnswer.Connected = 0
+reconnectNumber ReconnectAnswer.NotAReceiver = 22
+
+abbrev pub reconnectSaid : Reconnected → List ℕ → List ℕ → List ℕ → ReconnectSays
+reconnectSaid r live working hold = record { number = reconnectNumber (r .answer); left = leaves (r .session) live working hold }
+
+-- ---- the notify comparison: 22 first
+pub data NotifySays : Type 0 where
+  compares : Notified → NotifySays
+  refusedNotify : NotifySays
+
+unfoldable pub notifySays : ℕ → Session → List ℕ → List ℕ → List ℕ → NotifySays
+notifySays limit s live working hold = cond (isReceiver limit s live working hold) (compares (notified (s .table) (s .note))) refusedNotify
+
+abbrev pub notifySaid : NotifyAnswer → NotifySays
+notifySaid NotifyAnswer.None = compares Notified.none
+notifySaid NotifyAnswer.OtherSession = compares Notified.otherSession
+notifySaid NotifyAnswer.Same = compares Notified.same
+notifySaid NotifyAnswer.Newer = compares Notified.newer
+notifySaid NotifyAnswer.Older = compares Notified.older
+notifySaid NotifyAnswer.Undefined = compares Notified.undefined
+notifySaid NotifyAnswer.NotAReceiver = refusedNotify

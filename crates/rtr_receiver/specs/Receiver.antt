@@ -1,0 +1,321 @@
+-- The receiver, byte by byte and PDU by PDU, on tables: document 01, "Stream and receiver". No memory, no room and no hold buffer is spoken of here.
+use Prim.Native.Nat.{ℕ, _+_, _-_, _*_}
+use mathlib.Core.Bool.{Bool, true, false, cond, _&&_, _||_}
+use mathlib.Core.List.{List, [], _∷_, _++_}
+use lib.Dec.{eqb, ltb}
+use Rattle.rtr_models.specs.Codes.{codeNumber, versionNumber}
+use Rattle.rtr_models.specs.Values.{announces, secondsOr}
+use Rattle.rtr_models.specs.declared.RtrProtocolVersion.{RtrProtocolVersion}
+use Rattle.rtr_models.specs.declared.RtrEndOfData.{RtrEndOfData}
+use Rattle.rtr_models.specs.declared.RtrPdu.{RtrPdu}
+use Rattle.rtr_models.specs.declared.RtrPdu.the-variants.{SerialNotify, SerialQuery, ResetQuery, CacheResponse, IPv4Prefix, IPv6Prefix, EndOfData, CacheReset, RouterKey, ErrorReport}
+use Rattle.rtr_codec.specs.Reading.{crate}
+use Rattle.rtr_encode.specs.Encode.{Writing, encode}
+use Rattle.rtr_stream.specs.Stream.{Heard, judge}
+use Rattle.rtr_room.specs.Table.{Change, enter, leave}
+use Rattle.rtr_room.specs.declared.Record.{Record}
+use Rattle.rtr_receiver.specs.declared.LoadKind.{LoadKind}
+use Rattle.rtr_receiver.specs.declared.Table.{Table}
+use Rattle.rtr_receiver.specs.declared.LiveTable.{LiveTable}
+use Rattle.rtr_receiver.specs.declared.Note.{Note}
+
+-- the phases; a load holds its kind and its session, a stop its number and values (document 01, "Refusal numbers")
+pub data Stage : Type 0 where
+  idle : Stage
+  mustReset : Stage
+  askedFull : Stage
+  askedChange : Stage
+  loading : LoadKind → ℕ → Stage
+  stopped : ℕ → List ℕ → Stage
+
+-- a receiver: its version for life, its phase, the table's session, serial and intervals, the last Serial Notify, the live and the working table, the
+-- bytes held
+pub record Receiver : Type 0 where
+  pub version : RtrProtocolVersion
+  pub stage : Stage
+  pub table : LiveTable
+  pub note : Note
+  pub live : List Record
+  pub working : List Record
+  pub held : List ℕ
+
+-- "Start .. gives the fresh state: Idle, no table, nothing held or noted"
+abbrev pub fresh : RtrProtocolVersion → Receiver
+fresh v = record { version = v; stage = idle; table = LiveTable.NoTable; note = Note.NoNote; live = []; working = []; held = [] }
+
+-- the same in another phase
+abbrev pub inStage : Stage → Receiver → Receiver
+inStage stage r =
+    record { version = r .version; stage = stage; table = r .table; note = r .note; live = r .live; working = r .working; held = r .held }
+
+abbrev pub holding : List ℕ → Receiver → Receiver
+holding s r = record { version = r .version; stage = r .stage; table = r .table; note = r .note; live = r .live; working = r .working; held = s }
+
+-- a stop clears the held bytes and the working table; it keeps the live table and the note
+abbrev pub stop : ℕ → List ℕ → Receiver → Receiver
+stop number values r =
+    record { version = r .version; stage = stopped number values; table = r .table; note = r .note; live = r .live; working = []; held = [] }
+
+-- "Serial Notify is noted in any phase but Stopped"
+abbrev pub onSerialNotify : ℕ → ℕ → Receiver → Receiver
+onSerialNotify session serial r =
+    record {
+      version = r .version;
+      stage = r .stage;
+      table = r .table;
+      note = Note.Noted session serial;
+      live = r .live;
+      working = r .working;
+      held = r .held;
+    }
+
+-- the working table starts empty, or as the live one
+abbrev pub startLoad : LoadKind → ℕ → List Record → Receiver → Receiver
+startLoad kind session working r =
+    record { version = r .version; stage = loading kind session; table = r .table; note = r .note; live = r .live; working = working; held = r .held }
+
+-- for a change the session must be the table's (15); where there is no table it is nobody's
+abbrev pub onChangeResponse : LiveTable → ℕ → Receiver → Receiver
+onChangeResponse LiveTable.NoTable session r = stop 15 [] r
+onChangeResponse (LiveTable.Known t) session r = cond (eqb session (t .session)) (startLoad LoadKind.Change session (r .live) r) (stop 15 [] r)
+
+-- "Cache Response in an Asked phase begins Loading"
+abbrev pub onCacheResponse : Stage → ℕ → Receiver → Receiver
+onCacheResponse askedFull session r = startLoad LoadKind.Full session [] r
+onCacheResponse askedChange session r = onChangeResponse (r .table) session r
+onCacheResponse idle session r = stop 13 [] r
+onCacheResponse mustReset session r = stop 13 [] r
+onCacheResponse (loading kind id) session r = stop 13 [] r
+onCacheResponse (stopped number values) session r = stop 13 [] r
+
+-- the working table after a record, or its refusal
+abbrev pub changedTo : Change → Receiver → Receiver
+changedTo (Change.changed t) r =
+    record { version = r .version; stage = r .stage; table = r .table; note = r .note; live = r .live; working = t; held = r .held }
+changedTo (Change.refused number) r = stop number [] r
+
+-- "A prefix in Loading enters (lowest flag bit 1) or leaves (0) the working room"
+abbrev pub onRecord : ℕ → Stage → Bool → Record → Receiver → Receiver
+onRecord limit (loading kind id) true record₀ r = changedTo (enter limit record₀ (r .working)) r
+onRecord limit (loading kind id) false record₀ r = changedTo (leave record₀ (r .working)) r
+onRecord limit idle announced record₀ r = stop 13 [] r
+onRecord limit mustReset announced record₀ r = stop 13 [] r
+onRecord limit askedFull announced record₀ r = stop 13 [] r
+onRecord limit askedChange announced record₀ r = stop 13 [] r
+onRecord limit (stopped number values) announced record₀ r = stop 13 [] r
+
+-- "Router Key in Loading is passed over"
+abbrev pub onRouterKey : Stage → Receiver → Receiver
+onRouterKey (loading kind id) r = r
+onRouterKey idle r = stop 13 [] r
+onRouterKey mustReset r = stop 13 [] r
+onRouterKey askedFull r = stop 13 [] r
+onRouterKey askedChange r = stop 13 [] r
+onRouterKey (stopped number values) r = stop 13 [] r
+
+-- "Cache Reset in AskedChange: MustReset"
+abbrev pub onCacheReset : Stage → Receiver → Receiver
+onCacheReset askedChange r = inStage mustReset r
+onCacheReset idle r = stop 13 [] r
+onCacheReset mustReset r = stop 13 [] r
+onCacheReset askedFull r = stop 13 [] r
+onCacheReset (loading kind id) r = stop 13 [] r
+onCacheReset (stopped number values) r = stop 13 [] r
+
+-- what an End of Data says of the table; version 0 has no intervals, the defaults stand
+abbrev pub tableFrom : RtrEndOfData → Table
+tableFrom p =
+    record {
+      session = p .«session_id»;
+      serial = p .«serial_number»;
+      refresh = secondsOr 3600 (p .«refresh_interval»);
+      retry = secondsOr 600 (p .«retry_interval»);
+      expire = secondsOr 7200 (p .«expire_interval»);
+    }
+
+-- the working table becomes the live one
+abbrev pub finish : RtrEndOfData → Receiver → Receiver
+finish p r =
+    record {
+      version = r .version;
+      stage = idle;
+      table = LiveTable.Known (tableFrom p);
+      note = r .note;
+      live = r .working;
+      working = [];
+      held = r .held;
+    }
+
+-- what was done, and how many updates finished by it
+pub record Deed : Type 0 where
+  pub then : Receiver
+  pub updates : ℕ
+
+abbrev pub noUpdate : Receiver → Deed
+noUpdate r = record { then = r; updates = 0 }
+
+-- "End of Data in Loading with the load's session makes the working room live .."
+abbrev pub onEndOfData : Stage → RtrEndOfData → Receiver → Deed
+onEndOfData (loading kind id) p r = cond (eqb (p .«session_id») id) (record { then = finish p r; updates = 1 }) (noUpdate (stop 15 [] r))
+onEndOfData idle p r = noUpdate (stop 13 [] r)
+onEndOfData mustReset p r = noUpdate (stop 13 [] r)
+onEndOfData askedFull p r = noUpdate (stop 13 [] r)
+onEndOfData askedChange p r = noUpdate (stop 13 [] r)
+onEndOfData (stopped number values) p r = noUpdate (stop 13 [] r)
+
+-- the record of a prefix (document 01: family x 65,536 + prefix length x 256 + max, four address numbers, AS number)
+abbrev pub record4 : ℕ → ℕ → ℕ → ℕ → Record
+record4 length max address asn = record { kind = 4 * 65536 + length * 256 + max; w0 = address; w1 = 0; w2 = 0; w3 = 0; asn = asn }
+
+abbrev pub record6 : ℕ → ℕ → ℕ → ℕ → ℕ → ℕ → ℕ → Record
+record6 length max w0 w1 w2 w3 asn = record { kind = 6 * 65536 + length * 256 + max; w0 = w0; w1 = w1; w2 = w2; w3 = w3; asn = asn }
+
+-- a PDU in its turn, by what it is; what a cache never sends a router is out of turn
+unfoldable pub onKind : ℕ → RtrPdu → Receiver → Deed
+onKind limit (SerialNotify p) r = noUpdate (onSerialNotify (p .«session_id») (p .«serial_number») r)
+onKind limit (SerialQuery p) r = noUpdate (stop 13 [] r)
+onKind limit (ResetQuery p) r = noUpdate (stop 13 [] r)
+onKind limit (CacheResponse p) r = noUpdate (onCacheResponse (r .stage) (p .«session_id») r)
+onKind limit (IPv4Prefix p) r =
+    noUpdate (onRecord limit (r .stage) (announces (p .flags)) (record4 (p .«prefix_length») (p .«max_length») (p .prefix) (p .asn)) r)
+onKind limit (IPv6Prefix p) r =
+    noUpdate
+    (onRecord limit (r .stage) (announces (p .flags))
+    (record6 (p .«prefix_length») (p .«max_length») (p .prefix .w0) (p .prefix .w1) (p .prefix .w2) (p .prefix .w3) (p .asn))
+    r)
+onKind limit (EndOfData p) r = onEndOfData (r .stage) p r
+onKind limit (CacheReset p) r = noUpdate (onCacheReset (r .stage) r)
+onKind limit (RouterKey p) r = noUpdate (onRouterKey (r .stage) r)
+onKind limit (ErrorReport p) r = noUpdate (stop 13 [] r)
+
+-- a PDU of the receiver's version, else 14
+abbrev pub ofVersion : RtrProtocolVersion → Receiver → Deed → Deed
+ofVersion v r deed = cond (eqb (versionNumber v) (versionNumber (r .version))) deed (noUpdate (stop 14 [] r))
+
+-- one PDU: an Error Report of either version first (19), then the version (14), then what it is
+unfoldable pub onPdu : ℕ → RtrPdu → Receiver → Deed
+onPdu limit (ErrorReport p) r = noUpdate (stop 19 (codeNumber (p .«error_code») ∷ []) r)
+onPdu limit (SerialNotify p) r = ofVersion (p .version) r (onKind limit (SerialNotify p) r)
+onPdu limit (SerialQuery p) r = ofVersion (p .version) r (onKind limit (SerialQuery p) r)
+onPdu limit (ResetQuery p) r = ofVersion (p .version) r (onKind limit (ResetQuery p) r)
+onPdu limit (CacheResponse p) r = ofVersion (p .version) r (onKind limit (CacheResponse p) r)
+onPdu limit (IPv4Prefix p) r = ofVersion (p .version) r (onKind limit (IPv4Prefix p) r)
+onPdu limit (IPv6Prefix p) r = ofVersion (p .version) r (onKind limit (IPv6Prefix p) r)
+onPdu limit (EndOfData p) r = ofVersion (p .version) r (onKind limit (EndOfData p) r)
+onPdu limit (CacheReset p) r = ofVersion (p .version) r (onKind limit (CacheReset p) r)
+onPdu limit (RouterKey p) r = ofVersion (p .version) r (onKind limit (RouterKey p) r)
+
+-- a feed so far: the receiver, the bytes taken and the updates finished
+pub record Feed : Type 0 where
+  pub receiver : Receiver
+  pub taken : ℕ
+  pub updates : ℕ
+
+-- what the bytes in hand, the last of them new, make of it
+abbrev pub heard : ℕ → ℕ → ℕ → Receiver → List ℕ → Heard → Feed
+heard limit taken updates r s Heard.waits = record { receiver = holding s r; taken = taken; updates = updates }
+heard limit taken updates r s (Heard.whole pdu) =
+    record {
+      receiver = onPdu limit pdu (holding [] r) .then;
+      taken = taken;
+      updates = updates + onPdu limit pdu (holding [] r) .updates;
+    }
+heard limit taken updates r s (Heard.refused number values) = record { receiver = stop number values r; taken = taken; updates = updates }
+
+-- any phase but Stopped
+abbrev pub listens : Stage → Bool
+listens idle = true
+listens mustReset = true
+listens askedFull = true
+listens askedChange = true
+listens (loading kind session) = true
+listens (stopped number values) = false
+
+-- one byte; a receiver that stopped takes none
+unfoldable pub onByte : ℕ → ℕ → Feed → ℕ → Feed
+onByte limit H f b =
+    cond (listens (f .receiver .stage))
+    (heard limit (f .taken + 1) (f .updates) (f .receiver) (f .receiver .held ++ b ∷ []) (judge crate H (f .receiver .held ++ b ∷ [])))
+    f
+
+-- a piece is its bytes, one after another
+unfoldable pub onPiece : ℕ → ℕ → Feed → List ℕ → Feed
+onPiece limit H f [] = f
+onPiece limit H f (b ∷ piece) = onPiece limit H (onByte limit H f b) piece
+
+unfoldable pub feed : ℕ → ℕ → Receiver → List ℕ → Feed
+feed limit H r piece = onPiece limit H (record { receiver = r; taken = 0; updates = 0 }) piece
+
+-- "Full ask (Idle, MustReset) writes a Reset Query: AskedFull. Change ask (Idle, with a table) writes a Serial Query of the table's session and serial:
+-- AskedChange." Else 20; in Idle without a table 21.
+pub data Query : Type 0 where
+  query : RtrPdu → Stage → Query
+  refused : ℕ → Query
+
+abbrev pub resetQuery : Receiver → Query
+resetQuery r = query (ResetQuery (record { version = r .version })) askedFull
+
+abbrev pub fullQuery : Stage → Receiver → Query
+fullQuery idle r = resetQuery r
+fullQuery mustReset r = resetQuery r
+fullQuery askedFull r = refused 20
+fullQuery askedChange r = refused 20
+fullQuery (loading kind session) r = refused 20
+fullQuery (stopped number values) r = refused 20
+
+abbrev pub serialQuery : LiveTable → Receiver → Query
+serialQuery LiveTable.NoTable r = refused 21
+serialQuery (LiveTable.Known t) r =
+    query (SerialQuery (record { version = r .version; «session_id» = t .session; «serial_number» = t .serial })) askedChange
+
+abbrev pub changeQuery : Stage → Receiver → Query
+changeQuery idle r = serialQuery (r .table) r
+changeQuery mustReset r = refused 20
+changeQuery askedFull r = refused 20
+changeQuery askedChange r = refused 20
+changeQuery (loading kind session) r = refused 20
+changeQuery (stopped number values) r = refused 20
+
+-- an ask: the query is written (or refused by 9), and the phase is the query's; a refusal changes nothing
+pub record Asked : Type 0 where
+  pub receiver : Receiver
+  pub says : Writing
+  pub out : List ℕ
+
+abbrev pub askedBy : Writing → Stage → Receiver → List ℕ → Asked
+askedBy (Writing.written n) stage r out = record { receiver = inStage stage r; says = Writing.written n; out = out }
+askedBy (Writing.refused number values) stage r out = record { receiver = r; says = Writing.refused number values; out = out }
+
+abbrev pub ask : Query → Receiver → List ℕ → Asked
+ask (query pdu stage) r out = askedBy (encode crate pdu [] out .says) stage r (encode crate pdu [] out .out)
+ask (refused number) r out = record { receiver = r; says = Writing.refused number []; out = out }
+
+-- "Reconnect: Idle; held bytes, working room and note cleared; table kept"
+abbrev pub reconnected : Receiver → Receiver
+reconnected r =
+    record { version = r .version; stage = idle; table = r .table; note = Note.NoNote; live = r .live; working = []; held = [] }
+
+-- RFC 1982, section 3.2, over 32 bits: a serial n beside the table's t
+pub data Notified : Type 0 where
+  none : Notified
+  otherSession : Notified
+  same : Notified
+  newer : Notified
+  older : Notified
+  undefined : Notified
+
+abbrev pub halfway : ℕ
+halfway = 2147483648
+
+-- t < n: n is the larger and less than half of the numbers ahead, or the smaller and more than half behind; t > n likewise
+abbrev pub isNewer : ℕ → ℕ → Bool
+isNewer n t = (ltb t n && ltb (n - t) halfway) || (ltb n t && ltb halfway (t - n))
+
+abbrev pub compared : ℕ → ℕ → Notified
+compared n t = cond (eqb n t) same (cond (isNewer n t) newer (cond (isNewer t n) older undefined))
+
+-- "None comes first, without a note or a table"
+abbrev pub notified : LiveTable → Note → Notified
+notified LiveTable.NoTable note = none
+notified (LiveTable.Known t) Note.NoNote = none
+notified (LiveTable.Known t) (Note.Noted session serial) = cond (eqb session (t .session)) (compared serial (t .serial)) otherSession

@@ -1,0 +1,901 @@
+// The receiver: it asks a cache for its table, listens to what comes, and keeps two rooms: the live one, which is whole or the one before, and the
+// working one, which is made live by the End of Data. Every call takes every input and tests first that the memory lent is of receiver
+// shape (22); a stop clears what is held and the working room, keeps the live room, and repeats until a reconnect.
+use rtr_encode::EncodeAnswer;
+use rtr_encode::EncodeError;
+use rtr_encode::encode_reset_query;
+use rtr_encode::encode_serial_query;
+use rtr_models::*;
+use rtr_room::CopyAnswer;
+use rtr_room::EnterAnswer;
+use rtr_room::LeaveAnswer;
+use rtr_room::Record;
+use rtr_room::copy;
+use rtr_room::empty;
+use rtr_room::enter;
+use rtr_room::leave;
+use rtr_room::rules;
+use rtr_stream::Stream;
+use rtr_stream::StreamAnswer;
+use rtr_stream::StreamError;
+use rtr_stream::is_stream;
+use rtr_stream::search;
+ghost use mathlib.Core.Path.{_≡_};
+ghost use mathlib.Core.List.{[]};
+ghost use Prim.Native.Nat.{_+_, _≤_, _<_};
+ghost use lib.ListN.{length, replicate};
+ghost use lib.Dec.{eqb};
+ghost use Rattle.rtr_models.specs.Codes.{versionNumber};
+ghost use Rattle.rtr_codec.specs.Answers.{numberOf};
+ghost use Rattle.rtr_room.specs.Table.{enter, leave};
+ghost use Rattle.rtr_room.specs.Room.{records};
+ghost use Rattle.rtr_receiver.specs.Receiver.{onCacheResponse, onChangeResponse, changedTo, onRecord, onRouterKey, onCacheReset, finish, onEndOfData, onKind, onPdu, compared};
+ghost use Rattle.rtr_receiver.specs.Promises.{NotifySays, stopSaid, changeUnderWay, stageOf, receiverOf, inOrder, isReceiver, feedSays, fedSaid, startSays, startSaid, fullAskSays, changeAskSays, askSaid, reconnectSays, reconnectSaid, notifySays, notifySaid};
+ghost use Rattle.rtr_receiver.specs.Private.{tabled, cleared, BothRooms, Stands, Did, stoppedSession, askedFor, afterPdu, feedHere, StepAsks, Stepped};
+
+// How many records a room has at the most.
+pub const RECORD_LIMIT: usize = 1024;
+
+// ---- The session record
+
+// What a load was asked as.
+pub enum LoadKind {
+    Full,
+    Change,
+}
+
+// Why a receiver stopped; `number` gives document 01's number of it.
+pub enum Stop {
+    Stream(StreamError),
+    OutOfTurn,
+    OtherVersion,
+    OtherSession,
+    NotIn,
+    AlreadyIn,
+    RoomFull,
+    ErrorReport(RtrErrorCode),
+}
+
+// A load holds its kind and its session, a stop its reason.
+pub enum Phase {
+    Idle,
+    MustReset,
+    AskedFull,
+    AskedChange,
+    Loading(LoadKind, u16),
+    Stopped(Stop),
+}
+
+// What the last End of Data said of the live table.
+pub struct Table {
+    pub session: u16,
+    pub serial: u32,
+    pub refresh: u32,
+    pub retry: u32,
+    pub expire: u32,
+}
+
+pub enum LiveTable {
+    NoTable,
+    Known(Table),
+}
+
+// The last Serial Notify: session and serial.
+pub enum Note {
+    NoNote,
+    Noted(u16, u32),
+}
+
+// A receiver between two calls; the counts are of records in the live and the working room, and of bytes in the hold.
+pub struct Session {
+    pub version: RtrProtocolVersion,
+    pub phase: Phase,
+    pub table: LiveTable,
+    pub note: Note,
+    pub live: usize,
+    pub working: usize,
+    pub held: usize,
+}
+
+// ---- Answers
+
+pub enum StartAnswer {
+    Started(Session),
+    NotAReceiver,
+}
+
+pub enum AskError {
+    NotAReceiver,
+    WrongPhase,
+    NoTable,
+    Encoding(EncodeError),
+}
+
+// How many bytes of the output are the query.
+pub enum AskAnswer {
+    Written(usize),
+    Refused(AskError),
+}
+
+pub struct AskedSession {
+    pub session: Session,
+    pub answer: AskAnswer,
+}
+
+pub enum FeedAnswer {
+    GoesOn,
+    Stopped(Stop),
+    NotAReceiver,
+}
+
+// What a feed did: bytes taken, updates finished, and whether it goes on.
+pub struct Done {
+    pub taken: usize,
+    pub updates: usize,
+    pub answer: FeedAnswer,
+}
+
+pub struct Fed {
+    pub session: Session,
+    pub done: Done,
+}
+
+pub enum ReconnectAnswer {
+    Connected,
+    NotAReceiver,
+}
+
+pub struct Reconnected {
+    pub session: Session,
+    pub answer: ReconnectAnswer,
+}
+
+// A Serial Notify beside the table's serial.
+pub enum NotifyAnswer {
+    None,
+    OtherSession,
+    Same,
+    Newer,
+    Older,
+    Undefined,
+    NotAReceiver,
+}
+
+impl Stop {
+    // Document 01's number of it.
+    pub fn number(self) -> u8
+        ensures { λ r. ⌜ r ≡ numberOf (stopSaid self) ⌝ }
+    {
+        match self {
+            Stop::Stream(error) => error.number(),
+            Stop::OutOfTurn => 13,
+            Stop::OtherVersion => 14,
+            Stop::OtherSession => 15,
+            Stop::NotIn => 16,
+            Stop::AlreadyIn => 17,
+            Stop::RoomFull => 18,
+            Stop::ErrorReport(_) => 19,
+        }
+    }
+}
+
+// ---- Shape: 22
+
+fn change_under_way(phase: Phase) -> bool
+    ensures { λ r. ⌜ r ≡ changeUnderWay phase ⌝ }
+{
+    match phase {
+        Phase::AskedChange => true,
+        Phase::Loading(kind, _) => match kind {
+            LoadKind::Full => false,
+            LoadKind::Change => true,
+        },
+        _ => false,
+    }
+}
+
+// A live record or a change has its table.
+fn is_tabled(s: Session) -> bool
+    ensures { λ r. ⌜ r ≡ tabled s ⌝ }
+{
+    let table = s.table;
+    match table {
+        LiveTable::Known(_) => true,
+        LiveTable::NoTable => {
+            if s.live == 0 {
+                let phase = s.phase;
+                return !change_under_way(phase);
+            }
+            false
+        }
+    }
+}
+
+// The working room is empty outside Loading, nothing is held in Stopped.
+fn is_cleared(s: Session) -> bool
+    ensures { λ r. ⌜ r ≡ cleared s ⌝ }
+{
+    let phase = s.phase;
+    match phase {
+        Phase::Loading(_, _) => true,
+        Phase::Stopped(_) => s.working == 0 && s.held == 0,
+        _ => s.working == 0,
+    }
+}
+
+fn in_order(s: Session) -> bool
+    ensures { λ r. ⌜ r ≡ inOrder s ⌝ }
+{
+    if !is_tabled(s) {
+        return false;
+    }
+    is_cleared(s)
+}
+
+// Receiver shape, each number of the rooms read once.
+fn is_receiver(s: Session, live: &[u32], working: &[u32], hold: &[u8]) -> bool
+    ensures { λ r. ⌜ r ≡ isReceiver 1024 s (now (live .entry)) (now (working .entry)) (now (hold .entry)) ⌝ }
+{
+    if !in_order(s) {
+        return false;
+    }
+    if !is_stream(hold, s.held) {
+        return false;
+    }
+    if !rules(live, RECORD_LIMIT, s.live) {
+        return false;
+    }
+    rules(working, RECORD_LIMIT, s.working)
+}
+
+// ---- Calls
+
+// A fresh receiver: both rooms are zeroed, the hold is only measured.
+pub fn start(
+    version: RtrProtocolVersion,
+    live: &mut [u32],
+    working: &mut [u32],
+    hold: &[u8],
+) -> StartAnswer
+    ensures { λ r. ⌜ startSaid r (now (live .exit)) (now (working .exit)) (now (hold .entry)) ≡ startSays 1024 version (now (live .entry)) (now (working .entry)) (now (hold .entry)) ⌝ }
+{
+    if live.len() != 6 * RECORD_LIMIT {
+        return StartAnswer::NotAReceiver;
+    }
+    if working.len() != 6 * RECORD_LIMIT {
+        return StartAnswer::NotAReceiver;
+    }
+    if hold.len() < 8 {
+        return StartAnswer::NotAReceiver;
+    }
+    empty(live);
+    empty(working);
+    StartAnswer::Started(Session {
+        version,
+        phase: Phase::Idle,
+        table: LiveTable::NoTable,
+        note: Note::NoNote,
+        live: 0,
+        working: 0,
+        held: 0,
+    })
+}
+
+// The same session in another phase.
+fn in_phase(s: Session, phase: Phase) -> Session
+    ensures { λ r. ⌜ r ≡ record { version = s .version; phase = phase; table = s .table; note = s .note; live = s .live; working = s .working; held = s .held } ⌝ }
+{
+    let version = s.version;
+    let table = s.table;
+    let note = s.note;
+    Session {
+        version,
+        phase,
+        table,
+        note,
+        live: s.live,
+        working: s.working,
+        held: s.held,
+    }
+}
+
+// What an ask that wrote its query, or could not, answers.
+fn asked(s: Session, answer: EncodeAnswer, phase: Phase) -> AskedSession
+    ensures { λ r. ⌜ r ≡ askedFor s answer phase ⌝ }
+{
+    match answer {
+        EncodeAnswer::Written(n) => AskedSession {
+            session: in_phase(s, phase),
+            answer: AskAnswer::Written(n),
+        },
+        EncodeAnswer::Refused(error) => AskedSession {
+            session: s,
+            answer: AskAnswer::Refused(AskError::Encoding(error)),
+        },
+    }
+}
+
+fn ask_refused(s: Session, error: AskError) -> AskedSession
+    ensures { λ r. ⌜ r ≡ record { session = s; answer = AskAnswer.Refused error } ⌝ }
+{
+    AskedSession {
+        session: s,
+        answer: AskAnswer::Refused(error),
+    }
+}
+
+// Asks for the whole table: a Reset Query into the output.
+pub fn full_ask(
+    s: Session,
+    live: &[u32],
+    working: &[u32],
+    hold: &[u8],
+    out: &mut [u8],
+) -> AskedSession
+    ensures { λ r. ⌜ askSaid r (now (live .entry)) (now (working .entry)) (now (hold .entry)) (now (out .exit)) ≡ fullAskSays 1024 s (now (live .entry)) (now (working .entry)) (now (hold .entry)) (now (out .entry)) ⌝ }
+{
+    if !is_receiver(s, live, working, hold) {
+        return ask_refused(s, AskError::NotAReceiver);
+    }
+    let version = s.version;
+    let phase = s.phase;
+    match phase {
+        Phase::Idle => {
+            let answer = encode_reset_query(RtrResetQuery { version }, out);
+            asked(s, answer, Phase::AskedFull)
+        }
+        Phase::MustReset => {
+            let answer = encode_reset_query(RtrResetQuery { version }, out);
+            asked(s, answer, Phase::AskedFull)
+        }
+        _ => ask_refused(s, AskError::WrongPhase),
+    }
+}
+
+// Asks for what changed since the table's serial: a Serial Query into the output.
+pub fn change_ask(
+    s: Session,
+    live: &[u32],
+    working: &[u32],
+    hold: &[u8],
+    out: &mut [u8],
+) -> AskedSession
+    ensures { λ r. ⌜ askSaid r (now (live .entry)) (now (working .entry)) (now (hold .entry)) (now (out .exit)) ≡ changeAskSays 1024 s (now (live .entry)) (now (working .entry)) (now (hold .entry)) (now (out .entry)) ⌝ }
+{
+    if !is_receiver(s, live, working, hold) {
+        return ask_refused(s, AskError::NotAReceiver);
+    }
+    let phase = s.phase;
+    match phase {
+        Phase::Idle => {
+            let table = s.table;
+            match table {
+                LiveTable::NoTable => ask_refused(s, AskError::NoTable),
+                LiveTable::Known(t) => {
+                    let version = s.version;
+                    let answer = encode_serial_query(
+                        RtrSerialQuery {
+                            version,
+                            session_id: t.session,
+                            serial_number: t.serial,
+                        },
+                        out,
+                    );
+                    asked(s, answer, Phase::AskedChange)
+                }
+            }
+        }
+        _ => ask_refused(s, AskError::WrongPhase),
+    }
+}
+
+// A new connection: Idle, with the table kept; what was held, noted or half loaded is gone.
+pub fn reconnect(s: Session, live: &[u32], working: &mut [u32], hold: &[u8]) -> Reconnected
+    ensures { λ r. ⌜ reconnectSaid r (now (live .entry)) (now (working .exit)) (now (hold .entry)) ≡ reconnectSays 1024 s (now (live .entry)) (now (working .entry)) (now (hold .entry)) ⌝ }
+{
+    if !is_receiver(s, live, working, hold) {
+        return Reconnected {
+            session: s,
+            answer: ReconnectAnswer::NotAReceiver,
+        };
+    }
+    empty(working);
+    let version = s.version;
+    let table = s.table;
+    Reconnected {
+        session: Session {
+            version,
+            phase: Phase::Idle,
+            table,
+            note: Note::NoNote,
+            live: s.live,
+            working: 0,
+            held: 0,
+        },
+        answer: ReconnectAnswer::Connected,
+    }
+}
+
+// A serial beside the table's, by RFC 1982 over 32 bits that wrap: how far it is ahead decides.
+fn compare(serial: u32, table: u32) -> NotifyAnswer
+    ensures { λ r. ⌜ notifySaid r ≡ NotifySays.compares (compared serial table) ⌝ }
+{
+    let ahead = std::num::wrapping_sub_u32(serial, table);
+    if ahead == 0 {
+        return NotifyAnswer::Same;
+    }
+    if ahead < 2147483648 {
+        return NotifyAnswer::Newer;
+    }
+    if ahead == 2147483648 {
+        return NotifyAnswer::Undefined;
+    }
+    NotifyAnswer::Older
+}
+
+// Whether the last Serial Notify tells of something newer than the table.
+pub fn notify(s: Session, live: &[u32], working: &[u32], hold: &[u8]) -> NotifyAnswer
+    ensures { λ r. ⌜ notifySaid r ≡ notifySays 1024 s (now (live .entry)) (now (working .entry)) (now (hold .entry)) ⌝ }
+{
+    if !is_receiver(s, live, working, hold) {
+        return NotifyAnswer::NotAReceiver;
+    }
+    let table = s.table;
+    let note = s.note;
+    match table {
+        LiveTable::NoTable => NotifyAnswer::None,
+        LiveTable::Known(t) => match note {
+            Note::NoNote => NotifyAnswer::None,
+            Note::Noted(session, serial) => {
+                if session != t.session {
+                    return NotifyAnswer::OtherSession;
+                }
+                compare(serial, t.serial)
+            }
+        },
+    }
+}
+
+// ---- One PDU
+
+// A session and how many updates finished.
+struct DeedDone {
+    session: Session,
+    updates: usize,
+}
+
+// A stop clears the working room and what is held; it keeps the live room and the note.
+fn stop_with(s: Session, working: &mut [u32], stop: Stop) -> Session
+    ensures { λ r. ⌜ (r ≡ stoppedSession s stop) × (now (working .exit) ≡ replicate (length (now (working .entry))) 0) ⌝ }
+{
+    empty(working);
+    let version = s.version;
+    let table = s.table;
+    let note = s.note;
+    Session {
+        version,
+        phase: Phase::Stopped(stop),
+        table,
+        note,
+        live: s.live,
+        working: 0,
+        held: 0,
+    }
+}
+
+fn on_serial_notify(s: Session, session_id: u16, serial_number: u32) -> Session
+    ensures { λ r. ⌜ r ≡ record { version = s .version; phase = s .phase; table = s .table; note = Note.Noted «session_id» «serial_number»; live = s .live; working = s .working; held = s .held } ⌝ }
+{
+    let version = s.version;
+    let phase = s.phase;
+    let table = s.table;
+    Session {
+        version,
+        phase,
+        table,
+        note: Note::Noted(session_id, serial_number),
+        live: s.live,
+        working: s.working,
+        held: s.held,
+    }
+}
+
+// The session with a load begun and so many records in the working room.
+fn loading(s: Session, kind: LoadKind, session_id: u16, working: usize) -> Session
+    ensures { λ r. ⌜ r ≡ record { version = s .version; phase = Phase.Loading kind «session_id»; table = s .table; note = s .note; live = s .live; working = working; held = s .held } ⌝ }
+{
+    let version = s.version;
+    let table = s.table;
+    let note = s.note;
+    Session {
+        version,
+        phase: Phase::Loading(kind, session_id),
+        table,
+        note,
+        live: s.live,
+        working,
+        held: s.held,
+    }
+}
+
+fn on_cache_response(s: Session, live: &[u32], working: &mut [u32], session_id: u16) -> Session
+    requires { ⌜ BothRooms 1024 s (now live) (now working) ⌝ }
+    ensures { λ r. ⌜ Stands 1024 r (now (live .entry)) (now (working .exit)) (onCacheResponse (stageOf (s .phase)) «session_id» (receiverOf s (now (live .entry)) (now (working .entry)) [])) ⌝ }
+{
+    let phase = s.phase;
+    match phase {
+        Phase::AskedFull => {
+            empty(working);
+            loading(s, LoadKind::Full, session_id, 0)
+        }
+        Phase::AskedChange => on_change_response(s, live, working, session_id),
+        _ => stop_with(s, working, Stop::OutOfTurn),
+    }
+}
+
+// The session must be the table's; the working room starts as the live one.
+fn on_change_response(s: Session, live: &[u32], working: &mut [u32], session_id: u16) -> Session
+    requires { ⌜ BothRooms 1024 s (now live) (now working) ⌝ }
+    ensures { λ r. ⌜ Stands 1024 r (now (live .entry)) (now (working .exit)) (onChangeResponse (s .table) «session_id» (receiverOf s (now (live .entry)) (now (working .entry)) [])) ⌝ }
+{
+    let table = s.table;
+    match table {
+        LiveTable::NoTable => stop_with(s, working, Stop::OtherSession),
+        LiveTable::Known(t) => {
+            if session_id != t.session {
+                return stop_with(s, working, Stop::OtherSession);
+            }
+            copy(live, working);
+            loading(s, LoadKind::Change, session_id, s.live)
+        }
+    }
+}
+
+// The session with another count in the working room.
+fn with_working(s: Session, working: usize) -> Session
+    ensures { λ r. ⌜ r ≡ record { version = s .version; phase = s .phase; table = s .table; note = s .note; live = s .live; working = working; held = s .held } ⌝ }
+{
+    let version = s.version;
+    let phase = s.phase;
+    let table = s.table;
+    let note = s.note;
+    Session {
+        version,
+        phase,
+        table,
+        note,
+        live: s.live,
+        working,
+        held: s.held,
+    }
+}
+
+// An announcement enters: 17 where it is in, then 18 where the room is full.
+fn on_announcement(s: Session, live: &[u32], working: &mut [u32], r: Record) -> Session
+    requires { ⌜ BothRooms 1024 s (now live) (now working) ⌝ }
+    ensures { λ t. ⌜ Stands 1024 t (now (live .entry)) (now (working .exit)) (changedTo (enter 1024 r (records (s .working) (now (working .entry)))) (receiverOf s (now (live .entry)) (now (working .entry)) [])) ⌝ }
+{
+    let answer = enter(working, s.working, r);
+    match answer {
+        EnterAnswer::Entered(count) => with_working(s, count),
+        EnterAnswer::AlreadyIn => stop_with(s, working, Stop::AlreadyIn),
+        EnterAnswer::Full => stop_with(s, working, Stop::RoomFull),
+        EnterAnswer::NotARoom => stop_with(s, working, Stop::RoomFull),
+    }
+}
+
+// A withdrawal leaves: 16 where it is not in.
+fn on_withdrawal(s: Session, live: &[u32], working: &mut [u32], r: Record) -> Session
+    requires { ⌜ BothRooms 1024 s (now live) (now working) ⌝ }
+    ensures { λ t. ⌜ Stands 1024 t (now (live .entry)) (now (working .exit)) (changedTo (leave r (records (s .working) (now (working .entry)))) (receiverOf s (now (live .entry)) (now (working .entry)) [])) ⌝ }
+{
+    let answer = leave(working, s.working, r);
+    match answer {
+        LeaveAnswer::Left(count) => with_working(s, count),
+        LeaveAnswer::NotIn => stop_with(s, working, Stop::NotIn),
+        LeaveAnswer::NotARoom => stop_with(s, working, Stop::NotIn),
+    }
+}
+
+fn on_record(s: Session, live: &[u32], working: &mut [u32], announced: bool, r: Record) -> Session
+    requires { ⌜ BothRooms 1024 s (now live) (now working) ⌝ }
+    ensures { λ t. ⌜ Stands 1024 t (now (live .entry)) (now (working .exit)) (onRecord 1024 (stageOf (s .phase)) announced r (receiverOf s (now (live .entry)) (now (working .entry)) [])) ⌝ }
+{
+    let phase = s.phase;
+    match phase {
+        Phase::Loading(_, _) => {
+            if announced {
+                return on_announcement(s, live, working, r);
+            }
+            on_withdrawal(s, live, working, r)
+        }
+        _ => stop_with(s, working, Stop::OutOfTurn),
+    }
+}
+
+fn on_router_key(s: Session, live: &[u32], working: &mut [u32]) -> Session
+    requires { ⌜ BothRooms 1024 s (now live) (now working) ⌝ }
+    ensures { λ t. ⌜ Stands 1024 t (now (live .entry)) (now (working .exit)) (onRouterKey (stageOf (s .phase)) (receiverOf s (now (live .entry)) (now (working .entry)) [])) ⌝ }
+{
+    let phase = s.phase;
+    match phase {
+        Phase::Loading(_, _) => s,
+        _ => stop_with(s, working, Stop::OutOfTurn),
+    }
+}
+
+fn on_cache_reset(s: Session, live: &[u32], working: &mut [u32]) -> Session
+    requires { ⌜ BothRooms 1024 s (now live) (now working) ⌝ }
+    ensures { λ t. ⌜ Stands 1024 t (now (live .entry)) (now (working .exit)) (onCacheReset (stageOf (s .phase)) (receiverOf s (now (live .entry)) (now (working .entry)) [])) ⌝ }
+{
+    let phase = s.phase;
+    match phase {
+        Phase::AskedChange => in_phase(s, Phase::MustReset),
+        _ => stop_with(s, working, Stop::OutOfTurn),
+    }
+}
+
+// The working room becomes the live one, whole, and is emptied: the one place where the live room is written after the start.
+fn finish(s: Session, live: &mut [u32], working: &mut [u32], p: RtrEndOfData) -> Session
+    requires { ⌜ BothRooms 1024 s (now live) (now working) ⌝ }
+    ensures { λ t. ⌜ Stands 1024 t (now (live .exit)) (now (working .exit)) (finish p (receiverOf s (now (live .entry)) (now (working .entry)) [])) ⌝ }
+{
+    copy(working, live);
+    empty(working);
+    let version = s.version;
+    let note = s.note;
+    Session {
+        version,
+        phase: Phase::Idle,
+        table: LiveTable::Known(Table {
+            session: p.session_id,
+            serial: p.serial_number,
+            refresh: p.refresh_interval_or_default(),
+            retry: p.retry_interval_or_default(),
+            expire: p.expire_interval_or_default(),
+        }),
+        note,
+        live: s.working,
+        working: 0,
+        held: s.held,
+    }
+}
+
+fn on_end_of_data(s: Session, live: &mut [u32], working: &mut [u32], p: RtrEndOfData) -> DeedDone
+    requires { ⌜ BothRooms 1024 s (now live) (now working) ⌝ }
+    ensures { λ d. ⌜ Did 1024 d (now (live .exit)) (now (working .exit)) (onEndOfData (stageOf (s .phase)) p (receiverOf s (now (live .entry)) (now (working .entry)) [])) ⌝ }
+{
+    let phase = s.phase;
+    match phase {
+        Phase::Loading(_, session) => {
+            if p.session_id == session {
+                let session = finish(s, live, working, p);
+                return DeedDone {
+                    session,
+                    updates: 1,
+                };
+            }
+            let session = stop_with(s, working, Stop::OtherSession);
+            DeedDone {
+                session,
+                updates: 0,
+            }
+        }
+        _ => {
+            let session = stop_with(s, working, Stop::OutOfTurn);
+            DeedDone {
+                session,
+                updates: 0,
+            }
+        }
+    }
+}
+
+fn no_update(session: Session) -> DeedDone
+    ensures { λ d. ⌜ d ≡ record { session = session; updates = 0 } ⌝ }
+{
+    DeedDone {
+        session,
+        updates: 0,
+    }
+}
+
+fn is_version(a: RtrProtocolVersion, b: RtrProtocolVersion) -> bool
+    ensures { λ r. ⌜ r ≡ eqb (versionNumber a) (versionNumber b) ⌝ }
+{
+    a.to_u8() == b.to_u8()
+}
+
+// A PDU of the receiver's version that is no Error Report: by what it is.
+fn on_kind(s: Session, live: &mut [u32], working: &mut [u32], pdu: RtrPdu) -> DeedDone
+    requires { ⌜ BothRooms 1024 s (now live) (now working) ⌝ }
+    ensures { λ d. ⌜ Did 1024 d (now (live .exit)) (now (working .exit)) (onKind 1024 pdu (receiverOf s (now (live .entry)) (now (working .entry)) [])) ⌝ }
+{
+    match pdu {
+        RtrPdu::SerialNotify(p) => no_update(on_serial_notify(s, p.session_id, p.serial_number)),
+        RtrPdu::CacheResponse(p) => no_update(on_cache_response(s, live, working, p.session_id)),
+        RtrPdu::IPv4Prefix(p) => {
+            let record = Record::ipv4(p.prefix_length, p.max_length, p.prefix, p.asn);
+            no_update(on_record(s, live, working, p.is_announcement(), record))
+        }
+        RtrPdu::IPv6Prefix(p) => {
+            let prefix = p.prefix;
+            let record = Record::ipv6(
+                p.prefix_length,
+                p.max_length,
+                prefix.w0,
+                prefix.w1,
+                prefix.w2,
+                prefix.w3,
+                p.asn,
+            );
+            no_update(on_record(s, live, working, p.is_announcement(), record))
+        }
+        RtrPdu::EndOfData(p) => on_end_of_data(s, live, working, p),
+        RtrPdu::CacheReset(_) => no_update(on_cache_reset(s, live, working)),
+        RtrPdu::RouterKey(_) => no_update(on_router_key(s, live, working)),
+        _ => no_update(stop_with(s, working, Stop::OutOfTurn)),
+    }
+}
+
+// One PDU: an Error Report of either version stops first, then another version, then what it is decides.
+fn on_pdu(s: Session, live: &mut [u32], working: &mut [u32], pdu: RtrPdu) -> DeedDone
+    requires { ⌜ BothRooms 1024 s (now live) (now working) ⌝ }
+    ensures { λ d. ⌜ Did 1024 d (now (live .exit)) (now (working .exit)) (onPdu 1024 pdu (receiverOf s (now (live .entry)) (now (working .entry)) [])) ⌝ }
+{
+    match pdu {
+        RtrPdu::ErrorReport(p) => {
+            let code = p.error_code;
+            no_update(stop_with(s, working, Stop::ErrorReport(code)))
+        }
+        _ => {
+            let version = s.version;
+            if !is_version(pdu.version(), version) {
+                return no_update(stop_with(s, working, Stop::OtherVersion));
+            }
+            on_kind(s, live, working, pdu)
+        }
+    }
+}
+
+// ---- Feed
+
+// What is to be done after a step of a feed.
+enum Then {
+    Again,
+    Done(FeedAnswer),
+}
+
+struct Step {
+    session: Session,
+    next: usize,
+    updates: usize,
+    then: Then,
+}
+
+// The session with another count in the hold.
+fn with_held(s: Session, held: usize) -> Session
+    ensures { λ r. ⌜ r ≡ record { version = s .version; phase = s .phase; table = s .table; note = s .note; live = s .live; working = s .working; held = held } ⌝ }
+{
+    let version = s.version;
+    let phase = s.phase;
+    let table = s.table;
+    let note = s.note;
+    Session {
+        version,
+        phase,
+        table,
+        note,
+        live: s.live,
+        working: s.working,
+        held,
+    }
+}
+
+// After a PDU the feed goes on, unless it stopped.
+fn after_pdu(d: DeedDone, next: usize, updates: usize) -> Step
+    requires { ⌜ updates + d .updates < 18446744073709551616 ⌝ }
+    ensures { λ r. ⌜ r ≡ afterPdu d next updates ⌝ }
+{
+    let session = d.session;
+    let phase = session.phase;
+    match phase {
+        Phase::Stopped(stop) => Step {
+            session,
+            next,
+            updates: updates + d.updates,
+            then: Then::Done(FeedAnswer::Stopped(stop)),
+        },
+        _ => Step {
+            session,
+            next,
+            updates: updates + d.updates,
+            then: Then::Again,
+        },
+    }
+}
+
+// One step: the stream's next PDU, its refusal, or its wish for more.
+fn one_step(
+    s: Session,
+    live: &mut [u32],
+    working: &mut [u32],
+    hold: &mut [u8],
+    piece: &[u8],
+    at: usize,
+    updates: usize,
+) -> Step
+    requires { ⌜ StepAsks 1024 s (now live) (now working) (now hold) (now piece) at updates ⌝ }
+    ensures { λ r. ⌜ Stepped 1024 (feedHere 1024 s (now (live .entry)) (now (working .entry)) (now (hold .entry)) (now (piece .entry)) at updates) (now (piece .entry)) at r (now (live .exit)) (now (working .exit)) (now (hold .exit)) ⌝ }
+{
+    let searched = search(hold, Stream { held: s.held }, piece, at);
+    let next = searched.next;
+    let stream = searched.stream;
+    let answer = searched.answer;
+    match answer {
+        StreamAnswer::Found(pdu, _) => {
+            let d = on_pdu(with_held(s, 0), live, working, pdu);
+            after_pdu(d, next, updates)
+        }
+        StreamAnswer::Refused(error) => Step {
+            session: stop_with(s, working, Stop::Stream(error)),
+            next,
+            updates,
+            then: Then::Done(FeedAnswer::Stopped(Stop::Stream(error))),
+        },
+        _ => Step {
+            session: with_held(s, stream.held),
+            next,
+            updates,
+            then: Then::Done(FeedAnswer::GoesOn),
+        },
+    }
+}
+
+// A piece of any length: it is searched PDU by PDU until it is taken or a stop; in Stopped none is taken and the stop is given again.
+pub fn feed(s: Session, live: &mut [u32], working: &mut [u32], hold: &mut [u8], piece: &[u8]) -> Fed
+    ensures { λ r. ⌜ fedSaid r (now (live .exit)) (now (working .exit)) (now (hold .exit)) ≡ feedSays 1024 s (now (live .entry)) (now (working .entry)) (now (hold .entry)) (now (piece .entry)) ⌝ }
+{
+    if !is_receiver(s, live, working, hold) {
+        return Fed {
+            session: s,
+            done: Done {
+                taken: 0,
+                updates: 0,
+                answer: FeedAnswer::NotAReceiver,
+            },
+        };
+    }
+    let phase = s.phase;
+    if let Phase::Stopped(stop) = phase {
+        return Fed {
+            session: s,
+            done: Done {
+                taken: 0,
+                updates: 0,
+                answer: FeedAnswer::Stopped(stop),
+            },
+        };
+    }
+    let mut session = s;
+    let mut at = 0;
+    let mut updates = 0;
+    let answer = loop {
+        let step = one_step(session, live, working, hold, piece, at, updates);
+        session = step.session;
+        at = step.next;
+        updates = step.updates;
+        let then = step.then;
+        if let Then::Done(done) = then {
+            break done;
+        }
+    };
+    Fed {
+        session,
+        done: Done {
+            taken: at,
+            updates,
+            answer,
+        },
+    }
+}
