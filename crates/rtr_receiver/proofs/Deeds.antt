@@ -1,18 +1,16 @@
 -- What each deed leaves in memory stands for what the definition makes of the receiver: a room that keeps the rules is the room of its records, so
 -- the laws of rooms say what a call makes of it. Assumes nothing.
-use Prim.Native.Nat.{ℕ, _+_, _*_, _≤_}
-use mathlib.Core.Bool.{Bool, true, false, cond}
+use Prim.Native.Nat.{ℕ, _*_, _≤_}
+use mathlib.Core.Bool.{Bool, true, cond}
 use mathlib.Core.List.{List, [], _∷_}
-use mathlib.Core.Logic.{_⊎_, inl, inr, ⊎-elim}
+use mathlib.Core.Logic.{⊎-elim}
 use mathlib.Core.Path.{_≡_, refl, sym, ap, ap₂, _∙_}
 use native.Mathlib.Omega.{arith}
 use borrow.Author.Tests.{eq-eqb, ne-eqb}
 use denote.Enum.Declared.{tagOf}
 use types.Run.{OneOf, miss}
-use lib.Dec.{eqb}
 use lib.ListN.{length, take, replicate}
 use Rattle.rtr_models.specs.Values.{secondsOr}
-use Rattle.rtr_models.specs.declared.RtrProtocolVersion.{RtrProtocolVersion}
 use Rattle.rtr_models.specs.declared.RtrEndOfData.{RtrEndOfData}
 use Rattle.rtr_codec.specs.Read.{Verdict}
 use Rattle.rtr_room.specs.Table.{Change, allInRule, ordered, isTable, enter, leave}
@@ -23,7 +21,7 @@ use Rattle.rtr_room.specs.declared.EnterAnswer.{EnterAnswer}
 use Rattle.rtr_room.specs.declared.LeaveAnswer.{LeaveAnswer}
 use Rattle.rtr_room.proofs.Laws.{rules-exactly, records-of-room, room-length, empty-is, copy-is, enter-is, leave-is, enter-refuses, leave-refuses, changed-is, refused-is}
 use Rattle.rtr_room.proofs.Laws.Tests.{second-of}
-use Rattle.rtr_receiver.specs.Receiver.{Stage, Receiver, Deed, stop, inStage, startLoad, onCacheResponse, onChangeResponse, changedTo, onRecord, onRouterKey, onCacheReset, finish, noUpdate, onEndOfData}
+use Rattle.rtr_receiver.specs.Receiver.{Stage, Receiver, Deed, stop, startLoad, onCacheResponse, onChangeResponse, changedTo, onRecord, onRouterKey, onCacheReset, finish, noUpdate, onEndOfData}
 use Rattle.rtr_receiver.specs.Receiver.Stage.{idle, mustReset, askedFull, askedChange, loading, stopped}
 use Rattle.rtr_receiver.specs.Promises.{Left, stopSaid, stoppedBy, stageOf, receiverOf, leaves, inMemory}
 use Rattle.rtr_receiver.specs.Private.{BothRooms, Stands, Did, stoppedSession}
@@ -32,7 +30,6 @@ use Rattle.rtr_receiver.specs.declared.Stop.{Stop}
 use Rattle.rtr_receiver.specs.declared.Phase.{Phase}
 use Rattle.rtr_receiver.specs.declared.Table.{Table}
 use Rattle.rtr_receiver.specs.declared.LiveTable.{LiveTable}
-use Rattle.rtr_receiver.specs.declared.Note.{Note}
 use Rattle.rtr_receiver.specs.declared.Session.{Session}
 use Rattle.rtr_receiver.specs.declared.DeedDone.{DeedDone}
 use Rattle.rtr_receiver.proofs.Phase as phase-enum
@@ -72,14 +69,14 @@ pub rooms-stand : (limit : ℕ) (s : Session) (live working : List ℕ) (l w : L
     Stands limit s live working (record { version = s .version; stage = stageOf (s .phase); table = s .table; note = s .note; live = l; working = w; held = take (s .held) [] })
 rooms-stand limit s live working l w lc wc h le we = left-alike _ _ refl refl refl refl lc wc (nothing-held (s .held) h) le we refl
 
--- a stop
-pub stop-stands : (limit : ℕ) (s : Session) (live working : List ℕ) → BothRooms limit s live working →
+-- a stop, whatever is held
+pub stop-stands : (limit : ℕ) (s : Session) (live working hold : List ℕ) → isRoom limit (s .live) live ≡ true →
     (why : Stop) (number : ℕ) (values : List ℕ) → stopSaid why ≡ Verdict.refused number values →
     (w w′ : List ℕ) → length w ≡ 6 * limit → w′ ≡ replicate (length w) 0 → (r : Session) → r ≡ stoppedSession s why →
-    Stands limit r live w′ (stop number values (receiverOf s live working []))
-stop-stands limit s live working b why number values e w w′ n z r q =
-    let l = room-stands limit (s .live) live (b .0) in
-    ap (λ (t : Session). leaves t live w′ []) q
+    leaves r live w′ hold ≡ inMemory limit (stop number values (receiverOf s live working hold))
+stop-stands limit s live working hold b why number values e w w′ n z r q =
+    let l = room-stands limit (s .live) live b in
+    ap (λ (t : Session). leaves t live w′ hold) q
     ∙ left-alike _ _ refl (ap stoppedBy e) refl refl (sym (l .1)) refl refl (l .0) (zeros-stand limit w w′ n z) refl
 
 -- a stop that the code made of a session and the working room as they were
@@ -88,7 +85,7 @@ pub stops : (limit : ℕ) (s : Session) (live working : List ℕ) → BothRooms 
     (r : Session) (w′ : List ℕ) → (r ≡ stoppedSession s why) × (w′ ≡ replicate (length working) 0) →
     (to : Receiver) → to ≡ stop number values (receiverOf s live working []) → Stands limit r live w′ to
 stops limit s live working b why number values e r w′ q to t =
-    stop-stands limit s live working b why number values e working w′ (room-size limit (s .working) working (b .1)) (q .1) r (q .0)
+    stop-stands limit s live working [] (b .0) why number values e working w′ (room-size limit (s .working) working (b .1)) (q .1) r (q .0)
     ∙ ap (inMemory limit) (sym t)
 
 -- both rooms as they were, in another phase, with another table and note
@@ -101,45 +98,48 @@ kept-stands limit s live working b r lc wc hc =
 
 -- ---- phases by their place in the enum
 
--- what comes of every phase but a load
-module _ {A : Type 0} (f : Stage → A) (x : A) where
-  pub out-of-loading : f idle ≡ x → f mustReset ≡ x → f askedFull ≡ x → f askedChange ≡ x → ((n : ℕ) (v : List ℕ) → f (stopped n v) ≡ x) → (p : Phase) → OneOf (0 ∷ 1 ∷ 2 ∷ 3 ∷ 5 ∷ []) (tagOf phase-enum.the-type p) → f (stageOf p) ≡ x
-  out-of-loading i m a c s Phase.Idle h = i
-  out-of-loading i m a c s Phase.MustReset h = m
-  out-of-loading i m a c s Phase.AskedFull h = a
-  out-of-loading i m a c s Phase.AskedChange h = c
-  out-of-loading i m a c s (Phase.Loading kind session) h = absurd (miss (0 ∷ 1 ∷ 2 ∷ 3 ∷ 5 ∷ []) 4 tt h)
-  out-of-loading i m a c s (Phase.Stopped why) h = go (stopSaid why)
-    where
-      go : (v : Verdict) → f (stoppedBy v) ≡ x
-      go (Verdict.accepted pdu n) = i
-      go (Verdict.refused n v) = s n v
+-- what comes of the phases of some places, where it is the same in each
+out-of-turn : {A : Type 0} (f : Stage → A) (x : A) (ks : List ℕ) → f idle ≡ x → f mustReset ≡ x → (OneOf ks 2 → f askedFull ≡ x) → (OneOf ks 3 → f askedChange ≡ x) → (OneOf ks 4 → (kind : LoadKind) (session : ℕ) → f (loading kind session) ≡ x) → ((n : ℕ) (v : List ℕ) → f (stopped n v) ≡ x) → (p : Phase) → OneOf ks (tagOf phase-enum.the-type p) → f (stageOf p) ≡ x
+out-of-turn f x ks i m a c l s Phase.Idle h = i
+out-of-turn f x ks i m a c l s Phase.MustReset h = m
+out-of-turn f x ks i m a c l s Phase.AskedFull h = a h
+out-of-turn f x ks i m a c l s Phase.AskedChange h = c h
+out-of-turn f x ks i m a c l s (Phase.Loading kind session) h = l h kind session
+out-of-turn f x ks i m a c l s (Phase.Stopped why) h = go (stopSaid why)
+  where
+    go : (v : Verdict) → f (stoppedBy v) ≡ x
+    go (Verdict.accepted pdu n) = i
+    go (Verdict.refused n v) = s n v
 
-  -- of every phase but a change that was asked for
-  pub out-of-change : f idle ≡ x → f mustReset ≡ x → f askedFull ≡ x → ((kind : LoadKind) (session : ℕ) → f (loading kind session) ≡ x) → ((n : ℕ) (v : List ℕ) → f (stopped n v) ≡ x) → (p : Phase) → OneOf (0 ∷ 1 ∷ 2 ∷ 4 ∷ 5 ∷ []) (tagOf phase-enum.the-type p) → f (stageOf p) ≡ x
-  out-of-change i m a l s Phase.Idle h = i
-  out-of-change i m a l s Phase.MustReset h = m
-  out-of-change i m a l s Phase.AskedFull h = a
-  out-of-change i m a l s Phase.AskedChange h = absurd (miss (0 ∷ 1 ∷ 2 ∷ 4 ∷ 5 ∷ []) 3 tt h)
-  out-of-change i m a l s (Phase.Loading kind session) h = l kind session
-  out-of-change i m a l s (Phase.Stopped why) h = go (stopSaid why)
-    where
-      go : (v : Verdict) → f (stoppedBy v) ≡ x
-      go (Verdict.accepted pdu n) = i
-      go (Verdict.refused n v) = s n v
+-- the places of every phase but a load, but a change asked for, and but those asked for
+abbrev notLoading : List ℕ
+notLoading = 0 ∷ 1 ∷ 2 ∷ 3 ∷ 5 ∷ []
 
-  -- and of every phase in which nothing was asked for
-  pub out-of-asked : f idle ≡ x → f mustReset ≡ x → ((kind : LoadKind) (session : ℕ) → f (loading kind session) ≡ x) → ((n : ℕ) (v : List ℕ) → f (stopped n v) ≡ x) → (p : Phase) → OneOf (0 ∷ 1 ∷ 4 ∷ 5 ∷ []) (tagOf phase-enum.the-type p) → f (stageOf p) ≡ x
-  out-of-asked i m l s Phase.Idle h = i
-  out-of-asked i m l s Phase.MustReset h = m
-  out-of-asked i m l s Phase.AskedFull h = absurd (miss (0 ∷ 1 ∷ 4 ∷ 5 ∷ []) 2 tt h)
-  out-of-asked i m l s Phase.AskedChange h = absurd (miss (0 ∷ 1 ∷ 4 ∷ 5 ∷ []) 3 tt h)
-  out-of-asked i m l s (Phase.Loading kind session) h = l kind session
-  out-of-asked i m l s (Phase.Stopped why) h = go (stopSaid why)
-    where
-      go : (v : Verdict) → f (stoppedBy v) ≡ x
-      go (Verdict.accepted pdu n) = i
-      go (Verdict.refused n v) = s n v
+abbrev notChange : List ℕ
+notChange = 0 ∷ 1 ∷ 2 ∷ 4 ∷ 5 ∷ []
+
+abbrev notAsked : List ℕ
+notAsked = 0 ∷ 1 ∷ 4 ∷ 5 ∷ []
+
+out-of-loading : {A : Type 0} (f : Stage → A) (x : A) → f idle ≡ x → f mustReset ≡ x → f askedFull ≡ x → f askedChange ≡ x → ((n : ℕ) (v : List ℕ) → f (stopped n v) ≡ x) → (p : Phase) → OneOf notLoading (tagOf phase-enum.the-type p) → f (stageOf p) ≡ x
+out-of-loading f x i m a c s p h = out-of-turn f x notLoading i m (λ k. a) (λ k. c) (λ k. absurd (miss notLoading 4 tt k)) s p h
+
+pub response-out : (id : ℕ) (r : Receiver) (p : Phase) → OneOf notAsked (tagOf phase-enum.the-type p) → onCacheResponse (stageOf p) id r ≡ stop 13 [] r
+response-out id r p h =
+    out-of-turn (λ (x : Stage). onCacheResponse x id r) (stop 13 [] r) notAsked refl refl (λ k. absurd (miss notAsked 2 tt k)) (λ k. absurd (miss notAsked 3 tt k)) (λ k kind session. refl) (λ n v. refl) p h
+
+pub reset-out : (r : Receiver) (p : Phase) → OneOf notChange (tagOf phase-enum.the-type p) → onCacheReset (stageOf p) r ≡ stop 13 [] r
+reset-out r p h =
+    out-of-turn (λ (x : Stage). onCacheReset x r) (stop 13 [] r) notChange refl refl (λ k. refl) (λ k. absurd (miss notChange 3 tt k)) (λ k kind session. refl) (λ n v. refl) p h
+
+pub record-out : (limit : ℕ) (announced : Bool) (record₀ : Record) (r : Receiver) (p : Phase) → OneOf notLoading (tagOf phase-enum.the-type p) → onRecord limit (stageOf p) announced record₀ r ≡ stop 13 [] r
+record-out limit announced record₀ r p h = out-of-loading (λ (x : Stage). onRecord limit x announced record₀ r) (stop 13 [] r) refl refl refl refl (λ n v. refl) p h
+
+pub key-out : (r : Receiver) (p : Phase) → OneOf notLoading (tagOf phase-enum.the-type p) → onRouterKey (stageOf p) r ≡ stop 13 [] r
+key-out r p h = out-of-loading (λ (x : Stage). onRouterKey x r) (stop 13 [] r) refl refl refl refl (λ n v. refl) p h
+
+pub end-out : (e : RtrEndOfData) (r : Receiver) (p : Phase) → OneOf notLoading (tagOf phase-enum.the-type p) → onEndOfData (stageOf p) e r ≡ noUpdate (stop 13 [] r)
+end-out e r p h = out-of-loading (λ (x : Stage). onEndOfData x e r) (noUpdate (stop 13 [] r)) refl refl refl refl (λ n v. refl) p h
 
 -- ---- a record enters or leaves
 
@@ -155,15 +155,15 @@ leave-on limit count s r h =
     ap₂ (λ (a : List ℕ) (n : ℕ). gone a n r) (m .0) (sym (m .1)) ∙ leave-is limit r (records count s) (m .3) (omega (arith, m .1, m .2))
 
 -- an outcome in the code's words is a change's
-abbrev pub Came : ℕ → List Record → Said → List ℕ → Change → Type 0
+abbrev Came : ℕ → List Record → Said → List ℕ → Change → Type 0
 Came limit t said left c = _≡_ {A = Outcome} (record { says = said; left = left }) (outcomeOf limit t c)
 
 -- the session with another count in the working room
-abbrev pub withWorking : Session → ℕ → Session
+abbrev withWorking : Session → ℕ → Session
 withWorking s n = record { version = s .version; phase = s .phase; table = s .table; note = s .note; live = s .live; working = n; held = s .held }
 
 module _ (limit : ℕ) (s : Session) (live working : List ℕ) (b : BothRooms limit s live working) where
-  changed-stands : (c : Change) (n : ℕ) (w : List ℕ) → Came limit (records (s .working) working) (counted n) w c → (r : Session) → r ≡ withWorking s n → Stands limit r live w (changedTo c (receiverOf s live working []))
+  pub changed-stands : (c : Change) (n : ℕ) (w : List ℕ) → Came limit (records (s .working) working) (counted n) w c → (r : Session) → r ≡ withWorking s n → Stands limit r live w (changedTo c (receiverOf s live working []))
   changed-stands (Change.changed t) n w e r q =
       let o : _≡_ {A = Outcome} (record { says = counted n; left = w }) (record { says = counted (length t); left = room limit t }) = e ∙ changed-is limit (records (s .working) working) t in
       let l = room-stands limit (s .live) live (b .0) in
@@ -186,39 +186,24 @@ module _ (limit : ℕ) (s : Session) (live working : List ℕ) (b : BothRooms li
       let same : n ≡ m = cc in
       (ap Change.refused (sym same), ap (λ (x : Outcome). x .left) o)
 
-  refused-stands : (c : Change) (n : ℕ) (w : List ℕ) → Came limit (records (s .working) working) (refusedBy n) w c → (why : Stop) → stopSaid why ≡ Verdict.refused n [] → (r : Session) (w′ : List ℕ) → (r ≡ stoppedSession s why) × (w′ ≡ replicate (length w) 0) → Stands limit r live w′ (changedTo c (receiverOf s live working []))
+  pub refused-stands : (c : Change) (n : ℕ) (w : List ℕ) → Came limit (records (s .working) working) (refusedBy n) w c → (why : Stop) → stopSaid why ≡ Verdict.refused n [] → (r : Session) (w′ : List ℕ) → (r ≡ stoppedSession s why) × (w′ ≡ replicate (length w) 0) → Stands limit r live w′ (changedTo c (receiverOf s live working []))
   refused-stands c n w e why k r w′ q =
       let m = room-stands limit (s .working) working (b .1) in
       let f = refused-came c n w e in
-      stop-stands limit s live working b why n [] k w w′ (ap length (f .1) ∙ room-length limit _ (omega (arith, m .1, m .2))) (q .1) r (q .0)
+      stop-stands limit s live working [] (b .0) why n [] k w w′ (ap length (f .1) ∙ room-length limit _ (omega (arith, m .1, m .2))) (q .1) r (q .0)
       ∙ ap (λ (x : Change). inMemory limit (changedTo x (receiverOf s live working []))) (sym (f .0))
 
   -- entering, by what the call answered
-  enter-came : (r : Record) (a : EnterAnswer) (w : List ℕ) → record { says = enterSaid a; left = w } ≡ entered working (s .working) r → (a′ : EnterAnswer) → a ≡ a′ → Came limit (records (s .working) working) (enterSaid a′) w (enter limit r (records (s .working) working))
+  pub enter-came : (r : Record) (a : EnterAnswer) (w : List ℕ) → record { says = enterSaid a; left = w } ≡ entered working (s .working) r → (a′ : EnterAnswer) → a ≡ a′ → Came limit (records (s .working) working) (enterSaid a′) w (enter limit r (records (s .working) working))
   enter-came r a w e a′ g = ap (λ (x : EnterAnswer). record { says = enterSaid x; left = w }) (sym g) ∙ e ∙ enter-on limit (s .working) working r (b .1)
-
-  pub entered-stands : (r : Record) (a : EnterAnswer) (w : List ℕ) → record { says = enterSaid a; left = w } ≡ entered working (s .working) r → (n : ℕ) → a ≡ EnterAnswer.Entered n → (q : Session) → q ≡ withWorking s n → Stands limit q live w (changedTo (enter limit r (records (s .working) working)) (receiverOf s live working []))
-  entered-stands r a w e n g q f = changed-stands _ n w (enter-came r a w e _ g) q f
-
-  pub already-stands : (r : Record) (a : EnterAnswer) (w : List ℕ) → record { says = enterSaid a; left = w } ≡ entered working (s .working) r → a ≡ EnterAnswer.AlreadyIn → (q : Session) (w′ : List ℕ) → (q ≡ stoppedSession s Stop.AlreadyIn) × (w′ ≡ replicate (length w) 0) → Stands limit q live w′ (changedTo (enter limit r (records (s .working) working)) (receiverOf s live working []))
-  already-stands r a w e g q w′ f = refused-stands _ 17 w (enter-came r a w e _ g) Stop.AlreadyIn refl q w′ f
-
-  pub full-stands : (r : Record) (a : EnterAnswer) (w : List ℕ) → record { says = enterSaid a; left = w } ≡ entered working (s .working) r → a ≡ EnterAnswer.Full → (q : Session) (w′ : List ℕ) → (q ≡ stoppedSession s Stop.RoomFull) × (w′ ≡ replicate (length w) 0) → Stands limit q live w′ (changedTo (enter limit r (records (s .working) working)) (receiverOf s live working []))
-  full-stands r a w e g q w′ f = refused-stands _ 18 w (enter-came r a w e _ g) Stop.RoomFull refl q w′ f
 
   -- the working room is a room
   pub enters-a-room : (r : Record) (a : EnterAnswer) (w : List ℕ) → record { says = enterSaid a; left = w } ≡ entered working (s .working) r → a ≡ EnterAnswer.NotARoom → ⊥
   enters-a-room r a w e g = ⊎-elim (λ p. omega arith) (λ p. omega arith) (enter-refuses limit 22 r _ (refused-came _ 22 w (enter-came r a w e _ g) .0))
 
   -- leaving
-  leave-came : (r : Record) (a : LeaveAnswer) (w : List ℕ) → record { says = leaveSaid a; left = w } ≡ gone working (s .working) r → (a′ : LeaveAnswer) → a ≡ a′ → Came limit (records (s .working) working) (leaveSaid a′) w (leave r (records (s .working) working))
+  pub leave-came : (r : Record) (a : LeaveAnswer) (w : List ℕ) → record { says = leaveSaid a; left = w } ≡ gone working (s .working) r → (a′ : LeaveAnswer) → a ≡ a′ → Came limit (records (s .working) working) (leaveSaid a′) w (leave r (records (s .working) working))
   leave-came r a w e a′ g = ap (λ (x : LeaveAnswer). record { says = leaveSaid x; left = w }) (sym g) ∙ e ∙ leave-on limit (s .working) working r (b .1)
-
-  pub left-stands : (r : Record) (a : LeaveAnswer) (w : List ℕ) → record { says = leaveSaid a; left = w } ≡ gone working (s .working) r → (n : ℕ) → a ≡ LeaveAnswer.Left n → (q : Session) → q ≡ withWorking s n → Stands limit q live w (changedTo (leave r (records (s .working) working)) (receiverOf s live working []))
-  left-stands r a w e n g q f = changed-stands _ n w (leave-came r a w e _ g) q f
-
-  pub not-in-stands : (r : Record) (a : LeaveAnswer) (w : List ℕ) → record { says = leaveSaid a; left = w } ≡ gone working (s .working) r → a ≡ LeaveAnswer.NotIn → (q : Session) (w′ : List ℕ) → (q ≡ stoppedSession s Stop.NotIn) × (w′ ≡ replicate (length w) 0) → Stands limit q live w′ (changedTo (leave r (records (s .working) working)) (receiverOf s live working []))
-  not-in-stands r a w e g q w′ f = refused-stands _ 16 w (leave-came r a w e _ g) Stop.NotIn refl q w′ f
 
   pub leaves-a-room : (r : Record) (a : LeaveAnswer) (w : List ℕ) → record { says = leaveSaid a; left = w } ≡ gone working (s .working) r → a ≡ LeaveAnswer.NotARoom → ⊥
   leaves-a-room r a w e g = let p : _≡_ {A = ℕ} 22 16 = leave-refuses 22 r _ (refused-came _ 22 w (leave-came r a w e _ g) .0) in omega arith
@@ -226,7 +211,7 @@ module _ (limit : ℕ) (s : Session) (live working : List ℕ) (b : BothRooms li
   -- ---- loads
 
   -- a load begins, with this table in the working room
-  pub load-stands : (kind : LoadKind) (id n : ℕ) (w : List ℕ) (t : List Record) → n ≡ length t → w ≡ room limit t →
+  load-stands : (kind : LoadKind) (id n : ℕ) (w : List ℕ) (t : List Record) → n ≡ length t → w ≡ room limit t →
       (q : Session) → q ≡ record { version = s .version; phase = Phase.Loading kind id; table = s .table; note = s .note; live = s .live; working = n; held = s .held } →
       Stands limit q live w (startLoad kind id t (receiverOf s live working []))
   load-stands kind id n w t c e q f =
@@ -234,7 +219,7 @@ module _ (limit : ℕ) (s : Session) (live working : List ℕ) (b : BothRooms li
       ap (λ (x : Session). leaves x live w []) f ∙ rooms-stand limit (record { version = s .version; phase = Phase.Loading kind id; table = s .table; note = s .note; live = s .live; working = n; held = s .held }) live w _ t (sym (l .1)) c (b .2) (l .0) e
 
   -- the live room copied over the working one
-  pub copied-stands : (w : List ℕ) → w ≡ copied live working → w ≡ room limit (records (s .live) live)
+  copied-stands : (w : List ℕ) → w ≡ copied live working → w ≡ room limit (records (s .live) live)
   copied-stands w e =
       let l = room-stands limit (s .live) live (b .0) in
       let m = room-stands limit (s .working) working (b .1) in
@@ -258,8 +243,8 @@ module _ (limit : ℕ) (s : Session) (live working : List ℕ) (b : BothRooms li
       let k = room-stands limit (s .live) live (b .0) in
       let m = room-stands limit (s .working) working (b .1) in
       let table : LiveTable.Known (record { session = p .«session_id»; serial = p .«serial_number»; refresh = refresh; retry = retry; expire = expire })
-          ≡ LiveTable.Known (record { session = p .«session_id»; serial = p .«serial_number»; refresh = secondsOr 3600 (p .«refresh_interval»); retry = secondsOr 600 (p .«retry_interval»); expire = secondsOr 7200 (p .«expire_interval») }) =
-          λ i. LiveTable.Known (record { session = p .«session_id»; serial = p .«serial_number»; refresh = h₁ i; retry = h₂ i; expire = h₃ i }) in
+      ≡ LiveTable.Known (record { session = p .«session_id»; serial = p .«serial_number»; refresh = secondsOr 3600 (p .«refresh_interval»); retry = secondsOr 600 (p .«retry_interval»); expire = secondsOr 7200 (p .«expire_interval») }) =
+      λ i. LiveTable.Known (record { session = p .«session_id»; serial = p .«serial_number»; refresh = h₁ i; retry = h₂ i; expire = h₃ i }) in
       left-alike _ _ refl refl table refl (sym (m .1)) refl (nothing-held (s .held) (b .2))
       (le ∙ ap₂ copied (m .0) (k .0) ∙ copy-is limit _ _ (omega (arith, m .1, m .2)) (omega (arith, k .1, k .2)) .0)
       (zeros-stand limit working w (room-size limit (s .working) working (b .1)) we)
@@ -295,27 +280,12 @@ module _ (limit : ℕ) (s : Session) (live working : List ℕ) (b : BothRooms li
       ∙ kept-stands limit s live working b (record { version = s .version; phase = Phase.MustReset; table = s .table; note = s .note; live = s .live; working = s .working; held = s .held }) refl refl refl
       ∙ ap (λ (p : Phase). inMemory limit (onCacheReset (stageOf p) (receiverOf s live working []))) (sym e)
 
--- ---- out of turn, another session
+-- ---- another session
 
 pub other-session : (id : ℕ) (t : LiveTable) (known : Table) → t ≡ LiveTable.Known known → (id ≡ known .session → ⊥) → (r : Receiver) → onChangeResponse t id r ≡ stop 15 [] r
 other-session id t known e h r =
     ap (λ (x : LiveTable). onChangeResponse x id r) e
     ∙ ap (λ (x : Bool). cond x (startLoad LoadKind.Change id (r .live) r) (stop 15 [] r)) (ne-eqb id (known .session) h)
-
-pub response-out : (id : ℕ) (r : Receiver) (p : Phase) → OneOf (0 ∷ 1 ∷ 4 ∷ 5 ∷ []) (tagOf phase-enum.the-type p) → onCacheResponse (stageOf p) id r ≡ stop 13 [] r
-response-out id r p h = out-of-asked (λ (x : Stage). onCacheResponse x id r) (stop 13 [] r) refl refl (λ kind session. refl) (λ n v. refl) p h
-
-pub record-out : (limit : ℕ) (announced : Bool) (record₀ : Record) (r : Receiver) (p : Phase) → OneOf (0 ∷ 1 ∷ 2 ∷ 3 ∷ 5 ∷ []) (tagOf phase-enum.the-type p) → onRecord limit (stageOf p) announced record₀ r ≡ stop 13 [] r
-record-out limit announced record₀ r p h = out-of-loading (λ (x : Stage). onRecord limit x announced record₀ r) (stop 13 [] r) refl refl refl refl (λ n v. refl) p h
-
-pub key-out : (r : Receiver) (p : Phase) → OneOf (0 ∷ 1 ∷ 2 ∷ 3 ∷ 5 ∷ []) (tagOf phase-enum.the-type p) → onRouterKey (stageOf p) r ≡ stop 13 [] r
-key-out r p h = out-of-loading (λ (x : Stage). onRouterKey x r) (stop 13 [] r) refl refl refl refl (λ n v. refl) p h
-
-pub reset-out : (r : Receiver) (p : Phase) → OneOf (0 ∷ 1 ∷ 2 ∷ 4 ∷ 5 ∷ []) (tagOf phase-enum.the-type p) → onCacheReset (stageOf p) r ≡ stop 13 [] r
-reset-out r p h = out-of-change (λ (x : Stage). onCacheReset x r) (stop 13 [] r) refl refl refl (λ kind session. refl) (λ n v. refl) p h
-
-pub end-out : (e : RtrEndOfData) (r : Receiver) (p : Phase) → OneOf (0 ∷ 1 ∷ 2 ∷ 3 ∷ 5 ∷ []) (tagOf phase-enum.the-type p) → onEndOfData (stageOf p) e r ≡ noUpdate (stop 13 [] r)
-end-out e r p h = out-of-loading (λ (x : Stage). onEndOfData x e r) (noUpdate (stop 13 [] r)) refl refl refl refl (λ n v. refl) p h
 
 -- an End of Data of the load's session, and of another
 pub end-is : (e : RtrEndOfData) (r : Receiver) (p : Phase) (kind : LoadKind) (id : ℕ) → p ≡ Phase.Loading kind id → e .«session_id» ≡ id → onEndOfData (stageOf p) e r ≡ record { then = finish e r; updates = 1 }
@@ -330,17 +300,13 @@ end-other e r p kind id q h =
 
 -- ---- deeds
 
--- a deed that stands
-pub did : (limit : ℕ) (live working : List ℕ) (q : Session) (n : ℕ) (r : Receiver) → Stands limit q live working r → (deed : Deed) → deed ≡ record { then = r; updates = n } → Did limit (record { session = q; updates = n }) live working deed
-did limit live working q n r h deed f = (h ∙ ap (λ (x : Deed). inMemory limit (x .then)) (sym f), ap (λ (x : Deed). x .updates) (sym f))
-
--- a deed in other words
-pub did-as : (limit : ℕ) (live working : List ℕ) (d : DeedDone) (to : Deed) → Did limit d live working to → (deed : Deed) → deed ≡ to → Did limit d live working deed
-did-as limit live working d to h deed f = (h .0 ∙ ap (λ (x : Deed). inMemory limit (x .then)) (sym f), h .1 ∙ ap (λ (x : Deed). x .updates) (sym f))
-
--- a deed with no update
-pub no-update-did : (limit : ℕ) (live working : List ℕ) (d : DeedDone) (q : Session) → d ≡ record { session = q; updates = 0 } → (r : Receiver) → Stands limit q live working r → (deed : Deed) → deed ≡ noUpdate r → Did limit d live working deed
-no-update-did limit live working d q e r h deed f = (
+-- a session and how many updates finished
+pub did : (limit : ℕ) (live working : List ℕ) (d : DeedDone) (q : Session) (n : ℕ) → d ≡ record { session = q; updates = n } → (r : Receiver) → Stands limit q live working r → (deed : Deed) → deed ≡ record { then = r; updates = n } → Did limit d live working deed
+did limit live working d q n e r h deed f = (
   ap (λ (x : DeedDone). leaves (x .session) live working []) e ∙ h ∙ ap (λ (x : Deed). inMemory limit (x .then)) (sym f),
   ap (λ (x : DeedDone). x .updates) e ∙ ap (λ (x : Deed). x .updates) (sym f),
 )
+
+-- the same deed in other words
+pub did-as : (limit : ℕ) (live working : List ℕ) (d : DeedDone) (to : Deed) → Did limit d live working to → (deed : Deed) → deed ≡ to → Did limit d live working deed
+did-as limit live working d to h deed f = (h .0 ∙ ap (λ (x : Deed). inMemory limit (x .then)) (sym f), h .1 ∙ ap (λ (x : Deed). x .updates) (sym f))

@@ -27,7 +27,6 @@ use Rattle.rtr_receiver.specs.Private.{BothRooms, Stands, goesOnIn, afte
 use Rattle.rtr_receiver.specs.declared.Note.{Note}
 use Rattle.rtr_receiver.specs.declared.Phase.{Phase}
 use Rattle.rtr_receiver.specs.declared.Then.{Then}
-use Rattle.rtr_receiver.specs.declared.Step.{Step}
 use Rattle.rtr_receiver.specs.declared.DeedDone.{DeedDone}
 use Rattle.rtr_receiver.specs.declared.Session.{Session}
 use Rattle.rtr_receiver.proofs.Phase as phase-enum

@@ -1,6 +1,8 @@
 -- `on_announcement`: what entering the working room comes to. Assumes nothing.
+use mathlib.Core.Path.{refl}
 use denote.Ref.{now}
-use Rattle.rtr_receiver.proofs.Deeds.{entered-stands, already-stands, full-stands, enters-a-room}
+use Rattle.rtr_receiver.specs.declared.Stop.{Stop}
+use Rattle.rtr_receiver.proofs.Deeds.{changed-stands, refused-stands, enter-came, enters-a-room}
 use borrow.Author.Needs.{needs}
 use Rattle.rtr_receiver.proofs.on_announcement.Statement.{statement}
 use Rattle.rtr_receiver.proofs.on_announcement.Tie as tie
@@ -39,7 +41,9 @@ returns : tie.Need-returns
 returns c =
     let a = c .before .before .before .before .before .before .before .before .before .before .args in
     let pre = c .before .before .before .before .before .before .before .before .before .before .pre in
-    entered-stands 1024 (a .s) (now (a .live)) (now (a .working)) pre (a .r) (c .before .before .before .before .before .before .enter .result) (c .before .before .before .before .before .before .enter .last .0) (c .before .before .before .before .before .before .enter .ensures) _ (c .before .before .answer .given .1) (c .with-working .result) (c .with-working .ensures)
+    changed-stands 1024 (a .s) (now (a .live)) (now (a .working)) pre _ (c .before .before .answer .given .0 .0) (c .before .before .before .before .before .before .enter .last .0)
+    (enter-came 1024 (a .s) (now (a .live)) (now (a .working)) pre (a .r) (c .before .before .before .before .before .before .enter .result) (c .before .before .before .before .before .before .enter .last .0) (c .before .before .before .before .before .before .enter .ensures) _ (c .before .before .answer .given .1))
+    (c .with-working .result) (c .with-working .ensures)
 
 same-length-2 : tie.Need-same-length-2
 same-length-2 c = search needs
@@ -48,7 +52,9 @@ returns-2 : tie.Need-returns-2
 returns-2 c =
     let a = c .before .before .before .before .before .before .before .before .before .before .before .before .args in
     let pre = c .before .before .before .before .before .before .before .before .before .before .before .before .pre in
-    already-stands 1024 (a .s) (now (a .live)) (now (a .working)) pre (a .r) (c .before .before .before .before .before .before .before .before .enter .result) (c .before .before .before .before .before .before .before .before .enter .last .0) (c .before .before .before .before .before .before .before .before .enter .ensures) (c .before .before .before .before .enum-told .given .1) (c .before .before .stop-with .result) (c .before .before .stop-with .last .1 .0) (c .before .before .stop-with .ensures)
+    refused-stands 1024 (a .s) (now (a .live)) (now (a .working)) pre _ 17 (c .before .before .before .before .before .before .before .before .enter .last .0)
+    (enter-came 1024 (a .s) (now (a .live)) (now (a .working)) pre (a .r) (c .before .before .before .before .before .before .before .before .enter .result) (c .before .before .before .before .before .before .before .before .enter .last .0) (c .before .before .before .before .before .before .before .before .enter .ensures) _ (c .before .before .before .before .enum-told .given .1))
+    Stop.AlreadyIn refl (c .before .before .stop-with .result) (c .before .before .stop-with .last .1 .0) (c .before .before .stop-with .ensures)
 
 same-length-3 : tie.Need-same-length-3
 same-length-3 c = search needs
@@ -57,7 +63,9 @@ returns-3 : tie.Need-returns-3
 returns-3 c =
     let a = c .before .before .before .before .before .before .before .before .before .before .before .before .args in
     let pre = c .before .before .before .before .before .before .before .before .before .before .before .before .pre in
-    full-stands 1024 (a .s) (now (a .live)) (now (a .working)) pre (a .r) (c .before .before .before .before .before .before .before .before .enter .result) (c .before .before .before .before .before .before .before .before .enter .last .0) (c .before .before .before .before .before .before .before .before .enter .ensures) (c .before .before .before .before .enum-told2 .given .1) (c .before .before .stop-with2 .result) (c .before .before .stop-with2 .last .1 .0) (c .before .before .stop-with2 .ensures)
+    refused-stands 1024 (a .s) (now (a .live)) (now (a .working)) pre _ 18 (c .before .before .before .before .before .before .before .before .enter .last .0)
+    (enter-came 1024 (a .s) (now (a .live)) (now (a .working)) pre (a .r) (c .before .before .before .before .before .before .before .before .enter .result) (c .before .before .before .before .before .before .before .before .enter .last .0) (c .before .before .before .before .before .before .before .before .enter .ensures) _ (c .before .before .before .before .enum-told2 .given .1))
+    Stop.RoomFull refl (c .before .before .stop-with2 .result) (c .before .before .stop-with2 .last .1 .0) (c .before .before .stop-with2 .ensures)
 
 same-length-4 : tie.Need-same-length-4
 same-length-4 c = search needs

@@ -5,7 +5,7 @@ use denote.Ref.{now}
 use Rattle.rtr_receiver.specs.Receiver.{stop}
 use Rattle.rtr_receiver.specs.Promises.{receiverOf}
 use Rattle.rtr_receiver.specs.declared.Stop.{Stop}
-use Rattle.rtr_receiver.proofs.Deeds.{stops, no-update-did, did-as}
+use Rattle.rtr_receiver.proofs.Deeds.{stops, did, did-as}
 use Rattle.rtr_receiver.proofs.Pdus.{notify-stands, record-stands, kind-notify, kind-response, kind-ipv4, kind-ipv6, kind-end, kind-reset, kind-key, kind-out}
 use borrow.Author.Needs.{needs}
 use Rattle.rtr_receiver.proofs.on_kind.Statement.{statement}
@@ -95,7 +95,7 @@ returns c =
     let live = now (a .live) in
     let working = now (a .working) in
     let r = receiverOf (a .s) live working [] in
-    no-update-did 1024 live (working) (c .no-update .result) (c .before .on-serial-notify .result) (c .no-update .ensures) _
+    did 1024 live (working) (c .no-update .result) (c .before .on-serial-notify .result) 0 (c .no-update .ensures) _
     (notify-stands 1024 (a .s) live working (c .before .before .before .before .before .before .before .pre) _ _ (c .before .on-serial-notify .result) (c .before .on-serial-notify .ensures))
     _ (kind-notify 1024 r (a .pdu) (c .before .before .before .pdu .given .0 .0) (c .before .before .before .pdu .given .1))
 
@@ -111,7 +111,7 @@ returns-2 c =
     let live = now (a .live) in
     let working = now (a .working) in
     let r = receiverOf (a .s) live working [] in
-    no-update-did 1024 live (c .before .before .before .on-cache-response .last .1 .1 .0) (c .no-update2 .result) (c .before .before .before .on-cache-response .result) (c .no-update2 .ensures) _
+    did 1024 live (c .before .before .before .on-cache-response .last .1 .1 .0) (c .no-update2 .result) (c .before .before .before .on-cache-response .result) 0 (c .no-update2 .ensures) _
     (c .before .before .before .on-cache-response .ensures)
     _ (kind-response 1024 r (a .pdu) (c .before .before .before .before .before .before .before .pdu2 .given .0 .0) (c .before .before .before .before .before .before .before .pdu2 .given .1))
 
@@ -127,7 +127,7 @@ returns-3 c =
     let live = now (a .live) in
     let working = now (a .working) in
     let r = receiverOf (a .s) live working [] in
-    no-update-did 1024 live (c .before .before .before .on-record .last .1 .1 .0) (c .no-update3 .result) (c .before .before .before .on-record .result) (c .no-update3 .ensures) _
+    did 1024 live (c .before .before .before .on-record .last .1 .1 .0) (c .no-update3 .result) (c .before .before .before .on-record .result) 0 (c .no-update3 .ensures) _
     (record-stands 1024 (c .before .before .before .on-record .result) live (c .before .before .before .on-record .last .1 .1 .0) (r .stage) (c .before .before .before .before .is-announcement .result) _ (c .before .before .before .before .before .before .before .ipv4 .result) _ r (c .before .before .before .before .is-announcement .ensures) (c .before .before .before .before .before .before .before .ipv4 .ensures) (c .before .before .before .on-record .ensures))
     _ (kind-ipv4 1024 r (a .pdu) (c .before .before .before .before .before .before .before .before .before .pdu3 .given .0 .0) (c .before .before .before .before .before .before .before .before .before .pdu3 .given .1))
 
@@ -143,7 +143,7 @@ returns-4 c =
     let live = now (a .live) in
     let working = now (a .working) in
     let r = receiverOf (a .s) live working [] in
-    no-update-did 1024 live (c .before .before .before .on-record2 .last .1 .1 .0) (c .no-update4 .result) (c .before .before .before .on-record2 .result) (c .no-update4 .ensures) _
+    did 1024 live (c .before .before .before .on-record2 .last .1 .1 .0) (c .no-update4 .result) (c .before .before .before .on-record2 .result) 0 (c .no-update4 .ensures) _
     (record-stands 1024 (c .before .before .before .on-record2 .result) live (c .before .before .before .on-record2 .last .1 .1 .0) (r .stage) (c .before .before .before .before .is-announcement2 .result) _ (c .before .before .before .before .before .before .before .ipv6 .result) _ r (c .before .before .before .before .is-announcement2 .ensures) (c .before .before .before .before .before .before .before .ipv6 .ensures) (c .before .before .before .on-record2 .ensures))
     _ (kind-ipv6 1024 r (a .pdu) (c .before .before .before .before .before .before .before .before .before .before .pdu4 .given .0 .0) (c .before .before .before .before .before .before .before .before .before .before .pdu4 .given .1))
 
@@ -174,7 +174,7 @@ returns-6 c =
     let live = now (a .live) in
     let working = now (a .working) in
     let r = receiverOf (a .s) live working [] in
-    no-update-did 1024 live (c .before .before .before .on-cache-reset .last .1 .1 .0) (c .no-update5 .result) (c .before .before .before .on-cache-reset .result) (c .no-update5 .ensures) _
+    did 1024 live (c .before .before .before .on-cache-reset .last .1 .1 .0) (c .no-update5 .result) (c .before .before .before .on-cache-reset .result) 0 (c .no-update5 .ensures) _
     (c .before .before .before .on-cache-reset .ensures)
     _ (kind-reset 1024 r (a .pdu) (c .before .before .before .before .before .before .enum-told .given .0 .0) (c .before .before .before .before .before .before .enum-told .given .1))
 
@@ -190,7 +190,7 @@ returns-7 c =
     let live = now (a .live) in
     let working = now (a .working) in
     let r = receiverOf (a .s) live working [] in
-    no-update-did 1024 live (c .before .before .before .on-router-key .last .1 .1 .0) (c .no-update6 .result) (c .before .before .before .on-router-key .result) (c .no-update6 .ensures) _
+    did 1024 live (c .before .before .before .on-router-key .last .1 .1 .0) (c .no-update6 .result) (c .before .before .before .on-router-key .result) 0 (c .no-update6 .ensures) _
     (c .before .before .before .on-router-key .ensures)
     _ (kind-key 1024 r (a .pdu) (c .before .before .before .before .before .before .enum-told2 .given .0 .0) (c .before .before .before .before .before .before .enum-told2 .given .1))
 
@@ -203,7 +203,7 @@ returns-8 c =
     let live = now (a .live) in
     let working = now (a .working) in
     let r = receiverOf (a .s) live working [] in
-    no-update-did 1024 live (c .before .before .before .stop-with .last .1 .0) (c .no-update7 .result) (c .before .before .before .stop-with .result) (c .no-update7 .ensures) (stop 13 [] r)
+    did 1024 live (c .before .before .before .stop-with .last .1 .0) (c .no-update7 .result) (c .before .before .before .stop-with .result) 0 (c .no-update7 .ensures) (stop 13 [] r)
     (stops 1024 (a .s) live working (c .before .before .before .before .before .before .before .before .pre) Stop.OutOfTurn 13 [] refl (c .before .before .before .stop-with .result) (c .before .before .before .stop-with .last .1 .0) (c .before .before .before .stop-with .ensures) (stop 13 [] r) refl)
     _ (kind-out 1024 r (a .pdu) (c .before .before .before .before .before .match .keys8))
 

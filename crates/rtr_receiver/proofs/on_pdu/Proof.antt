@@ -8,7 +8,7 @@ use Rattle.rtr_models.specs.Codes.{codeNumber}
 use Rattle.rtr_receiver.specs.Receiver.{stop}
 use Rattle.rtr_receiver.specs.Promises.{receiverOf}
 use Rattle.rtr_receiver.specs.declared.Stop.{Stop}
-use Rattle.rtr_receiver.proofs.Deeds.{stops, no-update-did, did-as}
+use Rattle.rtr_receiver.proofs.Deeds.{stops, did, did-as}
 use Rattle.rtr_receiver.proofs.Pdus.{pdu-report, of-version}
 use borrow.Author.Needs.{needs}
 use Rattle.rtr_receiver.proofs.on_pdu.Statement.{statement}
@@ -44,7 +44,7 @@ returns c =
     let live = now (a .live) in
     let working = now (a .working) in
     let r = receiverOf (a .s) live working [] in
-    no-update-did 1024 live (c .before .before .before .stop-with2 .last .1 .0) (c .no-update2 .result) (c .before .before .before .stop-with2 .result) (c .no-update2 .ensures) (stop 14 [] r)
+    did 1024 live (c .before .before .before .stop-with2 .last .1 .0) (c .no-update2 .result) (c .before .before .before .stop-with2 .result) 0 (c .no-update2 .ensures) (stop 14 [] r)
     (stops 1024 (a .s) live working (c .before .before .before .before .before .before .before .before .before .before .before .pre) Stop.OtherVersion 14 [] refl (c .before .before .before .stop-with2 .result) (c .before .before .before .stop-with2 .last .1 .0) (c .before .before .before .stop-with2 .ensures) (stop 14 [] r) refl)
     _ (of-version 1024 r (a .pdu) (c .before .before .before .before .before .before .before .before .match .keys2) (c .before .before .before .before .before .before .before .version .result) (c .before .before .before .before .before .before .before .version .ensures) (c .before .before .before .before .before .before .is-version .result) (c .before .before .before .before .before .before .is-version .ensures) false (not-true _ (c .before .before .before .before .before .if1 .taken)))
 
@@ -60,7 +60,7 @@ returns-2 c =
     let live = now (a .live) in
     let working = now (a .working) in
     let r = receiverOf (a .s) live working [] in
-    no-update-did 1024 live (c .before .before .before .stop-with .last .1 .0) (c .no-update .result) (c .before .before .before .stop-with .result) (c .no-update .ensures) (stop 19 (codeNumber (c .before .before .before .before .before .before .pdu .given .0 .0 .«error_code») ∷ []) r)
+    did 1024 live (c .before .before .before .stop-with .last .1 .0) (c .no-update .result) (c .before .before .before .stop-with .result) 0 (c .no-update .ensures) (stop 19 (codeNumber (c .before .before .before .before .before .before .pdu .given .0 .0 .«error_code») ∷ []) r)
     (stops 1024 (a .s) live working (c .before .before .before .before .before .before .before .before .before .before .pre) (Stop.ErrorReport (c .before .before .before .before .before .before .pdu .given .0 .0 .«error_code»)) 19 (codeNumber (c .before .before .before .before .before .before .pdu .given .0 .0 .«error_code») ∷ []) refl (c .before .before .before .stop-with .result) (c .before .before .before .stop-with .last .1 .0) (c .before .before .before .stop-with .ensures) (stop 19 (codeNumber (c .before .before .before .before .before .before .pdu .given .0 .0 .«error_code») ∷ []) r) refl)
     _ (pdu-report 1024 r (a .pdu) (c .before .before .before .before .before .before .pdu .given .0 .0) (c .before .before .before .before .before .before .pdu .given .1))
 

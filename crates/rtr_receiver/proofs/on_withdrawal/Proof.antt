@@ -1,6 +1,8 @@
 -- `on_withdrawal`: what leaving the working room comes to. Assumes nothing.
+use mathlib.Core.Path.{refl}
 use denote.Ref.{now}
-use Rattle.rtr_receiver.proofs.Deeds.{left-stands, not-in-stands, leaves-a-room}
+use Rattle.rtr_receiver.specs.declared.Stop.{Stop}
+use Rattle.rtr_receiver.proofs.Deeds.{changed-stands, refused-stands, leave-came, leaves-a-room}
 use borrow.Author.Needs.{needs}
 use Rattle.rtr_receiver.proofs.on_withdrawal.Statement.{statement}
 use Rattle.rtr_receiver.proofs.on_withdrawal.Tie as tie
@@ -33,7 +35,9 @@ returns : tie.Need-returns
 returns c =
     let a = c .before .before .before .before .before .before .before .before .before .before .args in
     let pre = c .before .before .before .before .before .before .before .before .before .before .pre in
-    left-stands 1024 (a .s) (now (a .live)) (now (a .working)) pre (a .r) (c .before .before .before .before .before .before .leave .result) (c .before .before .before .before .before .before .leave .last .0) (c .before .before .before .before .before .before .leave .ensures) _ (c .before .before .answer .given .1) (c .with-working .result) (c .with-working .ensures)
+    changed-stands 1024 (a .s) (now (a .live)) (now (a .working)) pre _ (c .before .before .answer .given .0 .0) (c .before .before .before .before .before .before .leave .last .0)
+    (leave-came 1024 (a .s) (now (a .live)) (now (a .working)) pre (a .r) (c .before .before .before .before .before .before .leave .result) (c .before .before .before .before .before .before .leave .last .0) (c .before .before .before .before .before .before .leave .ensures) _ (c .before .before .answer .given .1))
+    (c .with-working .result) (c .with-working .ensures)
 
 same-length-2 : tie.Need-same-length-2
 same-length-2 c = search needs
@@ -42,7 +46,9 @@ returns-2 : tie.Need-returns-2
 returns-2 c =
     let a = c .before .before .before .before .before .before .before .before .before .before .before .before .args in
     let pre = c .before .before .before .before .before .before .before .before .before .before .before .before .pre in
-    not-in-stands 1024 (a .s) (now (a .live)) (now (a .working)) pre (a .r) (c .before .before .before .before .before .before .before .before .leave .result) (c .before .before .before .before .before .before .before .before .leave .last .0) (c .before .before .before .before .before .before .before .before .leave .ensures) (c .before .before .before .before .enum-told .given .1) (c .before .before .stop-with .result) (c .before .before .stop-with .last .1 .0) (c .before .before .stop-with .ensures)
+    refused-stands 1024 (a .s) (now (a .live)) (now (a .working)) pre _ 16 (c .before .before .before .before .before .before .before .before .leave .last .0)
+    (leave-came 1024 (a .s) (now (a .live)) (now (a .working)) pre (a .r) (c .before .before .before .before .before .before .before .before .leave .result) (c .before .before .before .before .before .before .before .before .leave .last .0) (c .before .before .before .before .before .before .before .before .leave .ensures) _ (c .before .before .before .before .enum-told .given .1))
+    Stop.NotIn refl (c .before .before .stop-with .result) (c .before .before .stop-with .last .1 .0) (c .before .before .stop-with .ensures)
 
 same-length-3 : tie.Need-same-length-3
 same-length-3 c = search needs
