@@ -1,10 +1,11 @@
 -- The laws that higher crates cite of encoding, over every `Reading`. Assumes nothing.
 use Prim.Native.Nat.{ℕ}
-use mathlib.Core.Bool.{Bool, true, false}
+use mathlib.Core.Bool.{Bool, true, false, cond}
 use mathlib.Core.List.{List, [], _∷_, _++_}
-use mathlib.Core.Path.{_≡_, ap}
+use mathlib.Core.Path.{_≡_, refl, ap}
 use lib.Dec.{leb}
 use lib.ListN.{length, drop}
+use Rattle.rtr_models.specs.declared.RtrProtocolVersion.{RtrProtocolVersion}
 use Rattle.rtr_models.specs.declared.RtrPdu.{RtrPdu}
 use Rattle.rtr_codec.specs.Reading.{Reading}
 use Rattle.rtr_encode.specs.Encode.{Writing, unless, placesInside, textIn, encodedLength, encoding, encodeSays, encode, outAfter}
@@ -32,3 +33,16 @@ written-length R pdu s out n e =
     checks-end (leb (encodedLength R pdu) (length out)) 9 (encodedLength R pdu ∷ []) (written (encodedLength R pdu)) n
     (checks-end (leb (encodedLength R pdu) 4294967295) 10 [] _ n (checks-end (textIn pdu s) 8 [] _ n (checks-end (placesInside pdu s) 11 [] _ n e))) in
     cc
+
+-- what is written of a query, by the room for it: 8 bytes, or 12
+checked-last : (b : Bool) (n : ℕ) → unless b 9 (n ∷ []) (written n) ≡ cond b (written n) (refused 9 (n ∷ []))
+checked-last true n = refl
+checked-last false n = refl
+
+pub reset-query-says : (R : Reading) (v : RtrProtocolVersion) (out : List ℕ) → encode R (RtrPdu.ResetQuery (record { version = v })) [] out .says ≡ cond (leb 8 (length out)) (written 8) (refused 9 (8 ∷ []))
+unfolding encode encodeSays encodedLength
+reset-query-says R v out = checked-last (leb 8 (length out)) 8
+
+pub serial-query-says : (R : Reading) (v : RtrProtocolVersion) (session serial : ℕ) (out : List ℕ) → encode R (RtrPdu.SerialQuery (record { version = v; «session_id» = session; «serial_number» = serial })) [] out .says ≡ cond (leb 12 (length out)) (written 12) (refused 9 (12 ∷ []))
+unfolding encode encodeSays encodedLength
+serial-query-says R v session serial out = checked-last (leb 12 (length out)) 12

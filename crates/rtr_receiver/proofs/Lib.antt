@@ -1,4 +1,11 @@
--- `Memory` and `Shape` are for readers and other crates too; the others are the argument.
+-- `Laws`, `Histories`, `Shape` and `Unique` are for readers and other crates; the others are the argument.
 pub mod Memory
 pub mod Shape
 mod Calls
+mod Deeds
+mod Pdus
+mod Feeds
+mod Good
+mod Steps
+mod Stepping
+pub mod Histories

@@ -1,3 +1,4 @@
+pub mod History
 pub mod Receiver
 pub mod Promises
 pub mod Private

@@ -1,5 +1,5 @@
 -- The receiver, byte by byte and PDU by PDU, on tables: document 01, "Stream and receiver". No memory, no room and no hold buffer is spoken of here.
-use Prim.Native.Nat.{ℕ, _+_, _-_, _*_}
+use Prim.Native.Nat.{ℕ, _+_, _-_}
 use mathlib.Core.Bool.{Bool, true, false, cond, _&&_, _||_}
 use mathlib.Core.List.{List, [], _∷_, _++_}
 use lib.Dec.{eqb, ltb}
@@ -12,7 +12,7 @@ use Rattle.rtr_models.specs.declared.RtrPdu.the-variants.{SerialNotify, SerialQ
 use Rattle.rtr_codec.specs.Reading.{crate}
 use Rattle.rtr_encode.specs.Encode.{Writing, encode}
 use Rattle.rtr_stream.specs.Stream.{Heard, judge}
-use Rattle.rtr_room.specs.Table.{Change, enter, leave}
+use Rattle.rtr_room.specs.Table.{Change, ipv4Record, ipv6Record, enter, leave}
 use Rattle.rtr_room.specs.declared.Record.{Record}
 use Rattle.rtr_receiver.specs.declared.LoadKind.{LoadKind}
 use Rattle.rtr_receiver.specs.declared.Table.{Table}
@@ -163,13 +163,6 @@ onEndOfData askedFull p r = noUpdate (stop 13 [] r)
 onEndOfData askedChange p r = noUpdate (stop 13 [] r)
 onEndOfData (stopped number values) p r = noUpdate (stop 13 [] r)
 
--- the record of a prefix (document 01: family x 65,536 + prefix length x 256 + max, four address numbers, AS number)
-abbrev pub record4 : ℕ → ℕ → ℕ → ℕ → Record
-record4 length max address asn = record { kind = 4 * 65536 + length * 256 + max; w0 = address; w1 = 0; w2 = 0; w3 = 0; asn = asn }
-
-abbrev pub record6 : ℕ → ℕ → ℕ → ℕ → ℕ → ℕ → ℕ → Record
-record6 length max w0 w1 w2 w3 asn = record { kind = 6 * 65536 + length * 256 + max; w0 = w0; w1 = w1; w2 = w2; w3 = w3; asn = asn }
-
 -- a PDU in its turn, by what it is; what a cache never sends a router is out of turn
 unfoldable pub onKind : ℕ → RtrPdu → Receiver → Deed
 onKind limit (SerialNotify p) r = noUpdate (onSerialNotify (p .«session_id») (p .«serial_number») r)
@@ -177,11 +170,11 @@ onKind limit (SerialQuery p) r = noUpdate (stop 13 [] r)
 onKind limit (ResetQuery p) r = noUpdate (stop 13 [] r)
 onKind limit (CacheResponse p) r = noUpdate (onCacheResponse (r .stage) (p .«session_id») r)
 onKind limit (IPv4Prefix p) r =
-    noUpdate (onRecord limit (r .stage) (announces (p .flags)) (record4 (p .«prefix_length») (p .«max_length») (p .prefix) (p .asn)) r)
+    noUpdate (onRecord limit (r .stage) (announces (p .flags)) (ipv4Record (p .«prefix_length») (p .«max_length») (p .prefix) (p .asn)) r)
 onKind limit (IPv6Prefix p) r =
     noUpdate
     (onRecord limit (r .stage) (announces (p .flags))
-    (record6 (p .«prefix_length») (p .«max_length») (p .prefix .w0) (p .prefix .w1) (p .prefix .w2) (p .prefix .w3) (p .asn))
+    (ipv6Record (p .«prefix_length») (p .«max_length») (p .prefix .w0) (p .prefix .w1) (p .prefix .w2) (p .prefix .w3) (p .asn))
     r)
 onKind limit (EndOfData p) r = onEndOfData (r .stage) p r
 onKind limit (CacheReset p) r = noUpdate (onCacheReset (r .stage) r)

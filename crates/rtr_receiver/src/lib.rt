@@ -843,11 +843,17 @@ fn one_step(
             updates,
             then: Then::Done(FeedAnswer::Stopped(Stop::Stream(error))),
         },
-        _ => Step {
+        StreamAnswer::More => Step {
             session: with_held(s, stream.held),
             next,
             updates,
             then: Then::Done(FeedAnswer::GoesOn),
+        },
+        StreamAnswer::NotAStream => Step {
+            session: s,
+            next,
+            updates,
+            then: Then::Done(FeedAnswer::NotAReceiver),
         },
     }
 }

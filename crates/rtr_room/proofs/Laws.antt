@@ -12,13 +12,13 @@ pub mod Kept
 use Prim.Native.Nat.{ℕ, suc, _*_, _<_, _≤_}
 use mathlib.Core.Bool.{true, false, cond, not, _&&_, _||_}
 use mathlib.Core.List.{List, []}
-use mathlib.Core.Logic.{_↔_}
-use mathlib.Core.Path.{_≡_}
+use mathlib.Core.Logic.{_↔_, _⊎_}
+use mathlib.Core.Path.{_≡_, refl}
 use lib.Dec.{leb}
 use lib.ListN.{length, getD, replicate}
-use Rattle.rtr_room.specs.Table.{packed, ipv4Record, ipv6Record, familyOf, prefixOf, maxOf, before, same, inRule, ordered, isTable, isIn, rank, insert, remove, enter, leave}
+use Rattle.rtr_room.specs.Table.{Change, packed, ipv4Record, ipv6Record, familyOf, prefixOf, maxOf, before, same, inRule, ordered, allInRule, isTable, isIn, rank, insert, remove, enter, leave}
 use Rattle.rtr_room.specs.Table.Change.{changed}
-use Rattle.rtr_room.specs.Room.{room, recordAt, records, isRoom, limitOf, place, stands, lookUp, entered, gone, outcomeOf, copied, copySays}
+use Rattle.rtr_room.specs.Room.{room, recordAt, records, isRoom, limitOf, place, stands, lookUp, keeps, entered, gone, outcomeOf, copied, copySays}
 use Rattle.rtr_room.specs.Room.Found.{standsAt, missingAt}
 use Rattle.rtr_room.specs.Room.Said.{counted, refusedBy}
 use Rattle.rtr_room.specs.declared.Record.{Record}
@@ -77,6 +77,11 @@ same-is-equal = order.same-is-equal
 -- a record that is not in goes in in order
 pub enter-keeps-order : (r : Record) (t : List Record) → ordered t ≡ true → isIn r t ≡ false → ordered (insert r t) ≡ true
 enter-keeps-order = tables.enter-keeps-order
+
+-- no records are a table
+pub empty-table : isTable [] ≡ true
+unfolding allInRule ordered
+empty-table = refl
 
 -- a record in rule that is not in makes a table of a table
 pub enter-keeps-rules : (r : Record) (t : List Record) → isTable t ≡ true → inRule r ≡ true → isIn r t ≡ false → isTable (insert r t) ≡ true
@@ -149,6 +154,24 @@ enter-is = moves.enter-is
 -- leaving the room of a table is leaving the table
 pub leave-is : (limit : ℕ) (r : Record) (t : List Record) → ordered t ≡ true → length t ≤ limit → gone (room limit t) (length t) r ≡ outcomeOf limit t (leave r t)
 leave-is = moves.leave-is
+
+-- a refusal to enter is 17 or 18
+pub enter-refuses : (limit n : ℕ) (r : Record) (t : List Record) → enter limit r t ≡ Change.refused n → (n ≡ 17) ⊎ (n ≡ 18)
+enter-refuses = tables.enter-refuses
+
+-- a refusal to leave is 16
+pub leave-refuses : (n : ℕ) (r : Record) (t : List Record) → leave r t ≡ Change.refused n → n ≡ 16
+leave-refuses = tables.leave-refuses
+
+-- a table after a change comes to its count and its room
+pub changed-is : (limit : ℕ) (t t′ : List Record) → outcomeOf limit t (changed t′) ≡ record { says = counted (length t′); left = room limit t′ }
+unfolding outcomeOf
+changed-is limit t t′ = refl
+
+-- and a refusal to its number, with the room as it was
+pub refused-is : (limit n : ℕ) (t : List Record) → outcomeOf limit t (Change.refused n) ≡ keeps n (room limit t)
+unfolding outcomeOf
+refused-is limit n t = refl
 
 -- zeros are the room of the empty table, and keep the rules
 pub empty-is : (limit : ℕ) → (replicate (6 * limit) 0 ≡ room limit []) × (isRoom limit 0 (replicate (6 * limit) 0) ≡ true)

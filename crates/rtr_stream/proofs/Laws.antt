@@ -13,8 +13,8 @@ use Rattle.rtr_codec.specs.Read.{Verdict, read, headerLength, needed}
 use Rattle.rtr_codec.proofs.Laws.{whole-is-not-one, read-consumes, needed-short, needed-large}
 use Rattle.rtr_stream.specs.Stream.{Heard, heardOf, judge, Found, State, Listened, fresh, after, onByteIn, onByte, onPiece, onPieces}
 use Rattle.rtr_stream.specs.Stream.Heard.{waits, whole, refused}
-use Rattle.rtr_stream.specs.Search.{End, Search, over, searchFrom, isStream}
-use Rattle.rtr_stream.proofs.Judge.{Waiting, IsStream, judge-short, waits-waiting, waiting-waits, is-stream, stream-is, refused-not-one, whole-exactly}
+use Rattle.rtr_stream.specs.Search.{End, Search, over, searchFrom, isStream, outcomeOf, search}
+use Rattle.rtr_stream.proofs.Judge.{Waiting, IsStream, judge-short, waits-waiting, waiting-waits, is-stream, stream-is, refused-not-one, whole-pdu, whole-exactly}
 use Rattle.rtr_stream.proofs.Judge.Waiting.{short, cut}
 
 -- pieces end to end
@@ -169,6 +169,10 @@ module _ (R : Reading) (H : ℕ) where
           ∙ ap (λ (x : List ℕ). Verdict.accepted pdu (length x)) all
       go later (refused number values) j e = absurd (let z : _≡_ {A = ℕ} 0 1 = cc in omega arith)
 
+  -- bytes in hand that are a PDU are read as that PDU
+  pub whole-is-read : (s : List ℕ) (pdu : RtrPdu) → judge R H s ≡ whole pdu → (n : ℕ) × (read R s ≡ Verdict.accepted pdu n)
+  whole-is-read s pdu e = whole-pdu R H s pdu e .read-as
+
   -- 1 is never a stop
   pub never-one : (s : List ℕ) (number : ℕ) (values : List ℕ) → judge R H s ≡ refused number values → number ≡ 1 → ⊥
   never-one s number values e one = refused-not-one R H s number values e one
@@ -249,3 +253,11 @@ stream-exactly hold held h l w = is-stream (record { size = h; within = l; waiti
 pub stream-has : (hold : List ℕ) (held : ℕ) → isStream hold held ≡ true → (8 ≤ length hold) × (held ≤ length hold) × (judge crate (length hold) (take held hold) ≡ waits)
 stream-has hold held e =
     let i : IsStream hold held = stream-is hold held e in (i .size, i .within, waiting-waits crate (i .waiting))
+
+-- what a search says of a stream
+pub search-is
+    : (hold piece : List ℕ) (held at : ℕ) →
+    isStream hold held ≡ true →
+    search hold held piece at ≡ outcomeOf held at (searchFrom crate (length hold) at (take held hold) (drop at piece))
+unfolding search
+search-is hold piece held at e = simp e

@@ -4,6 +4,7 @@
 use Prim.Native.Nat.{ℕ, suc, _<_, _≤_}
 use mathlib.Core.Bool.{Bool, true, false, cond, not, _&&_, _||_, true≢false, false≢true}
 use mathlib.Core.List.{List, [], _∷_}
+use mathlib.Core.Logic.{_⊎_, inl, inr}
 use mathlib.Core.Path.{_≡_, refl, sym, ap, _∙_, subst}
 use native.Mathlib.Omega.{arith}
 use borrow.Author.Tests.{leb-false}
@@ -203,6 +204,24 @@ pub leave-keeps : (r : Record) (t t′ : List Record) → isTable t ≡ true →
 leave-keeps r t t′ h e =
     let f : _ = left-is r t t′ e in
     rw (← (f .1)) (leave-keeps-rules r t h, remove-length r t (f .0))
+
+-- a refusal to enter is one of two
+pub enter-refuses : (limit n : ℕ) (r : Record) (t : List Record) → enter limit r t ≡ refused n → (n ≡ 17) ⊎ (n ≡ 18)
+unfolding enter
+enter-refuses limit n r t e = go (isIn r t) (leb limit (length t)) e
+  where
+    go : (a b : Bool) → cond a (refused 17) (cond b (refused 18) (changed (insert r t))) ≡ refused n → (n ≡ 17) ⊎ (n ≡ 18)
+    go true b e = inl (cc)
+    go false true e = inr (cc)
+    go false false e = let z : _≡_ {A = ℕ} 0 1 = cc in absurd (omega arith)
+
+pub leave-refuses : (n : ℕ) (r : Record) (t : List Record) → leave r t ≡ refused n → n ≡ 16
+unfolding leave
+leave-refuses n r t e = go (isIn r t) e
+  where
+    go : (a : Bool) → cond a (changed (remove r t)) (refused 16) ≡ refused n → n ≡ 16
+    go true e = let z : _≡_ {A = ℕ} 0 1 = cc in absurd (omega arith)
+    go false e = cc
 
 pub enter-membership : (limit : ℕ) (r : Record) (t t′ : List Record) → enter limit r t ≡ changed t′ → (x : Record) → isIn x t′ ≡ (same r x || isIn x t)
 enter-membership limit r t t′ e x = rw (← (entered-is limit r t t′ e .2)) (insert-membership r x t)

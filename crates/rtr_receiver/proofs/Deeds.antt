@@ -1,0 +1,312 @@
+-- What each deed leaves in memory stands for what the definition makes of the receiver: a room that keeps the rules is the room of its records, so
+-- the laws of rooms say what a call makes of it. Assumes nothing.
+use Prim.Native.Nat.{ℕ, _*_, _≤_}
+use mathlib.Core.Bool.{Bool, true, cond}
+use mathlib.Core.List.{List, [], _∷_}
+use mathlib.Core.Logic.{⊎-elim}
+use mathlib.Core.Path.{_≡_, refl, sym, ap, ap₂, _∙_}
+use native.Mathlib.Omega.{arith}
+use borrow.Author.Tests.{eq-eqb, ne-eqb}
+use denote.Enum.Declared.{tagOf}
+use types.Run.{OneOf, miss}
+use lib.ListN.{length, take, replicate}
+use Rattle.rtr_models.specs.Values.{secondsOr}
+use Rattle.rtr_models.specs.declared.RtrEndOfData.{RtrEndOfData}
+use Rattle.rtr_codec.specs.Read.{Verdict}
+use Rattle.rtr_room.specs.Table.{Change, allInRule, ordered, isTable, enter, leave}
+use Rattle.rtr_room.specs.Room.{room, records, isRoom, Said, Outcome, keeps, entered, gone, outcomeOf, enterSaid, leaveSaid, copied}
+use Rattle.rtr_room.specs.Room.Said.{counted, refusedBy}
+use Rattle.rtr_room.specs.declared.Record.{Record}
+use Rattle.rtr_room.specs.declared.EnterAnswer.{EnterAnswer}
+use Rattle.rtr_room.specs.declared.LeaveAnswer.{LeaveAnswer}
+use Rattle.rtr_room.proofs.Laws.{rules-exactly, records-of-room, room-length, empty-is, copy-is, enter-is, leave-is, enter-refuses, leave-refuses, changed-is, refused-is}
+use Rattle.rtr_room.proofs.Laws.Tests.{second-of}
+use Rattle.rtr_receiver.specs.Receiver.{Stage, Receiver, Deed, stop, startLoad, onCacheResponse, onChangeResponse, changedTo, onRecord, onRouterKey, onCacheReset, finish, noUpdate, onEndOfData}
+use Rattle.rtr_receiver.specs.Receiver.Stage.{idle, mustReset, askedFull, askedChange, loading, stopped}
+use Rattle.rtr_receiver.specs.Promises.{Left, stopSaid, stoppedBy, stageOf, receiverOf, leaves, inMemory}
+use Rattle.rtr_receiver.specs.Private.{BothRooms, Stands, Did, stoppedSession}
+use Rattle.rtr_receiver.specs.declared.LoadKind.{LoadKind}
+use Rattle.rtr_receiver.specs.declared.Stop.{Stop}
+use Rattle.rtr_receiver.specs.declared.Phase.{Phase}
+use Rattle.rtr_receiver.specs.declared.Table.{Table}
+use Rattle.rtr_receiver.specs.declared.LiveTable.{LiveTable}
+use Rattle.rtr_receiver.specs.declared.Session.{Session}
+use Rattle.rtr_receiver.specs.declared.DeedDone.{DeedDone}
+use Rattle.rtr_receiver.proofs.Phase as phase-enum
+
+-- ---- rooms
+
+-- numbers that keep the room rules are the room of their records
+pub room-stands : (limit count : ℕ) (s : List ℕ) → isRoom limit count s ≡ true → (s ≡ room limit (records count s)) × (length (records count s) ≡ count) × (count ≤ limit) × (ordered (records count s) ≡ true)
+room-stands limit count s h = go (rules-exactly limit count s .0 h)
+  where
+    go : ((t : List Record) × (isTable t ≡ true) × (length t ≡ count) × (count ≤ limit) × (s ≡ room limit t)) → (s ≡ room limit (records count s)) × (length (records count s) ≡ count) × (count ≤ limit) × (ordered (records count s) ≡ true)
+    go (t, table, n, few, e) =
+        let same : records count s ≡ t = rw (e, ← n) (records-of-room limit t) in
+        (e ∙ ap (room limit) (sym same), ap length same ∙ n, few, ap ordered same ∙ second-of (allInRule t) _ table)
+
+-- such numbers are six for each record of the limit
+pub room-size : (limit count : ℕ) (s : List ℕ) → isRoom limit count s ≡ true → length s ≡ 6 * limit
+room-size limit count s h =
+    let m = room-stands limit count s h in
+    ap length (m .0) ∙ room-length limit (records count s) (omega (arith, m .1, m .2))
+
+-- zeros of that size are the empty room
+pub zeros-stand : (limit : ℕ) (w w′ : List ℕ) → length w ≡ 6 * limit → w′ ≡ replicate (length w) 0 → w′ ≡ room limit []
+zeros-stand limit w w′ n e = e ∙ ap (λ (k : ℕ). replicate k 0) n ∙ empty-is limit .0
+
+-- ---- what a call leaves
+
+pub left-alike : (a b : Left) → a .version ≡ b .version → a .stage ≡ b .stage → a .table ≡ b .table → a .note ≡ b .note → a .liveCount ≡ b .liveCount → a .workingCount ≡ b .workingCount → a .heldCount ≡ b .heldCount → a .live ≡ b .live → a .working ≡ b .working → a .held ≡ b .held → a ≡ b
+left-alike a b v s t n lc wc hc l w h =
+    λ i. record { version = v i; stage = s i; table = t i; note = n i; liveCount = lc i; workingCount = wc i; heldCount = hc i; live = l i; working = w i; held = h i }
+
+nothing-held : (n : ℕ) → n ≡ 0 → n ≡ length (take {A = ℕ} n [])
+nothing-held n e = e ∙ ap (λ (k : ℕ). length (take {A = ℕ} k [])) (sym e)
+
+-- rooms of tables, with their counts, and nothing held
+pub rooms-stand : (limit : ℕ) (s : Session) (live working : List ℕ) (l w : List Record) → s .live ≡ length l → s .working ≡ length w → s .held ≡ 0 → live ≡ room limit l → working ≡ room limit w →
+    Stands limit s live working (record { version = s .version; stage = stageOf (s .phase); table = s .table; note = s .note; live = l; working = w; held = take (s .held) [] })
+rooms-stand limit s live working l w lc wc h le we = left-alike _ _ refl refl refl refl lc wc (nothing-held (s .held) h) le we refl
+
+-- a stop, whatever is held
+pub stop-stands : (limit : ℕ) (s : Session) (live working hold : List ℕ) → isRoom limit (s .live) live ≡ true →
+    (why : Stop) (number : ℕ) (values : List ℕ) → stopSaid why ≡ Verdict.refused number values →
+    (w w′ : List ℕ) → length w ≡ 6 * limit → w′ ≡ replicate (length w) 0 → (r : Session) → r ≡ stoppedSession s why →
+    leaves r live w′ hold ≡ inMemory limit (stop number values (receiverOf s live working hold))
+stop-stands limit s live working hold b why number values e w w′ n z r q =
+    let l = room-stands limit (s .live) live b in
+    ap (λ (t : Session). leaves t live w′ hold) q
+    ∙ left-alike _ _ refl (ap stoppedBy e) refl refl (sym (l .1)) refl refl (l .0) (zeros-stand limit w w′ n z) refl
+
+-- a stop that the code made of a session and the working room as they were
+pub stops : (limit : ℕ) (s : Session) (live working : List ℕ) → BothRooms limit s live working →
+    (why : Stop) (number : ℕ) (values : List ℕ) → stopSaid why ≡ Verdict.refused number values →
+    (r : Session) (w′ : List ℕ) → (r ≡ stoppedSession s why) × (w′ ≡ replicate (length working) 0) →
+    (to : Receiver) → to ≡ stop number values (receiverOf s live working []) → Stands limit r live w′ to
+stops limit s live working b why number values e r w′ q to t =
+    stop-stands limit s live working [] (b .0) why number values e working w′ (room-size limit (s .working) working (b .1)) (q .1) r (q .0)
+    ∙ ap (inMemory limit) (sym t)
+
+-- both rooms as they were, in another phase, with another table and note
+pub kept-stands : (limit : ℕ) (s : Session) (live working : List ℕ) → BothRooms limit s live working → (r : Session) → r .live ≡ s .live → r .working ≡ s .working → r .held ≡ s .held →
+    Stands limit r live working (record { version = r .version; stage = stageOf (r .phase); table = r .table; note = r .note; live = records (s .live) live; working = records (s .working) working; held = take (r .held) [] })
+kept-stands limit s live working b r lc wc hc =
+    let l = room-stands limit (s .live) live (b .0) in
+    let w = room-stands limit (s .working) working (b .1) in
+    rooms-stand limit r live working _ _ (lc ∙ sym (l .1)) (wc ∙ sym (w .1)) (hc ∙ b .2) (l .0) (w .0)
+
+-- ---- phases by their place in the enum
+
+-- what comes of the phases of some places, where it is the same in each
+out-of-turn : {A : Type 0} (f : Stage → A) (x : A) (ks : List ℕ) → f idle ≡ x → f mustReset ≡ x → (OneOf ks 2 → f askedFull ≡ x) → (OneOf ks 3 → f askedChange ≡ x) → (OneOf ks 4 → (kind : LoadKind) (session : ℕ) → f (loading kind session) ≡ x) → ((n : ℕ) (v : List ℕ) → f (stopped n v) ≡ x) → (p : Phase) → OneOf ks (tagOf phase-enum.the-type p) → f (stageOf p) ≡ x
+out-of-turn f x ks i m a c l s Phase.Idle h = i
+out-of-turn f x ks i m a c l s Phase.MustReset h = m
+out-of-turn f x ks i m a c l s Phase.AskedFull h = a h
+out-of-turn f x ks i m a c l s Phase.AskedChange h = c h
+out-of-turn f x ks i m a c l s (Phase.Loading kind session) h = l h kind session
+out-of-turn f x ks i m a c l s (Phase.Stopped why) h = go (stopSaid why)
+  where
+    go : (v : Verdict) → f (stoppedBy v) ≡ x
+    go (Verdict.accepted pdu n) = i
+    go (Verdict.refused n v) = s n v
+
+-- the places of every phase but a load, but a change asked for, and but those asked for
+abbrev notLoading : List ℕ
+notLoading = 0 ∷ 1 ∷ 2 ∷ 3 ∷ 5 ∷ []
+
+abbrev notChange : List ℕ
+notChange = 0 ∷ 1 ∷ 2 ∷ 4 ∷ 5 ∷ []
+
+abbrev notAsked : List ℕ
+notAsked = 0 ∷ 1 ∷ 4 ∷ 5 ∷ []
+
+out-of-loading : {A : Type 0} (f : Stage → A) (x : A) → f idle ≡ x → f mustReset ≡ x → f askedFull ≡ x → f askedChange ≡ x → ((n : ℕ) (v : List ℕ) → f (stopped n v) ≡ x) → (p : Phase) → OneOf notLoading (tagOf phase-enum.the-type p) → f (stageOf p) ≡ x
+out-of-loading f x i m a c s p h = out-of-turn f x notLoading i m (λ k. a) (λ k. c) (λ k. absurd (miss notLoading 4 tt k)) s p h
+
+pub response-out : (id : ℕ) (r : Receiver) (p : Phase) → OneOf notAsked (tagOf phase-enum.the-type p) → onCacheResponse (stageOf p) id r ≡ stop 13 [] r
+response-out id r p h =
+    out-of-turn (λ (x : Stage). onCacheResponse x id r) (stop 13 [] r) notAsked refl refl (λ k. absurd (miss notAsked 2 tt k)) (λ k. absurd (miss notAsked 3 tt k)) (λ k kind session. refl) (λ n v. refl) p h
+
+pub reset-out : (r : Receiver) (p : Phase) → OneOf notChange (tagOf phase-enum.the-type p) → onCacheReset (stageOf p) r ≡ stop 13 [] r
+reset-out r p h =
+    out-of-turn (λ (x : Stage). onCacheReset x r) (stop 13 [] r) notChange refl refl (λ k. refl) (λ k. absurd (miss notChange 3 tt k)) (λ k kind session. refl) (λ n v. refl) p h
+
+pub record-out : (limit : ℕ) (announced : Bool) (record₀ : Record) (r : Receiver) (p : Phase) → OneOf notLoading (tagOf phase-enum.the-type p) → onRecord limit (stageOf p) announced record₀ r ≡ stop 13 [] r
+record-out limit announced record₀ r p h = out-of-loading (λ (x : Stage). onRecord limit x announced record₀ r) (stop 13 [] r) refl refl refl refl (λ n v. refl) p h
+
+pub key-out : (r : Receiver) (p : Phase) → OneOf notLoading (tagOf phase-enum.the-type p) → onRouterKey (stageOf p) r ≡ stop 13 [] r
+key-out r p h = out-of-loading (λ (x : Stage). onRouterKey x r) (stop 13 [] r) refl refl refl refl (λ n v. refl) p h
+
+pub end-out : (e : RtrEndOfData) (r : Receiver) (p : Phase) → OneOf notLoading (tagOf phase-enum.the-type p) → onEndOfData (stageOf p) e r ≡ noUpdate (stop 13 [] r)
+end-out e r p h = out-of-loading (λ (x : Stage). onEndOfData x e r) (noUpdate (stop 13 [] r)) refl refl refl refl (λ n v. refl) p h
+
+-- ---- a record enters or leaves
+
+-- what a room call comes to on numbers that keep the room rules
+enter-on : (limit count : ℕ) (s : List ℕ) (r : Record) → isRoom limit count s ≡ true → entered s count r ≡ outcomeOf limit (records count s) (enter limit r (records count s))
+enter-on limit count s r h =
+    let m = room-stands limit count s h in
+    ap₂ (λ (a : List ℕ) (n : ℕ). entered a n r) (m .0) (sym (m .1)) ∙ enter-is limit r (records count s) (m .3) (omega (arith, m .1, m .2))
+
+leave-on : (limit count : ℕ) (s : List ℕ) (r : Record) → isRoom limit count s ≡ true → gone s count r ≡ outcomeOf limit (records count s) (leave r (records count s))
+leave-on limit count s r h =
+    let m = room-stands limit count s h in
+    ap₂ (λ (a : List ℕ) (n : ℕ). gone a n r) (m .0) (sym (m .1)) ∙ leave-is limit r (records count s) (m .3) (omega (arith, m .1, m .2))
+
+-- an outcome in the code's words is a change's
+abbrev Came : ℕ → List Record → Said → List ℕ → Change → Type 0
+Came limit t said left c = _≡_ {A = Outcome} (record { says = said; left = left }) (outcomeOf limit t c)
+
+-- the session with another count in the working room
+abbrev withWorking : Session → ℕ → Session
+withWorking s n = record { version = s .version; phase = s .phase; table = s .table; note = s .note; live = s .live; working = n; held = s .held }
+
+module _ (limit : ℕ) (s : Session) (live working : List ℕ) (b : BothRooms limit s live working) where
+  pub changed-stands : (c : Change) (n : ℕ) (w : List ℕ) → Came limit (records (s .working) working) (counted n) w c → (r : Session) → r ≡ withWorking s n → Stands limit r live w (changedTo c (receiverOf s live working []))
+  changed-stands (Change.changed t) n w e r q =
+      let o : _≡_ {A = Outcome} (record { says = counted n; left = w }) (record { says = counted (length t); left = room limit t }) = e ∙ changed-is limit (records (s .working) working) t in
+      let l = room-stands limit (s .live) live (b .0) in
+      let said : counted n ≡ counted (length t) = ap (λ (x : Outcome). x .says) o in
+      let count : n ≡ length t = cc in
+      ap (λ (x : Session). leaves x live w []) q
+      ∙ rooms-stand limit (withWorking s n) live w _ t (sym (l .1)) count (b .2) (l .0) (ap (λ (x : Outcome). x .left) o)
+  changed-stands (Change.refused m) n w e r q =
+      let said : counted n ≡ refusedBy m = ap (λ (x : Outcome). x .says) (e ∙ refused-is limit m (records (s .working) working)) in
+      let z : _≡_ {A = ℕ} 0 1 = cc in absurd (omega arith)
+
+  -- a refusal by a number is a change's refusal by that number, and leaves the room
+  refused-came : (c : Change) (n : ℕ) (w : List ℕ) → Came limit (records (s .working) working) (refusedBy n) w c → (c ≡ Change.refused n) × (w ≡ room limit (records (s .working) working))
+  refused-came (Change.changed t) n w e =
+      let said : refusedBy n ≡ counted (length t) = ap (λ (x : Outcome). x .says) (e ∙ changed-is limit (records (s .working) working) t) in
+      let z : _≡_ {A = ℕ} 0 1 = cc in absurd (omega arith)
+  refused-came (Change.refused m) n w e =
+      let o : _≡_ {A = Outcome} (record { says = refusedBy n; left = w }) (keeps m (room limit (records (s .working) working))) = e ∙ refused-is limit m (records (s .working) working) in
+      let said : refusedBy n ≡ refusedBy m = ap (λ (x : Outcome). x .says) o in
+      let same : n ≡ m = cc in
+      (ap Change.refused (sym same), ap (λ (x : Outcome). x .left) o)
+
+  pub refused-stands : (c : Change) (n : ℕ) (w : List ℕ) → Came limit (records (s .working) working) (refusedBy n) w c → (why : Stop) → stopSaid why ≡ Verdict.refused n [] → (r : Session) (w′ : List ℕ) → (r ≡ stoppedSession s why) × (w′ ≡ replicate (length w) 0) → Stands limit r live w′ (changedTo c (receiverOf s live working []))
+  refused-stands c n w e why k r w′ q =
+      let m = room-stands limit (s .working) working (b .1) in
+      let f = refused-came c n w e in
+      stop-stands limit s live working [] (b .0) why n [] k w w′ (ap length (f .1) ∙ room-length limit _ (omega (arith, m .1, m .2))) (q .1) r (q .0)
+      ∙ ap (λ (x : Change). inMemory limit (changedTo x (receiverOf s live working []))) (sym (f .0))
+
+  -- entering, by what the call answered
+  pub enter-came : (r : Record) (a : EnterAnswer) (w : List ℕ) → record { says = enterSaid a; left = w } ≡ entered working (s .working) r → (a′ : EnterAnswer) → a ≡ a′ → Came limit (records (s .working) working) (enterSaid a′) w (enter limit r (records (s .working) working))
+  enter-came r a w e a′ g = ap (λ (x : EnterAnswer). record { says = enterSaid x; left = w }) (sym g) ∙ e ∙ enter-on limit (s .working) working r (b .1)
+
+  -- the working room is a room
+  pub enters-a-room : (r : Record) (a : EnterAnswer) (w : List ℕ) → record { says = enterSaid a; left = w } ≡ entered working (s .working) r → a ≡ EnterAnswer.NotARoom → ⊥
+  enters-a-room r a w e g = ⊎-elim (λ p. omega arith) (λ p. omega arith) (enter-refuses limit 22 r _ (refused-came _ 22 w (enter-came r a w e _ g) .0))
+
+  -- leaving
+  pub leave-came : (r : Record) (a : LeaveAnswer) (w : List ℕ) → record { says = leaveSaid a; left = w } ≡ gone working (s .working) r → (a′ : LeaveAnswer) → a ≡ a′ → Came limit (records (s .working) working) (leaveSaid a′) w (leave r (records (s .working) working))
+  leave-came r a w e a′ g = ap (λ (x : LeaveAnswer). record { says = leaveSaid x; left = w }) (sym g) ∙ e ∙ leave-on limit (s .working) working r (b .1)
+
+  pub leaves-a-room : (r : Record) (a : LeaveAnswer) (w : List ℕ) → record { says = leaveSaid a; left = w } ≡ gone working (s .working) r → a ≡ LeaveAnswer.NotARoom → ⊥
+  leaves-a-room r a w e g = let p : _≡_ {A = ℕ} 22 16 = leave-refuses 22 r _ (refused-came _ 22 w (leave-came r a w e _ g) .0) in omega arith
+
+  -- ---- loads
+
+  -- a load begins, with this table in the working room
+  load-stands : (kind : LoadKind) (id n : ℕ) (w : List ℕ) (t : List Record) → n ≡ length t → w ≡ room limit t →
+      (q : Session) → q ≡ record { version = s .version; phase = Phase.Loading kind id; table = s .table; note = s .note; live = s .live; working = n; held = s .held } →
+      Stands limit q live w (startLoad kind id t (receiverOf s live working []))
+  load-stands kind id n w t c e q f =
+      let l = room-stands limit (s .live) live (b .0) in
+      ap (λ (x : Session). leaves x live w []) f ∙ rooms-stand limit (record { version = s .version; phase = Phase.Loading kind id; table = s .table; note = s .note; live = s .live; working = n; held = s .held }) live w _ t (sym (l .1)) c (b .2) (l .0) e
+
+  -- the live room copied over the working one
+  copied-stands : (w : List ℕ) → w ≡ copied live working → w ≡ room limit (records (s .live) live)
+  copied-stands w e =
+      let l = room-stands limit (s .live) live (b .0) in
+      let m = room-stands limit (s .working) working (b .1) in
+      e ∙ ap₂ copied (l .0) (m .0) ∙ copy-is limit _ _ (omega (arith, l .1, l .2)) (omega (arith, m .1, m .2)) .0
+
+  -- the working room copied over the live one, and emptied
+  pub finish-stands : (p : RtrEndOfData) (refresh retry expire : ℕ) → refresh ≡ secondsOr 3600 (p .«refresh_interval») → retry ≡ secondsOr 600 (p .«retry_interval») → expire ≡ secondsOr 7200 (p .«expire_interval») →
+      (l w : List ℕ) → l ≡ copied working live → w ≡ replicate (length working) 0 →
+      Stands limit
+      (record {
+        version = s .version;
+        phase = Phase.Idle;
+        table = LiveTable.Known (record { session = p .«session_id»; serial = p .«serial_number»; refresh = refresh; retry = retry; expire = expire });
+        note = s .note;
+        live = s .working;
+        working = 0;
+        held = s .held;
+      })
+      l w (finish p (receiverOf s live working []))
+  finish-stands p refresh retry expire h₁ h₂ h₃ l w le we =
+      let k = room-stands limit (s .live) live (b .0) in
+      let m = room-stands limit (s .working) working (b .1) in
+      let table : LiveTable.Known (record { session = p .«session_id»; serial = p .«serial_number»; refresh = refresh; retry = retry; expire = expire })
+      ≡ LiveTable.Known (record { session = p .«session_id»; serial = p .«serial_number»; refresh = secondsOr 3600 (p .«refresh_interval»); retry = secondsOr 600 (p .«retry_interval»); expire = secondsOr 7200 (p .«expire_interval») }) =
+      λ i. LiveTable.Known (record { session = p .«session_id»; serial = p .«serial_number»; refresh = h₁ i; retry = h₂ i; expire = h₃ i }) in
+      left-alike _ _ refl refl table refl (sym (m .1)) refl (nothing-held (s .held) (b .2))
+      (le ∙ ap₂ copied (m .0) (k .0) ∙ copy-is limit _ _ (omega (arith, m .1, m .2)) (omega (arith, k .1, k .2)) .0)
+      (zeros-stand limit working w (room-size limit (s .working) working (b .1)) we)
+      refl
+
+  -- the live room copied: the load of a change of the table's session
+  pub change-stands : (id : ℕ) (t : Table) → s .table ≡ LiveTable.Known t → id ≡ t .session → (w : List ℕ) → w ≡ copied live working →
+      (q : Session) → q ≡ record { version = s .version; phase = Phase.Loading LoadKind.Change id; table = s .table; note = s .note; live = s .live; working = s .live; held = s .held } →
+      Stands limit q live w (onChangeResponse (s .table) id (receiverOf s live working []))
+  change-stands id t e h w c q f =
+      load-stands LoadKind.Change id (s .live) w (records (s .live) live) (sym (room-stands limit (s .live) live (b .0) .1)) (copied-stands w c) q f
+      ∙ ap (λ (x : Bool). inMemory limit (cond x (startLoad LoadKind.Change id (records (s .live) live) (receiverOf s live working [])) (stop 15 [] (receiverOf s live working [])))) (sym (eq-eqb id (t .session) h))
+      ∙ ap (λ (x : LiveTable). inMemory limit (onChangeResponse x id (receiverOf s live working []))) (sym e)
+
+  -- the working room emptied: the load of a whole table
+  pub full-load-stands : (id : ℕ) → s .phase ≡ Phase.AskedFull → (w : List ℕ) → w ≡ replicate (length working) 0 →
+      (q : Session) → q ≡ record { version = s .version; phase = Phase.Loading LoadKind.Full id; table = s .table; note = s .note; live = s .live; working = 0; held = s .held } →
+      Stands limit q live w (onCacheResponse (stageOf (s .phase)) id (receiverOf s live working []))
+  full-load-stands id e w z q f =
+      load-stands LoadKind.Full id 0 w [] refl (zeros-stand limit working w (room-size limit (s .working) working (b .1)) z) q f
+      ∙ ap (λ (p : Phase). inMemory limit (onCacheResponse (stageOf p) id (receiverOf s live working []))) (sym e)
+
+  -- ---- what is passed over, and a Cache Reset
+
+  pub passed-stands : (kind : LoadKind) (id : ℕ) → s .phase ≡ Phase.Loading kind id → Stands limit s live working (onRouterKey (stageOf (s .phase)) (receiverOf s live working []))
+  passed-stands kind id e =
+      kept-stands limit s live working b s refl refl refl
+      ∙ ap (λ (p : Phase). inMemory limit (onRouterKey (stageOf p) (receiverOf s live working []))) (sym e)
+
+  pub reset-stands : s .phase ≡ Phase.AskedChange → (q : Session) → q ≡ record { version = s .version; phase = Phase.MustReset; table = s .table; note = s .note; live = s .live; working = s .working; held = s .held } → Stands limit q live working (onCacheReset (stageOf (s .phase)) (receiverOf s live working []))
+  reset-stands e q f =
+      ap (λ (x : Session). leaves x live working []) f
+      ∙ kept-stands limit s live working b (record { version = s .version; phase = Phase.MustReset; table = s .table; note = s .note; live = s .live; working = s .working; held = s .held }) refl refl refl
+      ∙ ap (λ (p : Phase). inMemory limit (onCacheReset (stageOf p) (receiverOf s live working []))) (sym e)
+
+-- ---- another session
+
+pub other-session : (id : ℕ) (t : LiveTable) (known : Table) → t ≡ LiveTable.Known known → (id ≡ known .session → ⊥) → (r : Receiver) → onChangeResponse t id r ≡ stop 15 [] r
+other-session id t known e h r =
+    ap (λ (x : LiveTable). onChangeResponse x id r) e
+    ∙ ap (λ (x : Bool). cond x (startLoad LoadKind.Change id (r .live) r) (stop 15 [] r)) (ne-eqb id (known .session) h)
+
+-- an End of Data of the load's session, and of another
+pub end-is : (e : RtrEndOfData) (r : Receiver) (p : Phase) (kind : LoadKind) (id : ℕ) → p ≡ Phase.Loading kind id → e .«session_id» ≡ id → onEndOfData (stageOf p) e r ≡ record { then = finish e r; updates = 1 }
+end-is e r p kind id q h =
+    ap (λ (x : Phase). onEndOfData (stageOf x) e r) q
+    ∙ ap (λ (x : Bool). cond x (record { then = finish e r; updates = 1 }) (noUpdate (stop 15 [] r))) (eq-eqb (e .«session_id») id h)
+
+pub end-other : (e : RtrEndOfData) (r : Receiver) (p : Phase) (kind : LoadKind) (id : ℕ) → p ≡ Phase.Loading kind id → (e .«session_id» ≡ id → ⊥) → onEndOfData (stageOf p) e r ≡ noUpdate (stop 15 [] r)
+end-other e r p kind id q h =
+    ap (λ (x : Phase). onEndOfData (stageOf x) e r) q
+    ∙ ap (λ (x : Bool). cond x (record { then = finish e r; updates = 1 }) (noUpdate (stop 15 [] r))) (ne-eqb (e .«session_id») id h)
+
+-- ---- deeds
+
+-- a session and how many updates finished
+pub did : (limit : ℕ) (live working : List ℕ) (d : DeedDone) (q : Session) (n : ℕ) → d ≡ record { session = q; updates = n } → (r : Receiver) → Stands limit q live working r → (deed : Deed) → deed ≡ record { then = r; updates = n } → Did limit d live working deed
+did limit live working d q n e r h deed f = (
+  ap (λ (x : DeedDone). leaves (x .session) live working []) e ∙ h ∙ ap (λ (x : Deed). inMemory limit (x .then)) (sym f),
+  ap (λ (x : DeedDone). x .updates) e ∙ ap (λ (x : Deed). x .updates) (sym f),
+)
+
+-- the same deed in other words
+pub did-as : (limit : ℕ) (live working : List ℕ) (d : DeedDone) (to : Deed) → Did limit d live working to → (deed : Deed) → deed ≡ to → Did limit d live working deed
+did-as limit live working d to h deed f = (h .0 ∙ ap (λ (x : Deed). inMemory limit (x .then)) (sym f), h .1 ∙ ap (λ (x : Deed). x .updates) (sym f))

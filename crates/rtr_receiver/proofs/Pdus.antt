@@ -1,0 +1,129 @@
+-- A PDU by what it is: what the definition makes of each kind, and what the code's answer to it stands for. By the cases of the PDU. Assumes nothing.
+use Prim.Native.Nat.{ℕ, _+_}
+use mathlib.Core.Bool.{Bool, cond}
+use mathlib.Core.List.{List, [], _∷_}
+use mathlib.Core.Path.{_≡_, refl, sym, ap, ap₂, _∙_}
+use denote.Enum.Declared.{tagOf}
+use types.Run.{OneOf, miss}
+use lib.Dec.{eqb}
+use Rattle.rtr_models.specs.Codes.{versionNumber, codeNumber}
+use Rattle.rtr_models.specs.Values.{announces, versionOf}
+use Rattle.rtr_models.specs.declared.RtrPdu.{RtrPdu}
+use Rattle.rtr_models.specs.declared.RtrPdu.the-variants.{SerialNotify, SerialQuery, ResetQuery, CacheResponse, IPv4Prefix, IPv6Prefix, EndOfData, CacheReset, RouterKey, ErrorReport}
+use Rattle.rtr_models.specs.declared.RtrSerialNotify.{RtrSerialNotify}
+use Rattle.rtr_models.specs.declared.RtrCacheResponse.{RtrCacheResponse}
+use Rattle.rtr_models.specs.declared.RtrIPv4Prefix.{RtrIPv4Prefix}
+use Rattle.rtr_models.specs.declared.RtrIPv6Prefix.{RtrIPv6Prefix}
+use Rattle.rtr_models.specs.declared.RtrEndOfData.{RtrEndOfData}
+use Rattle.rtr_models.specs.declared.RtrCacheReset.{RtrCacheReset}
+use Rattle.rtr_models.specs.declared.RtrRouterKey.{RtrRouterKey}
+use Rattle.rtr_models.specs.declared.RtrErrorReport.{RtrErrorReport}
+use Rattle.rtr_models.specs.declared.RtrProtocolVersion.{RtrProtocolVersion}
+use Rattle.rtr_models.proofs.RtrPdu as pdu-enum
+use Rattle.rtr_room.specs.declared.Record.{Record}
+use Rattle.rtr_room.specs.Table.{ipv4Record, ipv6Record}
+use Rattle.rtr_receiver.specs.Receiver.{Stage, Receiver, stop, onSerialNotify, onCacheResponse, onRecord, onRouterKey, onCacheReset, noUpdate, onEndOfData, onKind, ofVersion, onPdu}
+use Rattle.rtr_receiver.specs.Promises.{receiverOf, leaves, inMemory}
+use Rattle.rtr_receiver.specs.Private.{BothRooms, Stands, goesOnIn, afterPdu}
+use Rattle.rtr_receiver.specs.declared.Note.{Note}
+use Rattle.rtr_receiver.specs.declared.Phase.{Phase}
+use Rattle.rtr_receiver.specs.declared.Then.{Then}
+use Rattle.rtr_receiver.specs.declared.DeedDone.{DeedDone}
+use Rattle.rtr_receiver.specs.declared.Session.{Session}
+use Rattle.rtr_receiver.proofs.Phase as phase-enum
+use Rattle.rtr_receiver.proofs.Deeds.{kept-stands}
+
+-- a Serial Notify changes the note alone
+pub notify-stands : (limit : ℕ) (s : Session) (live working : List ℕ) → BothRooms limit s live working → (id serial : ℕ) →
+    (q : Session) → q ≡ record { version = s .version; phase = s .phase; table = s .table; note = Note.Noted id serial; live = s .live; working = s .working; held = s .held } →
+    Stands limit q live working (onSerialNotify id serial (receiverOf s live working []))
+notify-stands limit s live working b id serial q f =
+    ap (λ (x : Session). leaves x live working []) f
+    ∙ kept-stands limit s live working b (record { version = s .version; phase = s .phase; table = s .table; note = Note.Noted id serial; live = s .live; working = s .working; held = s .held }) refl refl refl
+
+-- a record in other words
+pub record-stands : (limit : ℕ) (q : Session) (live w : List ℕ) (stage : Stage) (announced announced′ : Bool) (a b : Record) (r : Receiver) → announced ≡ announced′ → a ≡ b →
+    Stands limit q live w (onRecord limit stage announced a r) → Stands limit q live w (onRecord limit stage announced′ b r)
+record-stands limit q live w stage announced announced′ a b r p e h = h ∙ ap₂ (λ (x : Bool) (y : Record). inMemory limit (onRecord limit stage x y r)) p e
+
+-- what the definition makes of a PDU of each kind
+module _ (limit : ℕ) (r : Receiver) (pdu : RtrPdu) where
+  pub kind-notify : (p : RtrSerialNotify) → pdu ≡ SerialNotify p → onKind limit pdu r ≡ noUpdate (onSerialNotify (p .«session_id») (p .«serial_number») r)
+  unfolding onKind
+  kind-notify p e = ap (λ (x : RtrPdu). onKind limit x r) e
+
+  pub kind-response : (p : RtrCacheResponse) → pdu ≡ CacheResponse p → onKind limit pdu r ≡ noUpdate (onCacheResponse (r .stage) (p .«session_id») r)
+  unfolding onKind
+  kind-response p e = ap (λ (x : RtrPdu). onKind limit x r) e
+
+  pub kind-ipv4 : (p : RtrIPv4Prefix) → pdu ≡ IPv4Prefix p → onKind limit pdu r ≡ noUpdate (onRecord limit (r .stage) (announces (p .flags)) (ipv4Record (p .«prefix_length») (p .«max_length») (p .prefix) (p .asn)) r)
+  unfolding onKind
+  kind-ipv4 p e = ap (λ (x : RtrPdu). onKind limit x r) e
+
+  pub kind-ipv6 : (p : RtrIPv6Prefix) → pdu ≡ IPv6Prefix p → onKind limit pdu r ≡ noUpdate (onRecord limit (r .stage) (announces (p .flags)) (ipv6Record (p .«prefix_length») (p .«max_length») (p .prefix .w0) (p .prefix .w1) (p .prefix .w2) (p .prefix .w3) (p .asn)) r)
+  unfolding onKind
+  kind-ipv6 p e = ap (λ (x : RtrPdu). onKind limit x r) e
+
+  pub kind-end : (p : RtrEndOfData) → pdu ≡ EndOfData p → onKind limit pdu r ≡ onEndOfData (r .stage) p r
+  unfolding onKind
+  kind-end p e = ap (λ (x : RtrPdu). onKind limit x r) e
+
+  pub kind-reset : (p : RtrCacheReset) → pdu ≡ CacheReset p → onKind limit pdu r ≡ noUpdate (onCacheReset (r .stage) r)
+  unfolding onKind
+  kind-reset p e = ap (λ (x : RtrPdu). onKind limit x r) e
+
+  pub kind-key : (p : RtrRouterKey) → pdu ≡ RouterKey p → onKind limit pdu r ≡ noUpdate (onRouterKey (r .stage) r)
+  unfolding onKind
+  kind-key p e = ap (λ (x : RtrPdu). onKind limit x r) e
+
+  pub pdu-report : (p : RtrErrorReport) → pdu ≡ ErrorReport p → onPdu limit pdu r ≡ noUpdate (stop 19 (codeNumber (p .«error_code») ∷ []) r)
+  unfolding onPdu
+  pdu-report p e = ap (λ (x : RtrPdu). onPdu limit x r) e
+
+-- what a cache never sends a router
+pub kind-out : (limit : ℕ) (r : Receiver) (pdu : RtrPdu) → OneOf (1 ∷ 2 ∷ 9 ∷ []) (tagOf pdu-enum.the-type pdu) → onKind limit pdu r ≡ noUpdate (stop 13 [] r)
+unfolding onKind
+kind-out limit r (SerialNotify p) h = absurd (miss (1 ∷ 2 ∷ 9 ∷ []) 0 tt h)
+kind-out limit r (SerialQuery p) h = refl
+kind-out limit r (ResetQuery p) h = refl
+kind-out limit r (CacheResponse p) h = absurd (miss (1 ∷ 2 ∷ 9 ∷ []) 3 tt h)
+kind-out limit r (IPv4Prefix p) h = absurd (miss (1 ∷ 2 ∷ 9 ∷ []) 4 tt h)
+kind-out limit r (IPv6Prefix p) h = absurd (miss (1 ∷ 2 ∷ 9 ∷ []) 5 tt h)
+kind-out limit r (EndOfData p) h = absurd (miss (1 ∷ 2 ∷ 9 ∷ []) 6 tt h)
+kind-out limit r (CacheReset p) h = absurd (miss (1 ∷ 2 ∷ 9 ∷ []) 7 tt h)
+kind-out limit r (RouterKey p) h = absurd (miss (1 ∷ 2 ∷ 9 ∷ []) 8 tt h)
+kind-out limit r (ErrorReport p) h = refl
+
+-- every PDU but an Error Report is judged by its version first
+by-version : (limit : ℕ) (r : Receiver) (pdu : RtrPdu) → OneOf (0 ∷ 1 ∷ 2 ∷ 3 ∷ 4 ∷ 5 ∷ 6 ∷ 7 ∷ 8 ∷ []) (tagOf pdu-enum.the-type pdu) → onPdu limit pdu r ≡ ofVersion (versionOf pdu) r (onKind limit pdu r)
+unfolding onPdu
+by-version limit r (SerialNotify p) h = refl
+by-version limit r (SerialQuery p) h = refl
+by-version limit r (ResetQuery p) h = refl
+by-version limit r (CacheResponse p) h = refl
+by-version limit r (IPv4Prefix p) h = refl
+by-version limit r (IPv6Prefix p) h = refl
+by-version limit r (EndOfData p) h = refl
+by-version limit r (CacheReset p) h = refl
+by-version limit r (RouterKey p) h = refl
+by-version limit r (ErrorReport p) h = absurd (miss (0 ∷ 1 ∷ 2 ∷ 3 ∷ 4 ∷ 5 ∷ 6 ∷ 7 ∷ 8 ∷ []) 9 tt h)
+
+pub of-version : (limit : ℕ) (r : Receiver) (pdu : RtrPdu) → OneOf (0 ∷ 1 ∷ 2 ∷ 3 ∷ 4 ∷ 5 ∷ 6 ∷ 7 ∷ 8 ∷ []) (tagOf pdu-enum.the-type pdu) →
+    (v : RtrProtocolVersion) → v ≡ versionOf pdu → (same : Bool) → same ≡ eqb (versionNumber v) (versionNumber (r .version)) → (known : Bool) → same ≡ known →
+    onPdu limit pdu r ≡ cond known (onKind limit pdu r) (noUpdate (stop 14 [] r))
+of-version limit r pdu h v e same f known k =
+    by-version limit r pdu h
+    ∙ ap (λ (x : RtrProtocolVersion). ofVersion x r (onKind limit pdu r)) (sym e)
+    ∙ ap (λ (x : Bool). cond x (onKind limit pdu r) (noUpdate (stop 14 [] r))) (sym f ∙ k)
+
+-- every phase but Stopped goes on
+pub goes-on : (p : Phase) → OneOf (0 ∷ 1 ∷ 2 ∷ 3 ∷ 4 ∷ []) (tagOf phase-enum.the-type p) → goesOnIn p ≡ Then.Again
+goes-on Phase.Idle h = refl
+goes-on Phase.MustReset h = refl
+goes-on Phase.AskedFull h = refl
+goes-on Phase.AskedChange h = refl
+goes-on (Phase.Loading kind session) h = refl
+goes-on (Phase.Stopped why) h = absurd (miss (0 ∷ 1 ∷ 2 ∷ 3 ∷ 4 ∷ []) 5 tt h)
+
+pub step-is : (d : DeedDone) (next updates : ℕ) (then : Then) → then ≡ goesOnIn (d .session .phase) → record { session = d .session; next = next; updates = updates + d .updates; then = then } ≡ afterPdu d next updates
+step-is d next updates then e = ap (λ (x : Then). record { session = d .session; next = next; updates = updates + d .updates; then = x }) e

@@ -1,0 +1,244 @@
+-- A step of a feed, in the code's words and in the definition's: what the search found decides, and memory that stands for a receiver stands for what the
+-- receiver becomes. Assumes nothing.
+use Prim.Native.Nat.{ℕ, zero, suc, _+_, _-_, _*_, _≤_, _<_}
+use mathlib.Core.Bool.{Bool, true, false, not, cond, _&&_, _||_}
+use mathlib.Core.List.{List, [], _∷_, _++_}
+use mathlib.Core.Logic.{_⊎_, inl, inr}
+use mathlib.Core.Path.{_≡_, refl, sym, ap, _∙_, subst}
+use native.Mathlib.Omega.{arith}
+use borrow.Author.Tests.{eq-eqb, eqb-true}
+use lib.Dec.{eqb}
+use lib.ListN.{length, take, drop, length-drop}
+use lib.Seq.{take-nil, drop-drop}
+use Rattle.rtr_models.specs.declared.RtrPdu.{RtrPdu}
+use Rattle.rtr_codec.specs.Reading.{crate}
+use Rattle.rtr_codec.specs.Read.{Verdict}
+use Rattle.rtr_codec.specs.declared.RtrError.the-variants.{IncompletePdu, InvalidProtocolVersion, InvalidPduType, InvalidLength, RouterKeyInV0, InvalidPrefixLength, InvalidErrorCode, InvalidUtf8}
+use Rattle.rtr_stream.specs.Search.{End, Search, Says, Outcome, isStream, searchFrom, search, saysOf, outcomeOf, lying, streamRefusal, stopsBy, saidBy, searchSaid, bytesOf}
+use Rattle.rtr_stream.specs.declared.StreamError.{StreamError}
+use Rattle.rtr_stream.specs.declared.Lies.{Lies}
+use Rattle.rtr_stream.specs.declared.StreamAnswer.{StreamAnswer}
+use Rattle.rtr_stream.specs.declared.Searched.{Searched}
+use Rattle.rtr_stream.proofs.Laws.{stream-has, search-is}
+use Rattle.rtr_room.specs.Room.{room, records, isRoom}
+use Rattle.rtr_room.specs.Table.{isTable}
+use Rattle.rtr_room.specs.declared.Record.{Record}
+use Rattle.rtr_room.proofs.Laws.{rules-exactly, records-of-room}
+use Rattle.rtr_receiver.specs.Receiver.{Stage, Receiver, listens}
+use Rattle.rtr_receiver.specs.Receiver.Stage.{idle, mustReset, askedFull, askedChange, loading, stopped}
+use Rattle.rtr_receiver.specs.Promises.{stopSaid, stoppedBy, stageOf, receiverOf, hasTable, changeUnderWay, isLoading, isStopped, inOrder, isReceiver, Left, leaves, inMemory}
+use Rattle.rtr_receiver.specs.declared.LoadKind.{LoadKind}
+use Rattle.rtr_receiver.specs.declared.Stop.{Stop}
+use Rattle.rtr_receiver.specs.declared.Phase.{Phase}
+use Rattle.rtr_receiver.specs.declared.Session.{Session}
+use Rattle.rtr_receiver.proofs.Good.{Good, changeIn, loadingIn, stoppedIn}
+
+-- ---- tests
+
+both : (a b : Bool) → a && b ≡ true → (a ≡ true) × (b ≡ true)
+both true b e = (refl, e)
+both false b e = absurd (let z : _≡_ {A = ℕ} 0 1 = cc in omega arith)
+
+either : (a b : Bool) → a || b ≡ true → (a ≡ true) ⊎ (b ≡ true)
+either true b e = inl refl
+either false b e = inr e
+
+and-is : {a b : Bool} → a ≡ true → b ≡ true → a && b ≡ true
+and-is {b = b} p q = ap (λ (x : Bool). x && b) p ∙ q
+
+or-left : {a : Bool} (b : Bool) → a ≡ true → a || b ≡ true
+or-left b p = ap (λ (x : Bool). x || b) p
+
+or-right : (a : Bool) {b : Bool} → b ≡ true → a || b ≡ true
+or-right true q = refl
+or-right false q = q
+
+negated : (a : Bool) → not a ≡ true → a ≡ false
+negated true e = absurd (let z : _≡_ {A = ℕ} 0 1 = cc in omega arith)
+negated false e = refl
+
+none : {A : Type 0} (t : List A) → length t ≡ 0 → t ≡ []
+none [] e = refl
+none (x ∷ t) e = absurd (omega arith)
+
+-- ---- the phase in the session record and the phase
+
+stop-is-stopped : (v : Verdict) (k : ℕ) (x : List ℕ) → v ≡ Verdict.refused k x → stoppedBy v ≡ stopped k x
+stop-is-stopped v k x e = ap stoppedBy e
+
+-- each stop has its number and values
+pub stop-told : (stop : Stop) → (k : ℕ) × (x : List ℕ) × (stopSaid stop ≡ Verdict.refused k x)
+stop-told (Stop.Stream error) = refusal-told error
+  where
+    refusal-told : (error : StreamError) → (k : ℕ) × (x : List ℕ) × (streamRefusal error ≡ Verdict.refused k x)
+    refusal-told (StreamError.OverHold n) = (_, _, refl)
+    refusal-told (StreamError.Read (IncompletePdu a n)) = (_, _, refl)
+    refusal-told (StreamError.Read (InvalidPduType t)) = (_, _, refl)
+    refusal-told (StreamError.Read (InvalidProtocolVersion v)) = (_, _, refl)
+    refusal-told (StreamError.Read (InvalidErrorCode c)) = (_, _, refl)
+    refusal-told (StreamError.Read (InvalidLength e a t)) = (_, _, refl)
+    refusal-told (StreamError.Read (InvalidPrefixLength l m b)) = (_, _, refl)
+    refusal-told (StreamError.Read InvalidUtf8) = (_, _, refl)
+    refusal-told (StreamError.Read RouterKeyInV0) = (_, _, refl)
+stop-told Stop.OutOfTurn = (_, _, refl)
+stop-told Stop.OtherVersion = (_, _, refl)
+stop-told Stop.OtherSession = (_, _, refl)
+stop-told Stop.NotIn = (_, _, refl)
+stop-told Stop.AlreadyIn = (_, _, refl)
+stop-told Stop.RoomFull = (_, _, refl)
+stop-told (Stop.ErrorReport code) = (_, _, refl)
+
+pub stopped-stage : (stop : Stop) → stageOf (Phase.Stopped stop) ≡ stopped (stop-told stop .0) (stop-told stop .1)
+stopped-stage stop = ap stoppedBy (stop-told stop .2)
+
+change-alike : (p : Phase) → changeUnderWay p ≡ changeIn (stageOf p)
+change-alike Phase.Idle = refl
+change-alike Phase.MustReset = refl
+change-alike Phase.AskedFull = refl
+change-alike Phase.AskedChange = refl
+change-alike (Phase.Loading LoadKind.Full session) = refl
+change-alike (Phase.Loading LoadKind.Change session) = refl
+change-alike (Phase.Stopped stop) = sym (ap changeIn (stopped-stage stop))
+
+loading-alike : (p : Phase) → isLoading p ≡ loadingIn (stageOf p)
+loading-alike Phase.Idle = refl
+loading-alike Phase.MustReset = refl
+loading-alike Phase.AskedFull = refl
+loading-alike Phase.AskedChange = refl
+loading-alike (Phase.Loading kind session) = refl
+loading-alike (Phase.Stopped stop) = sym (ap loadingIn (stopped-stage stop))
+
+stopped-alike : (p : Phase) → isStopped p ≡ stoppedIn (stageOf p)
+stopped-alike Phase.Idle = refl
+stopped-alike Phase.MustReset = refl
+stopped-alike Phase.AskedFull = refl
+stopped-alike Phase.AskedChange = refl
+stopped-alike (Phase.Loading kind session) = refl
+stopped-alike (Phase.Stopped stop) = sym (ap stoppedIn (stopped-stage stop))
+
+-- ---- memory and receiver
+
+pub room-stands : (limit count : ℕ) (s : List ℕ) → isRoom limit count s ≡ true → (s ≡ room limit (records count s)) × (length (records count s) ≡ count) × (isTable (records count s) ≡ true) × (count ≤ limit)
+room-stands limit count s e = go (rules-exactly limit count s .0 e)
+  where
+    go : (t : List Record) × (isTable t ≡ true) × (length t ≡ count) × (count ≤ limit) × (s ≡ room limit t) →
+        (s ≡ room limit (records count s)) × (length (records count s) ≡ count) × (isTable (records count s) ≡ true) × (count ≤ limit)
+    go (t, table, long, fits, is) =
+        let same : records count s ≡ t = ap (λ (n : ℕ). records n s) (sym long) ∙ ap (records (length t)) is ∙ records-of-room limit t in
+        (is ∙ ap (room limit) (sym same), ap length same ∙ long, ap isTable same ∙ table, fits)
+
+-- the four parts of receiver shape
+pub record Shape (limit : ℕ) (s : Session) (live working hold : List ℕ) : Type 0 where
+  pub live-room : isRoom limit (s .live) live ≡ true
+  pub working-room : isRoom limit (s .working) working ≡ true
+  pub stream : isStream hold (s .held) ≡ true
+  pub order : inOrder s ≡ true
+
+module _ (limit : ℕ) (s : Session) (live working hold : List ℕ) where
+  pub shape-of : isReceiver limit s live working hold ≡ true → Shape limit s live working hold
+  unfolding isReceiver
+  shape-of e =
+      let a = both _ _ e in
+      let b = both _ _ (a .1) in
+      let c = both _ _ (b .1) in
+      record { live-room = a .0; working-room = b .0; stream = c .0; order = c .1 }
+
+  pub shape-is : Shape limit s live working hold → isReceiver limit s live working hold ≡ true
+  unfolding isReceiver
+  shape-is h = and-is (h .live-room) (and-is (h .working-room) (and-is (h .stream) (h .order)))
+
+  -- receiver shape in memory is receiver shape on tables
+  pub good-of : Shape limit s live working hold → Good limit (receiverOf s live working hold)
+  good-of h =
+      let l = room-stands limit (s .live) live (h .live-room) in
+      let w = room-stands limit (s .working) working (h .working-room) in
+      let o = both _ _ (h .order) in
+      let p = both _ _ (o .1) in
+      record {
+        live = l .2;
+        live-fits = omega (arith, l .1, l .3);
+        working = w .2;
+        working-fits = omega (arith, w .1, w .3);
+        tabled = tabled (l .1) (either _ _ (o .0));
+        emptied = emptied (w .1) (either _ _ (p .0));
+        quiet = quiet (either _ _ (p .1));
+      }
+    where
+      tabled : length (records (s .live) live) ≡ s .live →
+          (hasTable (s .table) ≡ true) ⊎ (eqb (s .live) 0 && not (changeUnderWay (s .phase)) ≡ true) →
+          (hasTable (s .table) ≡ true) ⊎ ((records (s .live) live ≡ []) × (changeIn (stageOf (s .phase)) ≡ false))
+      tabled long (inl t) = inl t
+      tabled long (inr t) =
+          let z = both _ _ t in
+          inr (none _ (long ∙ eqb-true (s .live) 0 (z .0)), sym (change-alike (s .phase)) ∙ negated _ (z .1))
+
+      emptied : length (records (s .working) working) ≡ s .working →
+          (isLoading (s .phase) ≡ true) ⊎ (eqb (s .working) 0 ≡ true) →
+          (loadingIn (stageOf (s .phase)) ≡ true) ⊎ (records (s .working) working ≡ [])
+      emptied long (inl t) = inl (sym (loading-alike (s .phase)) ∙ t)
+      emptied long (inr t) = inr (none _ (long ∙ eqb-true (s .working) 0 t))
+
+      quiet : (not (isStopped (s .phase)) ≡ true) ⊎ (eqb (s .held) 0 ≡ true) → (stoppedIn (stageOf (s .phase)) ≡ false) ⊎ (take (s .held) hold ≡ [])
+      quiet (inl t) = inl (sym (stopped-alike (s .phase)) ∙ negated _ t)
+      quiet (inr t) = inr (ap (λ (n : ℕ). take n hold) (eqb-true (s .held) 0 t))
+
+  -- and back
+  pub shape-of-good : (r : Receiver) → Good limit r → leaves s live working hold ≡ inMemory limit r → isStream hold (s .held) ≡ true → Shape limit s live working hold
+  shape-of-good r g e t =
+      record {
+        live-room = rules-exactly limit (s .live) live .1 (r .live, g .live, sym live-count, omega (arith, live-count, g .live-fits), ap (λ (x : Left). x .live) e);
+        working-room = rules-exactly limit (s .working) working .1 (r .working, g .working, sym working-count, omega (arith, working-count, g .working-fits), ap (λ (x : Left). x .working) e);
+        stream = t;
+        order = and-is (tabled (g .tabled)) (and-is (emptied (g .emptied)) (quiet (g .quiet)));
+      }
+    where
+      live-count : s .live ≡ length (r .live)
+      live-count = ap (λ (x : Left). x .liveCount) e
+
+      working-count : s .working ≡ length (r .working)
+      working-count = ap (λ (x : Left). x .workingCount) e
+
+      held-count : s .held ≡ length (r .held)
+      held-count = ap (λ (x : Left). x .heldCount) e
+
+      stage : stageOf (s .phase) ≡ r .stage
+      stage = ap (λ (x : Left). x .stage) e
+
+      tabled : (hasTable (r .table) ≡ true) ⊎ ((r .live ≡ []) × (changeIn (r .stage) ≡ false)) → hasTable (s .table) || (eqb (s .live) 0 && not (changeUnderWay (s .phase))) ≡ true
+      tabled (inl t) = or-left _ (ap (λ (x : Left). hasTable (x .table)) e ∙ t)
+      tabled (inr t) =
+          or-right (hasTable (s .table))
+          (and-is (eq-eqb (s .live) 0 (live-count ∙ ap length (t .0)))
+          (ap not (change-alike (s .phase) ∙ ap changeIn stage ∙ t .1)))
+
+      emptied : (loadingIn (r .stage) ≡ true) ⊎ (r .working ≡ []) → isLoading (s .phase) || eqb (s .working) 0 ≡ true
+      emptied (inl t) = or-left _ (loading-alike (s .phase) ∙ ap loadingIn stage ∙ t)
+      emptied (inr t) = or-right (isLoading (s .phase)) (eq-eqb (s .working) 0 (working-count ∙ ap length t))
+
+      quiet : (stoppedIn (r .stage) ≡ false) ⊎ (r .held ≡ []) → not (isStopped (s .phase)) || eqb (s .held) 0 ≡ true
+      quiet (inl t) = or-left _ (ap not (stopped-alike (s .phase) ∙ ap stoppedIn stage ∙ t))
+      quiet (inr t) = or-right (not (isStopped (s .phase))) (eq-eqb (s .held) 0 (held-count ∙ ap length t))
+
+  -- memory that is a receiver's stands for it
+  pub stands-for : (r : Receiver) → leaves s live working hold ≡ inMemory limit r → receiverOf s live working hold ≡ r
+  stands-for r e = λ i.
+      record {
+        version = e i .version;
+        stage = e i .stage;
+        table = e i .table;
+        note = e i .note;
+        live = live-is i;
+        working = working-is i;
+        held = e i .held;
+      }
+    where
+      live-is : records (s .live) live ≡ r .live
+      live-is =
+          ap (λ (n : ℕ). records n live) (ap (λ (x : Left). x .liveCount) e) ∙ ap (records (length (r .live))) (ap (λ (x : Left). x .live) e)
+          ∙ records-of-room limit (r .live)
+
+      working-is : records (s .working) working ≡ r .working
+      working-is =
+          ap (λ (n : ℕ). records n working) (ap (λ (x : Left). x .workingCount) e)
+          ∙ ap (records (length (r .working))) (ap (λ (x : Left). x .working) e)
+          ∙ records-of-room limit (r .working)

@@ -1,0 +1,231 @@
+-- Demand 3, the page to read first: which updates have FINISHED in a history, and the table that they make. Document 01, "Stream and receiver". Nothing here
+-- knows of a session record, of rooms, of a hold buffer or of what the receiver does with a byte.
+--
+-- An example. In version 1, with no table yet, this history (a full ask; a Cache Response of session 4660; one announced prefix; an End of Data of session
+-- 4660 with serial 7) has one finished update, and the table holds that prefix under session 4660 and serial 7. Cut off before its last byte it has none, and
+-- there is no table; with another session in the End of Data it has none either.
+use Prim.Native.Nat.{ℕ}
+use mathlib.Core.Bool.{Bool, true, false, cond, _&&_}
+use mathlib.Core.List.{List, [], _∷_, _++_}
+use lib.Dec.{eqb, leb}
+use Rattle.rtr_models.specs.Codes.{versionNumber}
+use Rattle.rtr_models.specs.Values.{announces, versionOf}
+use Rattle.rtr_models.specs.declared.RtrProtocolVersion.{RtrProtocolVersion}
+use Rattle.rtr_models.specs.declared.RtrPdu.{RtrPdu}
+use Rattle.rtr_models.specs.declared.RtrPdu.the-variants.{SerialNotify, SerialQuery, ResetQuery, CacheResponse, IPv4Prefix, IPv6Prefix, EndOfData, CacheReset, RouterKey, ErrorReport}
+use Rattle.rtr_codec.specs.Reading.{crate}
+use Rattle.rtr_stream.specs.Stream.{Heard, judge}
+use Rattle.rtr_room.specs.Table.{Change, ipv4Record, ipv6Record, enter, leave}
+use Rattle.rtr_room.specs.declared.Record.{Record}
+use Rattle.rtr_receiver.specs.Receiver.{tableFrom}
+use Rattle.rtr_receiver.specs.declared.LoadKind.{LoadKind}
+use Rattle.rtr_receiver.specs.declared.Table.{Table}
+use Rattle.rtr_receiver.specs.declared.LiveTable.{LiveTable}
+
+-- what happened, in order: a byte came, an ask was made with so much room for its query, a new connection began. Where pieces were cut is forgotten.
+pub data Event : Type 0 where
+  byte : ℕ → Event
+  ask : LoadKind → ℕ → Event
+  reconnect : Event
+
+-- ---- Updates and the table
+
+-- a record announced or withdrawn
+pub record Changed : Type 0 where
+  pub announced : Bool
+  pub what : Record
+
+-- a finished update: what it was asked as, its records in order, and what its End of Data said
+pub record Update : Type 0 where
+  pub kind : LoadKind
+  pub records : List Changed
+  pub end : Table
+
+-- the live table: its session, serial and intervals, if there is one, and its records
+pub record Live : Type 0 where
+  pub info : LiveTable
+  pub records : List Record
+
+abbrev pub noTable : Live
+noTable = record { info = LiveTable.NoTable; records = [] }
+
+-- what one record comes to; `Change` says 16, 17 or 18 where it does not apply
+abbrev pub applied : ℕ → List Record → Bool → Record → Change
+applied limit t true r = enter limit r t
+applied limit t false r = leave r t
+
+abbrev pub kept : List Record → Change → List Record
+kept t (Change.changed t′) = t′
+kept t (Change.refused number) = t
+
+unfoldable pub withAll : ℕ → List Record → List Changed → List Record
+withAll limit t [] = t
+withAll limit t (c ∷ cs) = withAll limit (kept t (applied limit t (c .announced) (c .what))) cs
+
+-- a full load starts from nothing, a change from the table before it
+abbrev pub base : LoadKind → List Record → List Record
+base LoadKind.Full t = []
+base LoadKind.Change t = t
+
+abbrev pub updated : ℕ → Live → Update → Live
+updated limit live u = record { info = LiveTable.Known (u .end); records = withAll limit (base (u .kind) (live .records)) (u .records) }
+
+unfoldable pub tableFromOn : ℕ → Live → List Update → Live
+tableFromOn limit live [] = live
+tableFromOn limit live (u ∷ us) = tableFromOn limit (updated limit live u) us
+
+-- the table that updates make, one after another
+abbrev pub tableOf : ℕ → List Update → Live
+tableOf limit us = tableFromOn limit noTable us
+
+-- ---- Bytes become items: an ask, a PDU that was read, bytes that are refused, a new connection
+
+pub data Item : Type 0 where
+  asks : LoadKind → ℕ → Item
+  told : RtrPdu → Item
+  refusal : Item
+  anew : Item
+
+-- bytes that wait for more are carried along; a new connection drops them
+abbrev pub itemsBy : List ℕ → Heard → (List ℕ → List Item) → List Item
+itemsBy s Heard.waits rest = rest s
+itemsBy s (Heard.whole pdu) rest = told pdu ∷ rest []
+itemsBy s (Heard.refused number values) rest = refusal ∷ rest []
+
+unfoldable pub items : ℕ → List ℕ → List Event → List Item
+items H s [] = []
+items H s (byte b ∷ es) = itemsBy (s ++ b ∷ []) (judge crate H (s ++ b ∷ [])) (λ held. items H held es)
+items H s (ask kind room ∷ es) = asks kind room ∷ items H s es
+items H s (reconnect ∷ es) = anew ∷ items H [] es
+
+-- ---- The grammar of a connection
+
+-- where a connection stands: nothing asked; told to ask for all; asked; in a load, with the records so far; or lost until the next connection
+pub data Place : Type 0 where
+  idle : Place
+  mustReset : Place
+  asked : LoadKind → Place
+  loading : LoadKind → ℕ → List Changed → Place
+  lost : Place
+
+-- where an item leads, and the update that it finished, if it did
+pub data Next : Type 0 where
+  goes : Place → Next
+  finishes : Update → Next
+
+-- an ask is made where there is room for its query: 8 bytes, or 12
+abbrev pub hasRoom : LoadKind → ℕ → Bool
+hasRoom LoadKind.Full room = leb 8 room
+hasRoom LoadKind.Change room = leb 12 room
+
+abbrev pub isKnown : LiveTable → Bool
+isKnown LiveTable.NoTable = false
+isKnown (LiveTable.Known t) = true
+
+-- a full ask from idle or after a Cache Reset, a change ask from idle with a table; others are refused and change nothing
+abbrev pub onAsk : LiveTable → Place → LoadKind → ℕ → Place
+onAsk info idle LoadKind.Full room = cond (leb 8 room) (asked LoadKind.Full) idle
+onAsk info idle LoadKind.Change room = cond (isKnown info && leb 12 room) (asked LoadKind.Change) idle
+onAsk info mustReset LoadKind.Full room = cond (leb 8 room) (asked LoadKind.Full) mustReset
+onAsk info mustReset LoadKind.Change room = mustReset
+onAsk info (asked k) kind room = asked k
+onAsk info (loading k session cs) kind room = loading k session cs
+onAsk info lost kind room = lost
+
+-- a change's answer is of the table's session
+abbrev pub ofSession : LiveTable → ℕ → Bool
+ofSession LiveTable.NoTable session = false
+ofSession (LiveTable.Known t) session = eqb session (t .session)
+
+-- Cache Response: to an ask
+abbrev pub onResponse : LiveTable → Place → ℕ → Place
+onResponse info (asked LoadKind.Full) session = loading LoadKind.Full session []
+onResponse info (asked LoadKind.Change) session = cond (ofSession info session) (loading LoadKind.Change session []) lost
+onResponse info idle session = lost
+onResponse info mustReset session = lost
+onResponse info (loading kind id cs) session = lost
+onResponse info lost session = lost
+
+-- a prefix: in a load, where it applies
+abbrev pub takenIn : LoadKind → ℕ → List Changed → Bool → Record → Change → Place
+takenIn kind session cs announced r (Change.changed t) = loading kind session (cs ++ record { announced = announced; what = r } ∷ [])
+takenIn kind session cs announced r (Change.refused number) = lost
+
+abbrev pub onPrefix : ℕ → List Record → Place → Bool → Record → Place
+onPrefix limit t (loading kind session cs) announced r = takenIn kind session cs announced r (applied limit (withAll limit (base kind t) cs) announced r)
+onPrefix limit t idle announced r = lost
+onPrefix limit t mustReset announced r = lost
+onPrefix limit t (asked kind) announced r = lost
+onPrefix limit t lost announced r = lost
+
+-- Router Key: passed over in a load
+abbrev pub onKey : Place → Place
+onKey (loading kind session cs) = loading kind session cs
+onKey idle = lost
+onKey mustReset = lost
+onKey (asked kind) = lost
+onKey lost = lost
+
+-- Cache Reset: the answer to a change ask
+abbrev pub onReset : Place → Place
+onReset (asked LoadKind.Change) = mustReset
+onReset (asked LoadKind.Full) = lost
+onReset idle = lost
+onReset mustReset = lost
+onReset (loading kind session cs) = lost
+onReset lost = lost
+
+-- End of Data: of the load's session it finishes the update
+abbrev pub onEnd : Place → ℕ → Table → Next
+onEnd (loading kind session cs) id end = cond (eqb id session) (finishes (record { kind = kind; records = cs; end = end })) (goes lost)
+onEnd idle id end = goes lost
+onEnd mustReset id end = goes lost
+onEnd (asked kind) id end = goes lost
+onEnd lost id end = goes lost
+
+-- a PDU of the connection's version, by what it is; an Error Report of either version, and what a cache never sends, loses the connection
+abbrev pub onTold : ℕ → Live → Place → RtrPdu → Next
+onTold limit live place (SerialNotify p) = goes place
+onTold limit live place (SerialQuery p) = goes lost
+onTold limit live place (ResetQuery p) = goes lost
+onTold limit live place (CacheResponse p) = goes (onResponse (live .info) place (p .«session_id»))
+onTold limit live place (IPv4Prefix p) =
+    goes (onPrefix limit (live .records) place (announces (p .flags)) (ipv4Record (p .«prefix_length») (p .«max_length») (p .prefix) (p .asn)))
+onTold limit live place (IPv6Prefix p) =
+    goes
+    (onPrefix limit (live .records) place (announces (p .flags))
+    (ipv6Record (p .«prefix_length») (p .«max_length») (p .prefix .w0) (p .prefix .w1) (p .prefix .w2) (p .prefix .w3) (p .asn)))
+onTold limit live place (EndOfData p) = onEnd place (p .«session_id») (tableFrom p)
+onTold limit live place (CacheReset p) = goes (onReset place)
+onTold limit live place (RouterKey p) = goes (onKey place)
+onTold limit live place (ErrorReport p) = goes lost
+
+abbrev pub ofVersion : RtrProtocolVersion → RtrPdu → Bool
+ofVersion v pdu = eqb (versionNumber (versionOf pdu)) (versionNumber v)
+
+-- a connection that is lost stays so; a PDU of another version loses it
+abbrev pub onPduAt : ℕ → RtrProtocolVersion → Live → Place → RtrPdu → Next
+onPduAt limit v live lost pdu = goes lost
+onPduAt limit v live idle pdu = cond (ofVersion v pdu) (onTold limit live idle pdu) (goes lost)
+onPduAt limit v live mustReset pdu = cond (ofVersion v pdu) (onTold limit live mustReset pdu) (goes lost)
+onPduAt limit v live (asked kind) pdu = cond (ofVersion v pdu) (onTold limit live (asked kind) pdu) (goes lost)
+onPduAt limit v live (loading kind session cs) pdu = cond (ofVersion v pdu) (onTold limit live (loading kind session cs) pdu) (goes lost)
+
+abbrev pub onItem : ℕ → RtrProtocolVersion → Live → Place → Item → Next
+onItem limit v live place (asks kind room) = goes (onAsk (live .info) place kind room)
+onItem limit v live place (told pdu) = onPduAt limit v live place pdu
+onItem limit v live place refusal = goes lost
+onItem limit v live place anew = goes idle
+
+-- the updates that items finish, from a place and the table so far; after one the connection is idle
+abbrev pub orFinished : ℕ → Live → Next → (Live → Place → List Update) → List Update
+orFinished limit live (goes place) rest = rest live place
+orFinished limit live (finishes u) rest = u ∷ rest (updated limit live u) idle
+
+unfoldable pub updates : ℕ → RtrProtocolVersion → Live → Place → List Item → List Update
+updates limit v live place [] = []
+updates limit v live place (i ∷ is) = orFinished limit live (onItem limit v live place i) (λ live′ place′. updates limit v live′ place′ is)
+
+-- the updates that finished in a history, from a fresh start, with a record limit, a hold of H bytes and a version
+abbrev pub finished : ℕ → ℕ → RtrProtocolVersion → List Event → List Update
+finished limit H v history = updates limit v noTable idle (items H [] history)
