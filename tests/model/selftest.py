@@ -4,6 +4,7 @@
     python3 selftest.py          (about a minute)
 """
 
+import os
 import copy
 import ipaddress
 import json
@@ -15,7 +16,7 @@ import receiver_model as m
 import scripts as g
 from scripts import pdu, prefix, end_of_data, error_report, u32
 
-CAPTURES = "/work/shared/captures/"
+CAPTURES = os.environ.get("CAPTURES", os.path.join(os.path.dirname(os.path.abspath(__file__)), "../../../shared/captures")) + "/"
 checks = 0
 
 

@@ -15,12 +15,15 @@ use Rattle.rtr_models.specs.declared.RtrEndOfData.{RtrEndOfData}
 use Rattle.rtr_models.specs.declared.RtrPdu.{RtrPdu}
 use Rattle.rtr_models.specs.declared.RtrPdu.the-variants.{SerialNotify, SerialQuery, ResetQuery, CacheResponse, IPv4Prefix, IPv6Prefix, EndOfData, CacheReset, RouterKey, ErrorReport}
 use Rattle.rtr_codec.specs.Reading.{crate}
+use Rattle.rtr_encode.specs.Encode.{Writing, encode}
+use Rattle.rtr_encode.proofs.Laws.{reset-query-says, serial-query-says}
 use Rattle.rtr_stream.specs.Stream.{Heard, judge}
 use Rattle.rtr_room.specs.Table.{Change, enter, leave}
 use Rattle.rtr_room.specs.declared.Record.{Record}
-use Rattle.rtr_receiver.specs.Receiver.{Stage, Receiver, Deed, Feed, holding, stop, startLoad, onChangeResponse, onCacheResponse, changedTo, onRecord, onRouterKey, onCacheReset, finish, tableFrom, onEndOfData, onKind, onPdu, heard, listens, onByte, onPiece, inStage}
-use Rattle.rtr_receiver.specs.History.{Event, Changed, Update, Live, Item, Place, Next, applied, kept, withAll, base, updated, tableFromOn, itemsBy, items, onAsk, ofSession, onResponse, takenIn, onPrefix, onKey, onReset, onEnd, onTold, ofVersion, onPduAt, onItem, orFinished, updates}
+use Rattle.rtr_receiver.specs.Receiver.{Stage, Receiver, Deed, Feed, holding, stop, startLoad, onChangeResponse, onCacheResponse, changedTo, onRecord, onRouterKey, onCacheReset, finish, tableFrom, onEndOfData, onKind, onPdu, heard, listens, onByte, onPiece, inStage, Query, resetQuery, fullQuery, serialQuery, changeQuery, Asked, askedBy, ask, reconnected}
+use Rattle.rtr_receiver.specs.History.{Event, Changed, Update, Live, Item, Place, Next, applied, kept, withAll, base, updated, tableFromOn, itemsBy, items, isKnown, onAsk, ofSession, onResponse, takenIn, onPrefix, onKey, onReset, onEnd, onTold, ofVersion, onPduAt, onItem, orFinished, updates}
 use Rattle.rtr_receiver.specs.History.Next.{goes, finishes}
+use Rattle.rtr_receiver.specs.Runs.{bytes}
 use Rattle.rtr_receiver.specs.declared.LoadKind.{LoadKind}
 use Rattle.rtr_receiver.specs.declared.Table.{Table}
 use Rattle.rtr_receiver.specs.declared.LiveTable.{LiveTable}
@@ -307,3 +310,119 @@ module _ (limit H : ℕ) where
             (subst (λ (q : Place). updates limit (r .version) (liveOf r) q (items H (r .held) (Event.byte b ∷ es)) ≡ updates limit (r .version) (liveOf r) q (items H (r .held) es))
             (sym (deaf-lost r p e a)) (lost-byte (r .version) (liveOf r) (r .held) b es)),
       )
+
+  -- a piece
+  pub piece-follows
+      : (piece : List ℕ) (r : Receiver) (p : Place) (k u : ℕ) (es : List Event) →
+      At r p →
+      (p′ : Place)
+      × At (onPiece limit H (from r k u) piece .receiver) p′
+      × (outcome r p (bytes piece ++ es) ≡ outcome (onPiece limit H (from r k u) piece .receiver) p′ es)
+  unfolding onPiece
+  piece-follows [] r p k u es a = (p, a, refl)
+  piece-follows (b ∷ piece) r p k u es a =
+      let f = onByte limit H (from r k u) b in
+      let one = byte-follows r p b k u (bytes piece ++ es) a in
+      let rest = piece-follows piece (f .receiver) (one .0) (f .taken) (f .updates) es (one .1) in
+      (rest .0, rest .1, one .2 ∙ rest .2)
+
+  -- ---- Asks and reconnects
+
+  -- what an ask makes of the future
+  abbrev Asks : Receiver → Place → LoadKind → ℕ → List Event → Receiver → Type 0
+  Asks r p kind room es r′ = (p′ : Place) × At r′ p′ × (outcome r p (Event.ask kind room ∷ es) ≡ outcome r′ p′ es)
+
+  -- a query is written where there is room for it
+  written-if : (b : Bool) (n : ℕ) (stage : Stage) (r : Receiver) (out : List ℕ) → askedBy (cond b (Writing.written n) (Writing.refused 9 (n ∷ []))) stage r out .receiver ≡ cond b (inStage stage r) r
+  written-if true n stage r out = refl
+  written-if false n stage r out = refl
+
+  full-is : (r : Receiver) (out : List ℕ) → ask (resetQuery r) r out .receiver ≡ cond (leb 8 (length out)) (inStage Stage.askedFull r) r
+  full-is r out =
+      let e = encode crate (ResetQuery (record { version = r .version })) [] out in
+      ap (λ (w : Writing). askedBy w Stage.askedFull r (e .out) .receiver) (reset-query-says crate (r .version) out)
+      ∙ written-if (leb 8 (length out)) 8 Stage.askedFull r (e .out)
+
+  change-is : (r : Receiver) (t : Table) (out : List ℕ) → ask (serialQuery (LiveTable.Known t) r) r out .receiver ≡ cond (leb 12 (length out)) (inStage Stage.askedChange r) r
+  change-is r t out =
+      let e = encode crate (SerialQuery (record { version = r .version; «session_id» = t .session; «serial_number» = t .serial })) [] out in
+      ap (λ (w : Writing). askedBy w Stage.askedChange r (e .out) .receiver) (serial-query-says crate (r .version) (t .session) (t .serial) out)
+      ∙ written-if (leb 12 (length out)) 12 Stage.askedChange r (e .out)
+
+  deaf-full : (r : Receiver) (stage : Stage) → listens stage ≡ false → fullQuery stage r ≡ Query.refused 20
+  deaf-full r (Stage.stopped k x) e = refl
+  deaf-full r Stage.idle e = absurd (let o : _≡_ {A = ℕ} 0 1 = cc in omega arith)
+  deaf-full r Stage.mustReset e = absurd (let o : _≡_ {A = ℕ} 0 1 = cc in omega arith)
+  deaf-full r Stage.askedFull e = absurd (let o : _≡_ {A = ℕ} 0 1 = cc in omega arith)
+  deaf-full r Stage.askedChange e = absurd (let o : _≡_ {A = ℕ} 0 1 = cc in omega arith)
+  deaf-full r (Stage.loading kind session) e = absurd (let o : _≡_ {A = ℕ} 0 1 = cc in omega arith)
+
+  deaf-change : (r : Receiver) (stage : Stage) → listens stage ≡ false → changeQuery stage r ≡ Query.refused 20
+  deaf-change r (Stage.stopped k x) e = refl
+  deaf-change r Stage.idle e = absurd (let o : _≡_ {A = ℕ} 0 1 = cc in omega arith)
+  deaf-change r Stage.mustReset e = absurd (let o : _≡_ {A = ℕ} 0 1 = cc in omega arith)
+  deaf-change r Stage.askedFull e = absurd (let o : _≡_ {A = ℕ} 0 1 = cc in omega arith)
+  deaf-change r Stage.askedChange e = absurd (let o : _≡_ {A = ℕ} 0 1 = cc in omega arith)
+  deaf-change r (Stage.loading kind session) e = absurd (let o : _≡_ {A = ℕ} 0 1 = cc in omega arith)
+
+  pub full-follows : (r : Receiver) (p : Place) (out : List ℕ) (es : List Event) → At r p → Asks r p LoadKind.Full (length out) es (ask (fullQuery (r .stage) r) r out .receiver)
+  unfolding items updates
+  full-follows r Place.idle out es (at-idle e) =
+      subst (λ (q : Query). Asks r Place.idle LoadKind.Full (length out) es (ask q r out .receiver)) (sym (ap (λ (s : Stage). fullQuery s r) e))
+      (subst (Asks r Place.idle LoadKind.Full (length out) es) (sym (full-is r out)) (go (leb 8 (length out)) refl))
+    where
+      future : Bool → Live
+      future b = tableFromOn limit (liveOf r) (updates limit (r .version) (liveOf r) (cond b (Place.asked LoadKind.Full) Place.idle) (items H (r .held) es))
+
+      go : (b : Bool) → leb 8 (length out) ≡ b → Asks r Place.idle LoadKind.Full (length out) es (cond b (inStage Stage.askedFull r) r)
+      go true q = (Place.asked LoadKind.Full, at-full refl, ap future q)
+      go false q = (Place.idle, at-idle e, ap future q)
+  full-follows r Place.mustReset out es (at-reset e) =
+      subst (λ (q : Query). Asks r Place.mustReset LoadKind.Full (length out) es (ask q r out .receiver)) (sym (ap (λ (s : Stage). fullQuery s r) e))
+      (subst (Asks r Place.mustReset LoadKind.Full (length out) es) (sym (full-is r out)) (go (leb 8 (length out)) refl))
+    where
+      future : Bool → Live
+      future b = tableFromOn limit (liveOf r) (updates limit (r .version) (liveOf r) (cond b (Place.asked LoadKind.Full) Place.mustReset) (items H (r .held) es))
+
+      go : (b : Bool) → leb 8 (length out) ≡ b → Asks r Place.mustReset LoadKind.Full (length out) es (cond b (inStage Stage.askedFull r) r)
+      go true q = (Place.asked LoadKind.Full, at-full refl, ap future q)
+      go false q = (Place.mustReset, at-reset e, ap future q)
+  full-follows r (Place.asked LoadKind.Full) out es (at-full e) =
+      subst (λ (q : Query). Asks r (Place.asked LoadKind.Full) LoadKind.Full (length out) es (ask q r out .receiver)) (sym (ap (λ (s : Stage). fullQuery s r) e)) (Place.asked LoadKind.Full, at-full e, refl)
+  full-follows r (Place.asked LoadKind.Change) out es (at-change e) =
+      subst (λ (q : Query). Asks r (Place.asked LoadKind.Change) LoadKind.Full (length out) es (ask q r out .receiver)) (sym (ap (λ (s : Stage). fullQuery s r) e)) (Place.asked LoadKind.Change, at-change e, refl)
+  full-follows r (Place.loading kind session cs) out es (at-load e w) =
+      subst (λ (q : Query). Asks r (Place.loading kind session cs) LoadKind.Full (length out) es (ask q r out .receiver)) (sym (ap (λ (s : Stage). fullQuery s r) e)) (Place.loading kind session cs, at-load e w, refl)
+  full-follows r Place.lost out es (at-lost e) =
+      subst (λ (q : Query). Asks r Place.lost LoadKind.Full (length out) es (ask q r out .receiver)) (sym (deaf-full r (r .stage) e)) (Place.lost, at-lost e, refl)
+
+  pub change-follows : (r : Receiver) (p : Place) (out : List ℕ) (es : List Event) → At r p → Asks r p LoadKind.Change (length out) es (ask (changeQuery (r .stage) r) r out .receiver)
+  unfolding items updates
+  change-follows r Place.idle out es (at-idle e) =
+      subst (λ (q : Query). Asks r Place.idle LoadKind.Change (length out) es (ask q r out .receiver)) (sym (ap (λ (s : Stage). changeQuery s r) e)) (table (r .table) refl)
+    where
+      future : Bool → Live
+      future b = tableFromOn limit (liveOf r) (updates limit (r .version) (liveOf r) (cond b (Place.asked LoadKind.Change) Place.idle) (items H (r .held) es))
+
+      go : (b : Bool) → isKnown (r .table) && leb 12 (length out) ≡ b → Asks r Place.idle LoadKind.Change (length out) es (cond b (inStage Stage.askedChange r) r)
+      go true q = (Place.asked LoadKind.Change, at-change refl, ap future q)
+      go false q = (Place.idle, at-idle e, ap future q)
+
+      table : (t : LiveTable) → r .table ≡ t → Asks r Place.idle LoadKind.Change (length out) es (ask (serialQuery t r) r out .receiver)
+      table LiveTable.NoTable q = go false (ap (λ (x : LiveTable). isKnown x && leb 12 (length out)) q)
+      table (LiveTable.Known t) q =
+          subst (Asks r Place.idle LoadKind.Change (length out) es) (sym (change-is r t out)) (go (leb 12 (length out)) (ap (λ (x : LiveTable). isKnown x && leb 12 (length out)) q))
+  change-follows r Place.mustReset out es (at-reset e) =
+      subst (λ (q : Query). Asks r Place.mustReset LoadKind.Change (length out) es (ask q r out .receiver)) (sym (ap (λ (s : Stage). changeQuery s r) e)) (Place.mustReset, at-reset e, refl)
+  change-follows r (Place.asked LoadKind.Full) out es (at-full e) =
+      subst (λ (q : Query). Asks r (Place.asked LoadKind.Full) LoadKind.Change (length out) es (ask q r out .receiver)) (sym (ap (λ (s : Stage). changeQuery s r) e)) (Place.asked LoadKind.Full, at-full e, refl)
+  change-follows r (Place.asked LoadKind.Change) out es (at-change e) =
+      subst (λ (q : Query). Asks r (Place.asked LoadKind.Change) LoadKind.Change (length out) es (ask q r out .receiver)) (sym (ap (λ (s : Stage). changeQuery s r) e)) (Place.asked LoadKind.Change, at-change e, refl)
+  change-follows r (Place.loading kind session cs) out es (at-load e w) =
+      subst (λ (q : Query). Asks r (Place.loading kind session cs) LoadKind.Change (length out) es (ask q r out .receiver)) (sym (ap (λ (s : Stage). changeQuery s r) e)) (Place.loading kind session cs, at-load e w, refl)
+  change-follows r Place.lost out es (at-lost e) =
+      subst (λ (q : Query). Asks r Place.lost LoadKind.Change (length out) es (ask q r out .receiver)) (sym (deaf-change r (r .stage) e)) (Place.lost, at-lost e, refl)
+
+  pub reconnect-follows : (r : Receiver) (p : Place) (es : List Event) → outcome r p (Event.reconnect ∷ es) ≡ outcome (reconnected r) Place.idle es
+  unfolding items updates
+  reconnect-follows r p es = refl

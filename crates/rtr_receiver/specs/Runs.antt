@@ -1,0 +1,68 @@
+-- Demand 3's other side: calls made one after another, each meeting its promise, from a fresh start (document 01, demand 3: "with the bytes cut anywhere between the
+-- same asks and reconnects"). What a call leaves of the hold past the held count is anything.
+use Prim.Native.Nat.{ℕ}
+use mathlib.Core.List.{List, [], _∷_, _++_}
+use mathlib.Core.Path.{_≡_}
+use lib.ListN.{length}
+use Rattle.rtr_models.specs.declared.RtrProtocolVersion.{RtrProtocolVersion}
+use Rattle.rtr_room.specs.Room.{records}
+use Rattle.rtr_receiver.specs.History.{Event, Live}
+use Rattle.rtr_receiver.specs.Promises.{fedSaid, feedSays, startSaid, startSays, askSaid, fullAskSays, changeAskSays, reconnectSaid, reconnectSays}
+use Rattle.rtr_receiver.specs.declared.LoadKind.{LoadKind}
+use Rattle.rtr_receiver.specs.declared.Session.{Session}
+use Rattle.rtr_receiver.specs.declared.StartAnswer.{StartAnswer}
+use Rattle.rtr_receiver.specs.declared.AskAnswer.{AskAnswer}
+use Rattle.rtr_receiver.specs.declared.Done.{Done}
+use Rattle.rtr_receiver.specs.declared.ReconnectAnswer.{ReconnectAnswer}
+
+-- a call: a piece fed, an ask with the output lent for it, a new connection
+pub data Call : Type 0 where
+  feed : List ℕ → Call
+  ask : LoadKind → List ℕ → Call
+  reconnect : Call
+
+-- the history of calls: bytes, asks with their room, reconnects; the pieces' cuts are forgotten
+abbrev pub bytes : List ℕ → List Event
+bytes [] = []
+bytes (b ∷ piece) = Event.byte b ∷ bytes piece
+
+unfoldable pub historyOf : List Call → List Event
+historyOf [] = []
+historyOf (feed piece ∷ calls) = bytes piece ++ historyOf calls
+historyOf (ask kind out ∷ calls) = Event.ask kind (length out) ∷ historyOf calls
+historyOf (reconnect ∷ calls) = Event.reconnect ∷ historyOf calls
+
+-- the session record and lent memory between two calls
+pub record Memory : Type 0 where
+  pub session : Session
+  pub live : List ℕ
+  pub working : List ℕ
+  pub hold : List ℕ
+
+-- a call that meets its promise leads from one memory to the next
+pub data Step (limit : ℕ) (m : Memory) : Call → Memory → Type 0 where
+  fed : {piece : List ℕ} (s : Session) (done : Done) (live working hold : List ℕ) →
+      length hold ≡ length (m .hold) →
+      fedSaid (record { session = s; done = done }) live working hold ≡ feedSays limit (m .session) (m .live) (m .working) (m .hold) piece →
+      Step limit m (feed piece) (record { session = s; live = live; working = working; hold = hold })
+  askedFull : {out : List ℕ} (s : Session) (answer : AskAnswer) (out′ : List ℕ) →
+      askSaid (record { session = s; answer = answer }) (m .live) (m .working) (m .hold) out′ ≡ fullAskSays limit (m .session) (m .live) (m .working) (m .hold) out →
+      Step limit m (ask LoadKind.Full out) (record { session = s; live = m .live; working = m .working; hold = m .hold })
+  askedChange : {out : List ℕ} (s : Session) (answer : AskAnswer) (out′ : List ℕ) →
+      askSaid (record { session = s; answer = answer }) (m .live) (m .working) (m .hold) out′ ≡ changeAskSays limit (m .session) (m .live) (m .working) (m .hold) out →
+      Step limit m (ask LoadKind.Change out) (record { session = s; live = m .live; working = m .working; hold = m .hold })
+  connected : (s : Session) (answer : ReconnectAnswer) (working : List ℕ) →
+      reconnectSaid (record { session = s; answer = answer }) (m .live) working (m .hold) ≡ reconnectSays limit (m .session) (m .live) (m .working) (m .hold) →
+      Step limit m reconnect (record { session = s; live = m .live; working = working; hold = m .hold })
+
+-- these calls, one after another, from a fresh start in a version with a hold of H bytes, end in this memory
+pub data Run (limit : ℕ) (version : RtrProtocolVersion) (H : ℕ) : List Call → Memory → Type 0 where
+  started : (m : Memory) (live working : List ℕ) →
+      length (m .hold) ≡ H →
+      startSaid (StartAnswer.Started (m .session)) (m .live) (m .working) (m .hold) ≡ startSays limit version live working (m .hold) →
+      Run limit version H [] m
+  next : {calls : List Call} {call : Call} {m m′ : Memory} → Run limit version H calls m → Step limit m call m′ → Run limit version H (calls ++ call ∷ []) m′
+
+-- the live table in memory: session, serial and intervals, and the records of the live room
+abbrev pub liveIn : Memory → Live
+liveIn m = record { info = m .session .table; records = records (m .session .live) (m .live) }
