@@ -238,31 +238,41 @@ module _ (limit H : ℕ) where
 
   -- an item that was followed leaves the same future
   follow-on
-      : (r r′ : Receiver) (n : Next) (is : List Item) →
+      : (r r′ : Receiver) (n : Next) →
       Follows r r′ n →
       (p′ : Place)
       × At r′ p′
-      × (tableFromOn limit (liveOf r) (orFinished limit (liveOf r) n (λ l p. updates limit (r .version) l p is)) ≡ tableFromOn limit (liveOf r′) (updates limit (r .version) (liveOf r′) p′ is))
+      × ((is : List Item) → tableFromOn limit (liveOf r) (orFinished limit (liveOf r) n (λ l p. updates limit (r .version) l p is)) ≡ tableFromOn limit (liveOf r′) (updates limit (r .version) (liveOf r′) p′ is))
   unfolding tableFromOn
-  follow-on r r′ (goes p) is (onward a e k) = (p, a, ap (λ (l : Live). tableFromOn limit l (updates limit (r .version) l p is)) (sym e))
-  follow-on r r′ (finishes u) is (done st e k) = (Place.idle, at-idle st, ap (λ (l : Live). tableFromOn limit l (updates limit (r .version) l Place.idle is)) (sym e))
+  follow-on r r′ (goes p) (onward a e k) = (p, a, λ is. ap (λ (l : Live). tableFromOn limit l (updates limit (r .version) l p is)) (sym e))
+  follow-on r r′ (finishes u) (done st e k) = (Place.idle, at-idle st, λ is. ap (λ (l : Live). tableFromOn limit l (updates limit (r .version) l Place.idle is)) (sym e))
 
   kept-of : (r r′ : Receiver) (n : Next) → Follows r r′ n → Kept r r′
   kept-of r r′ (goes p) (onward a e k) = k
   kept-of r r′ (finishes u) (done st e k) = k
 
+  -- a PDU leaves nothing held
+  pub told-drops : (pdu : RtrPdu) (r : Receiver) (p : Place) → listens (r .stage) ≡ true → At r p → onPdu limit pdu (holding [] r) .then .held ≡ []
+  told-drops pdu r p on a =
+      let here : Receiver = holding [] r in
+      go (kept-of here _ _ (pdu-follows pdu here p on (stays r here p refl refl refl a)) .1)
+    where
+      go : (onPdu limit pdu (holding [] r) .then .held ≡ []) ⊎ (onPdu limit pdu (holding [] r) .then .held ≡ []) → onPdu limit pdu (holding [] r) .then .held ≡ []
+      go (inl e) = e
+      go (inr e) = e
+
   -- a byte
   pub byte-follows
-      : (r : Receiver) (p : Place) (b k u : ℕ) (es : List Event) →
+      : (r : Receiver) (p : Place) (b k u : ℕ) →
       At r p →
       (p′ : Place)
       × At (onByte limit H (from r k u) b .receiver) p′
-      × (outcome r p (Event.byte b ∷ es) ≡ outcome (onByte limit H (from r k u) b .receiver) p′ es)
+      × ((es : List Event) → outcome r p (Event.byte b ∷ es) ≡ outcome (onByte limit H (from r k u) b .receiver) p′ es)
   unfolding onByte items updates
-  byte-follows r p b k u es a = go (listens (r .stage)) refl
+  byte-follows r p b k u a = go (listens (r .stage)) refl
     where
       Goal : Receiver → Type 0
-      Goal r′ = (p′ : Place) × At r′ p′ × (outcome r p (Event.byte b ∷ es) ≡ outcome r′ p′ es)
+      Goal r′ = (p′ : Place) × At r′ p′ × ((es : List Event) → outcome r p (Event.byte b ∷ es) ≡ outcome r′ p′ es)
 
       s : List ℕ
       s = r .held ++ b ∷ []
@@ -278,12 +288,13 @@ module _ (limit H : ℕ) where
           let f = pdu-follows pdu here p on (stays r here p refl refl refl a) in
           let n : Next = onItem limit (r .version) (liveOf r) p (Item.told pdu) in
           let k = kept-of here there n f in
-          let g = follow-on here there n (items H [] es) f in
+          let g = follow-on here there n f in
           let none : there .held ≡ [] = nothing there (k .1) in (
             g .0,
             g .1,
-            ap (λ (h : Heard). tableFromOn limit (liveOf r) (updates limit (r .version) (liveOf r) p (itemsBy s h (λ held. items H held es)))) j
-                ∙ g .2
+            λ es.
+                ap (λ (h : Heard). tableFromOn limit (liveOf r) (updates limit (r .version) (liveOf r) p (itemsBy s h (λ held. items H held es)))) j
+                ∙ g .2 (items H [] es)
                 ∙ ap (λ (v : RtrProtocolVersion). tableFromOn limit (liveOf there) (updates limit v (liveOf there) (g .0) (items H [] es))) (sym (k .0))
                 ∙ ap (λ (x : List ℕ). tableFromOn limit (liveOf there) (updates limit (there .version) (liveOf there) (g .0) (items H x es))) (sym none),
           )
@@ -292,13 +303,13 @@ module _ (limit H : ℕ) where
       by Heard.waits on j = (
         p,
         stays r (holding s r) p refl refl refl a,
-        ap (λ (h : Heard). tableFromOn limit (liveOf r) (updates limit (r .version) (liveOf r) p (itemsBy s h (λ held. items H held es)))) j,
+        λ es. ap (λ (h : Heard). tableFromOn limit (liveOf r) (updates limit (r .version) (liveOf r) p (itemsBy s h (λ held. items H held es)))) j,
       )
       by (Heard.whole pdu) on j = told pdu on j
       by (Heard.refused number values) on j = (
         Place.lost,
         at-lost refl,
-        ap (λ (h : Heard). tableFromOn limit (liveOf r) (updates limit (r .version) (liveOf r) p (itemsBy s h (λ held. items H held es)))) j,
+        λ es. ap (λ (h : Heard). tableFromOn limit (liveOf r) (updates limit (r .version) (liveOf r) p (itemsBy s h (λ held. items H held es)))) j,
       )
 
       go : (t : Bool) → listens (r .stage) ≡ t → Goal (cond t (heard limit (k + 1) u r s (judge crate H s)) (from r k u) .receiver)
@@ -306,31 +317,31 @@ module _ (limit H : ℕ) where
       go false e = (
         p,
         a,
-        ap (λ (us : List Update). tableFromOn limit (liveOf r) us)
+        λ es. ap (λ (us : List Update). tableFromOn limit (liveOf r) us)
             (subst (λ (q : Place). updates limit (r .version) (liveOf r) q (items H (r .held) (Event.byte b ∷ es)) ≡ updates limit (r .version) (liveOf r) q (items H (r .held) es))
             (sym (deaf-lost r p e a)) (lost-byte (r .version) (liveOf r) (r .held) b es)),
       )
 
   -- a piece
   pub piece-follows
-      : (piece : List ℕ) (r : Receiver) (p : Place) (k u : ℕ) (es : List Event) →
+      : (piece : List ℕ) (r : Receiver) (p : Place) (k u : ℕ) →
       At r p →
       (p′ : Place)
       × At (onPiece limit H (from r k u) piece .receiver) p′
-      × (outcome r p (bytes piece ++ es) ≡ outcome (onPiece limit H (from r k u) piece .receiver) p′ es)
+      × ((es : List Event) → outcome r p (bytes piece ++ es) ≡ outcome (onPiece limit H (from r k u) piece .receiver) p′ es)
   unfolding onPiece
-  piece-follows [] r p k u es a = (p, a, refl)
-  piece-follows (b ∷ piece) r p k u es a =
+  piece-follows [] r p k u a = (p, a, λ es. refl)
+  piece-follows (b ∷ piece) r p k u a =
       let f = onByte limit H (from r k u) b in
-      let one = byte-follows r p b k u (bytes piece ++ es) a in
-      let rest = piece-follows piece (f .receiver) (one .0) (f .taken) (f .updates) es (one .1) in
-      (rest .0, rest .1, one .2 ∙ rest .2)
+      let one = byte-follows r p b k u a in
+      let rest = piece-follows piece (f .receiver) (one .0) (f .taken) (f .updates) (one .1) in
+      (rest .0, rest .1, λ es. one .2 (bytes piece ++ es) ∙ rest .2 es)
 
   -- ---- Asks and reconnects
 
   -- what an ask makes of the future
-  abbrev Asks : Receiver → Place → LoadKind → ℕ → List Event → Receiver → Type 0
-  Asks r p kind room es r′ = (p′ : Place) × At r′ p′ × (outcome r p (Event.ask kind room ∷ es) ≡ outcome r′ p′ es)
+  abbrev pub Asks : Receiver → Place → LoadKind → ℕ → Receiver → Type 0
+  Asks r p kind room r′ = (p′ : Place) × At r′ p′ × ((es : List Event) → outcome r p (Event.ask kind room ∷ es) ≡ outcome r′ p′ es)
 
   -- a query is written where there is room for it
   written-if : (b : Bool) (n : ℕ) (stage : Stage) (r : Receiver) (out : List ℕ) → askedBy (cond b (Writing.written n) (Writing.refused 9 (n ∷ []))) stage r out .receiver ≡ cond b (inStage stage r) r
@@ -365,63 +376,63 @@ module _ (limit H : ℕ) where
   deaf-change r Stage.askedChange e = absurd (let o : _≡_ {A = ℕ} 0 1 = cc in omega arith)
   deaf-change r (Stage.loading kind session) e = absurd (let o : _≡_ {A = ℕ} 0 1 = cc in omega arith)
 
-  pub full-follows : (r : Receiver) (p : Place) (out : List ℕ) (es : List Event) → At r p → Asks r p LoadKind.Full (length out) es (ask (fullQuery (r .stage) r) r out .receiver)
+  pub full-follows : (r : Receiver) (p : Place) (out : List ℕ) → At r p → Asks r p LoadKind.Full (length out) (ask (fullQuery (r .stage) r) r out .receiver)
   unfolding items updates
-  full-follows r Place.idle out es (at-idle e) =
-      subst (λ (q : Query). Asks r Place.idle LoadKind.Full (length out) es (ask q r out .receiver)) (sym (ap (λ (s : Stage). fullQuery s r) e))
-      (subst (Asks r Place.idle LoadKind.Full (length out) es) (sym (full-is r out)) (go (leb 8 (length out)) refl))
+  full-follows r Place.idle out (at-idle e) =
+      subst (λ (q : Query). Asks r Place.idle LoadKind.Full (length out) (ask q r out .receiver)) (sym (ap (λ (s : Stage). fullQuery s r) e))
+      (subst (Asks r Place.idle LoadKind.Full (length out)) (sym (full-is r out)) (go (leb 8 (length out)) refl))
     where
-      future : Bool → Live
-      future b = tableFromOn limit (liveOf r) (updates limit (r .version) (liveOf r) (cond b (Place.asked LoadKind.Full) Place.idle) (items H (r .held) es))
+      future : List Event → Bool → Live
+      future es b = tableFromOn limit (liveOf r) (updates limit (r .version) (liveOf r) (cond b (Place.asked LoadKind.Full) Place.idle) (items H (r .held) es))
 
-      go : (b : Bool) → leb 8 (length out) ≡ b → Asks r Place.idle LoadKind.Full (length out) es (cond b (inStage Stage.askedFull r) r)
-      go true q = (Place.asked LoadKind.Full, at-full refl, ap future q)
-      go false q = (Place.idle, at-idle e, ap future q)
-  full-follows r Place.mustReset out es (at-reset e) =
-      subst (λ (q : Query). Asks r Place.mustReset LoadKind.Full (length out) es (ask q r out .receiver)) (sym (ap (λ (s : Stage). fullQuery s r) e))
-      (subst (Asks r Place.mustReset LoadKind.Full (length out) es) (sym (full-is r out)) (go (leb 8 (length out)) refl))
+      go : (b : Bool) → leb 8 (length out) ≡ b → Asks r Place.idle LoadKind.Full (length out) (cond b (inStage Stage.askedFull r) r)
+      go true q = (Place.asked LoadKind.Full, at-full refl, λ es. ap (future es) q)
+      go false q = (Place.idle, at-idle e, λ es. ap (future es) q)
+  full-follows r Place.mustReset out (at-reset e) =
+      subst (λ (q : Query). Asks r Place.mustReset LoadKind.Full (length out) (ask q r out .receiver)) (sym (ap (λ (s : Stage). fullQuery s r) e))
+      (subst (Asks r Place.mustReset LoadKind.Full (length out)) (sym (full-is r out)) (go (leb 8 (length out)) refl))
     where
-      future : Bool → Live
-      future b = tableFromOn limit (liveOf r) (updates limit (r .version) (liveOf r) (cond b (Place.asked LoadKind.Full) Place.mustReset) (items H (r .held) es))
+      future : List Event → Bool → Live
+      future es b = tableFromOn limit (liveOf r) (updates limit (r .version) (liveOf r) (cond b (Place.asked LoadKind.Full) Place.mustReset) (items H (r .held) es))
 
-      go : (b : Bool) → leb 8 (length out) ≡ b → Asks r Place.mustReset LoadKind.Full (length out) es (cond b (inStage Stage.askedFull r) r)
-      go true q = (Place.asked LoadKind.Full, at-full refl, ap future q)
-      go false q = (Place.mustReset, at-reset e, ap future q)
-  full-follows r (Place.asked LoadKind.Full) out es (at-full e) =
-      subst (λ (q : Query). Asks r (Place.asked LoadKind.Full) LoadKind.Full (length out) es (ask q r out .receiver)) (sym (ap (λ (s : Stage). fullQuery s r) e)) (Place.asked LoadKind.Full, at-full e, refl)
-  full-follows r (Place.asked LoadKind.Change) out es (at-change e) =
-      subst (λ (q : Query). Asks r (Place.asked LoadKind.Change) LoadKind.Full (length out) es (ask q r out .receiver)) (sym (ap (λ (s : Stage). fullQuery s r) e)) (Place.asked LoadKind.Change, at-change e, refl)
-  full-follows r (Place.loading kind session cs) out es (at-load e w) =
-      subst (λ (q : Query). Asks r (Place.loading kind session cs) LoadKind.Full (length out) es (ask q r out .receiver)) (sym (ap (λ (s : Stage). fullQuery s r) e)) (Place.loading kind session cs, at-load e w, refl)
-  full-follows r Place.lost out es (at-lost e) =
-      subst (λ (q : Query). Asks r Place.lost LoadKind.Full (length out) es (ask q r out .receiver)) (sym (deaf-full r (r .stage) e)) (Place.lost, at-lost e, refl)
+      go : (b : Bool) → leb 8 (length out) ≡ b → Asks r Place.mustReset LoadKind.Full (length out) (cond b (inStage Stage.askedFull r) r)
+      go true q = (Place.asked LoadKind.Full, at-full refl, λ es. ap (future es) q)
+      go false q = (Place.mustReset, at-reset e, λ es. ap (future es) q)
+  full-follows r (Place.asked LoadKind.Full) out (at-full e) =
+      subst (λ (q : Query). Asks r (Place.asked LoadKind.Full) LoadKind.Full (length out) (ask q r out .receiver)) (sym (ap (λ (s : Stage). fullQuery s r) e)) (Place.asked LoadKind.Full, at-full e, λ es. refl)
+  full-follows r (Place.asked LoadKind.Change) out (at-change e) =
+      subst (λ (q : Query). Asks r (Place.asked LoadKind.Change) LoadKind.Full (length out) (ask q r out .receiver)) (sym (ap (λ (s : Stage). fullQuery s r) e)) (Place.asked LoadKind.Change, at-change e, λ es. refl)
+  full-follows r (Place.loading kind session cs) out (at-load e w) =
+      subst (λ (q : Query). Asks r (Place.loading kind session cs) LoadKind.Full (length out) (ask q r out .receiver)) (sym (ap (λ (s : Stage). fullQuery s r) e)) (Place.loading kind session cs, at-load e w, λ es. refl)
+  full-follows r Place.lost out (at-lost e) =
+      subst (λ (q : Query). Asks r Place.lost LoadKind.Full (length out) (ask q r out .receiver)) (sym (deaf-full r (r .stage) e)) (Place.lost, at-lost e, λ es. refl)
 
-  pub change-follows : (r : Receiver) (p : Place) (out : List ℕ) (es : List Event) → At r p → Asks r p LoadKind.Change (length out) es (ask (changeQuery (r .stage) r) r out .receiver)
+  pub change-follows : (r : Receiver) (p : Place) (out : List ℕ) → At r p → Asks r p LoadKind.Change (length out) (ask (changeQuery (r .stage) r) r out .receiver)
   unfolding items updates
-  change-follows r Place.idle out es (at-idle e) =
-      subst (λ (q : Query). Asks r Place.idle LoadKind.Change (length out) es (ask q r out .receiver)) (sym (ap (λ (s : Stage). changeQuery s r) e)) (table (r .table) refl)
+  change-follows r Place.idle out (at-idle e) =
+      subst (λ (q : Query). Asks r Place.idle LoadKind.Change (length out) (ask q r out .receiver)) (sym (ap (λ (s : Stage). changeQuery s r) e)) (table (r .table) refl)
     where
-      future : Bool → Live
-      future b = tableFromOn limit (liveOf r) (updates limit (r .version) (liveOf r) (cond b (Place.asked LoadKind.Change) Place.idle) (items H (r .held) es))
+      future : List Event → Bool → Live
+      future es b = tableFromOn limit (liveOf r) (updates limit (r .version) (liveOf r) (cond b (Place.asked LoadKind.Change) Place.idle) (items H (r .held) es))
 
-      go : (b : Bool) → isKnown (r .table) && leb 12 (length out) ≡ b → Asks r Place.idle LoadKind.Change (length out) es (cond b (inStage Stage.askedChange r) r)
-      go true q = (Place.asked LoadKind.Change, at-change refl, ap future q)
-      go false q = (Place.idle, at-idle e, ap future q)
+      go : (b : Bool) → isKnown (r .table) && leb 12 (length out) ≡ b → Asks r Place.idle LoadKind.Change (length out) (cond b (inStage Stage.askedChange r) r)
+      go true q = (Place.asked LoadKind.Change, at-change refl, λ es. ap (future es) q)
+      go false q = (Place.idle, at-idle e, λ es. ap (future es) q)
 
-      table : (t : LiveTable) → r .table ≡ t → Asks r Place.idle LoadKind.Change (length out) es (ask (serialQuery t r) r out .receiver)
+      table : (t : LiveTable) → r .table ≡ t → Asks r Place.idle LoadKind.Change (length out) (ask (serialQuery t r) r out .receiver)
       table LiveTable.NoTable q = go false (ap (λ (x : LiveTable). isKnown x && leb 12 (length out)) q)
       table (LiveTable.Known t) q =
-          subst (Asks r Place.idle LoadKind.Change (length out) es) (sym (change-is r t out)) (go (leb 12 (length out)) (ap (λ (x : LiveTable). isKnown x && leb 12 (length out)) q))
-  change-follows r Place.mustReset out es (at-reset e) =
-      subst (λ (q : Query). Asks r Place.mustReset LoadKind.Change (length out) es (ask q r out .receiver)) (sym (ap (λ (s : Stage). changeQuery s r) e)) (Place.mustReset, at-reset e, refl)
-  change-follows r (Place.asked LoadKind.Full) out es (at-full e) =
-      subst (λ (q : Query). Asks r (Place.asked LoadKind.Full) LoadKind.Change (length out) es (ask q r out .receiver)) (sym (ap (λ (s : Stage). changeQuery s r) e)) (Place.asked LoadKind.Full, at-full e, refl)
-  change-follows r (Place.asked LoadKind.Change) out es (at-change e) =
-      subst (λ (q : Query). Asks r (Place.asked LoadKind.Change) LoadKind.Change (length out) es (ask q r out .receiver)) (sym (ap (λ (s : Stage). changeQuery s r) e)) (Place.asked LoadKind.Change, at-change e, refl)
-  change-follows r (Place.loading kind session cs) out es (at-load e w) =
-      subst (λ (q : Query). Asks r (Place.loading kind session cs) LoadKind.Change (length out) es (ask q r out .receiver)) (sym (ap (λ (s : Stage). changeQuery s r) e)) (Place.loading kind session cs, at-load e w, refl)
-  change-follows r Place.lost out es (at-lost e) =
-      subst (λ (q : Query). Asks r Place.lost LoadKind.Change (length out) es (ask q r out .receiver)) (sym (deaf-change r (r .stage) e)) (Place.lost, at-lost e, refl)
+          subst (Asks r Place.idle LoadKind.Change (length out)) (sym (change-is r t out)) (go (leb 12 (length out)) (ap (λ (x : LiveTable). isKnown x && leb 12 (length out)) q))
+  change-follows r Place.mustReset out (at-reset e) =
+      subst (λ (q : Query). Asks r Place.mustReset LoadKind.Change (length out) (ask q r out .receiver)) (sym (ap (λ (s : Stage). changeQuery s r) e)) (Place.mustReset, at-reset e, λ es. refl)
+  change-follows r (Place.asked LoadKind.Full) out (at-full e) =
+      subst (λ (q : Query). Asks r (Place.asked LoadKind.Full) LoadKind.Change (length out) (ask q r out .receiver)) (sym (ap (λ (s : Stage). changeQuery s r) e)) (Place.asked LoadKind.Full, at-full e, λ es. refl)
+  change-follows r (Place.asked LoadKind.Change) out (at-change e) =
+      subst (λ (q : Query). Asks r (Place.asked LoadKind.Change) LoadKind.Change (length out) (ask q r out .receiver)) (sym (ap (λ (s : Stage). changeQuery s r) e)) (Place.asked LoadKind.Change, at-change e, λ es. refl)
+  change-follows r (Place.loading kind session cs) out (at-load e w) =
+      subst (λ (q : Query). Asks r (Place.loading kind session cs) LoadKind.Change (length out) (ask q r out .receiver)) (sym (ap (λ (s : Stage). changeQuery s r) e)) (Place.loading kind session cs, at-load e w, λ es. refl)
+  change-follows r Place.lost out (at-lost e) =
+      subst (λ (q : Query). Asks r Place.lost LoadKind.Change (length out) (ask q r out .receiver)) (sym (deaf-change r (r .stage) e)) (Place.lost, at-lost e, λ es. refl)
 
   pub reconnect-follows : (r : Receiver) (p : Place) (es : List Event) → outcome r p (Event.reconnect ∷ es) ≡ outcome (reconnected r) Place.idle es
   unfolding items updates

@@ -9,3 +9,4 @@ mod Good
 mod Steps
 mod Stepping
 pub mod Histories
+pub mod Runs

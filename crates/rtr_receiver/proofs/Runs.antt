@@ -1,0 +1,400 @@
+-- Demand 3. Along a run memory keeps receiver shape, stands for a receiver that goes the history's way, and so holds the table that the updates make which
+-- finished in that history (`history`); cuts change nothing (`cut-anywhere`), and there is no table exactly where none has finished (`no-table`). Assumes nothing.
+use Prim.Native.Nat.{ℕ, _+_, _*_, _≤_}
+use mathlib.Core.Bool.{Bool, true, false, cond, _&&_}
+use mathlib.Core.List.{List, [], _∷_, _++_, append-assoc, append-nil}
+use mathlib.Core.Logic.{_⊎_, inl, inr, _↔_}
+use mathlib.Core.Path.{_≡_, refl, sym, ap, _∙_, subst}
+use native.Mathlib.Omega.{arith}
+use borrow.Author.Tests.{leb-true, eqb-true}
+use lib.Dec.{eqb, leb}
+use lib.ListN.{length, take}
+use Rattle.rtr_models.specs.declared.RtrProtocolVersion.{RtrProtocolVersion}
+use Rattle.rtr_models.specs.declared.RtrPdu.{RtrPdu}
+use Rattle.rtr_models.specs.declared.RtrPdu.the-variants.{ResetQuery, SerialQuery}
+use Rattle.rtr_codec.specs.Reading.{crate}
+use Rattle.rtr_codec.proofs.Rules.{LengthsInRule, accepted-in-rule}
+use Rattle.rtr_encode.specs.Encode.{Writing, encode}
+use Rattle.rtr_stream.specs.Stream.{Heard, judge}
+use Rattle.rtr_stream.specs.Search.{isStream}
+use Rattle.rtr_stream.proofs.Laws.{nothing-waits, whole-is-read, stream-has, stream-exactly, waits-fits}
+use Rattle.rtr_room.proofs.Laws.{empty-table}
+use Rattle.rtr_receiver.specs.Receiver.{Stage, Receiver, Feed, Query, Asked, fresh, holding, inStage, stop, heard, listens, onPdu, onByte, onPiece, feed, fullQuery, changeQuery, resetQuery, serialQuery, askedBy, ask, reconnected}
+use Rattle.rtr_receiver.specs.History.{Event, Update, Live, Place, Item, noTable, tableFromOn, tableOf, updated, items, updates, finished}
+use Rattle.rtr_receiver.specs.Promises.{Left, FeedSays, StartSays, AskSays, ReconnectSays, receiverOf, isReceiver, leaves, inMemory, fedTo, feedSays, fedSaid, fedSaidBy, startSays, startSaid, askedTo, askSays, fullAskSays, changeAskSays, askSaid, reconnectSays, reconnectSaid, hasTable}
+use Rattle.rtr_receiver.specs.Runs.{Call, Memory, Step, Run, bytes, historyOf, liveIn}
+use Rattle.rtr_receiver.specs.declared.LoadKind.{LoadKind}
+use Rattle.rtr_receiver.specs.declared.Table.{Table}
+use Rattle.rtr_receiver.specs.declared.LiveTable.{LiveTable}
+use Rattle.rtr_receiver.specs.declared.Done.{Done}
+use Rattle.rtr_receiver.specs.declared.FeedAnswer.{FeedAnswer}
+use Rattle.rtr_receiver.specs.declared.Session.{Session}
+use Rattle.rtr_receiver.specs.declared.StartAnswer.{StartAnswer}
+use Rattle.rtr_receiver.proofs.Feeds.{from}
+use Rattle.rtr_receiver.proofs.Good.{Good, fresh-good, stop-good, pdu-good, changeIn, loadingIn, stoppedIn}
+use Rattle.rtr_receiver.proofs.Steps.{Shape, shape-of, shape-is, good-of, shape-of-good, stands-for}
+use Rattle.rtr_receiver.proofs.Histories.{At, liveOf, outcome, told-drops, byte-follows, piece-follows, full-follows, change-follows, reconnect-follows}
+
+module _ (limit H : ℕ) where
+  -- ---- every call keeps the shape
+
+  -- a receiver that is in shape, and what it holds waits
+  pub record Sound (r : Receiver) : Type 0 where
+    pub good : Good limit r
+    pub waits : judge crate H (r .held) ≡ Heard.waits
+
+  holding-sound : (r : Receiver) (s : List ℕ) → listens (r .stage) ≡ true → judge crate H s ≡ Heard.waits → Good limit r → Sound (holding s r)
+  holding-sound r s on w g =
+      record {
+        good =
+            record {
+              live = g .live;
+              live-fits = g .live-fits;
+              working = g .working;
+              working-fits = g .working-fits;
+              tabled = g .tabled;
+              emptied = g .emptied;
+              quiet = inl (calm (r .stage) on);
+            };
+        waits = w;
+      }
+    where
+      calm : (s : Stage) → listens s ≡ true → stoppedIn s ≡ false
+      calm Stage.idle e = refl
+      calm Stage.mustReset e = refl
+      calm Stage.askedFull e = refl
+      calm Stage.askedChange e = refl
+      calm (Stage.loading kind session) e = refl
+      calm (Stage.stopped k x) e = absurd (let z : _≡_ {A = ℕ} 0 1 = cc in omega arith)
+
+  byte-sound : (f : Feed) (p : Place) (b : ℕ) → At limit H (f .receiver) p → Sound (f .receiver) → Sound (onByte limit H f b .receiver)
+  unfolding onByte
+  byte-sound f p b a sound = go (listens (f .receiver .stage)) refl
+    where
+      by : (h : Heard) → listens (f .receiver .stage) ≡ true → judge crate H (f .receiver .held ++ b ∷ []) ≡ h → Sound (heard limit (f .taken + 1) (f .updates) (f .receiver) (f .receiver .held ++ b ∷ []) h .receiver)
+      by Heard.waits on j = holding-sound (f .receiver) (f .receiver .held ++ b ∷ []) on j (sound .good)
+      by (Heard.whole pdu) on j =
+          let g : Good limit (f .receiver) = sound .good in
+          let wholly = whole-is-read crate H (f .receiver .held ++ b ∷ []) pdu j in
+          let rule : LengthsInRule pdu = accepted-in-rule crate (f .receiver .held ++ b ∷ []) pdu (wholly .0) (wholly .1) in
+          record {
+            good =
+                pdu-good limit pdu (holding [] (f .receiver))
+                (record {
+                  live = g .live;
+                  live-fits = g .live-fits;
+                  working = g .working;
+                  working-fits = g .working-fits;
+                  tabled = g .tabled;
+                  emptied = g .emptied;
+                  quiet = inr refl;
+                })
+                rule .0;
+            waits = ap (judge crate H) (told-drops limit H pdu (f .receiver) p on a) ∙ nothing-waits crate H;
+          }
+      by (Heard.refused number values) on j = record { good = stop-good limit number values (f .receiver) (sound .good); waits = nothing-waits crate H }
+
+      go : (t : Bool) → listens (f .receiver .stage) ≡ t → Sound (cond t (heard limit (f .taken + 1) (f .updates) (f .receiver) (f .receiver .held ++ b ∷ []) (judge crate H (f .receiver .held ++ b ∷ []))) f .receiver)
+      go true e = by (judge crate H (f .receiver .held ++ b ∷ [])) e refl
+      go false e = sound
+
+  pub piece-sound : (piece : List ℕ) (f : Feed) (p : Place) → At limit H (f .receiver) p → Sound (f .receiver) → Sound (onPiece limit H f piece .receiver)
+  unfolding onPiece
+  piece-sound [] f p a sound = sound
+  piece-sound (b ∷ piece) f p a sound =
+      let one = byte-follows limit H (f .receiver) p b (f .taken) (f .updates) a in
+      piece-sound piece (onByte limit H f b) (one .0) (one .1) (byte-sound f p b a sound)
+
+  -- another phase that is no load, no change and no stop
+  asked-sound : (r : Receiver) (stage : Stage) → Sound r → loadingIn (r .stage) ≡ false → ((hasTable (r .table) ≡ true) ⊎ (changeIn stage ≡ false)) → stoppedIn stage ≡ false → Sound (inStage stage r)
+  asked-sound r stage sound l c t =
+      let g : Good limit r = sound .good in
+      record {
+        good =
+            record {
+              live = g .live;
+              live-fits = g .live-fits;
+              working = g .working;
+              working-fits = g .working-fits;
+              tabled = tabled c (g .tabled);
+              emptied = inr (emptied (g .emptied));
+              quiet = inl t;
+            };
+        waits = sound .waits;
+      }
+    where
+      tabled : (hasTable (r .table) ≡ true) ⊎ (changeIn stage ≡ false) →
+          (hasTable (r .table) ≡ true) ⊎ ((r .live ≡ []) × (changeIn (r .stage) ≡ false)) →
+          (hasTable (r .table) ≡ true) ⊎ ((r .live ≡ []) × (changeIn stage ≡ false))
+      tabled (inl h) g = inl h
+      tabled (inr n) (inl h) = inl h
+      tabled (inr n) (inr h) = inr (h .0, n)
+
+      emptied : (loadingIn (r .stage) ≡ true) ⊎ (r .working ≡ []) → r .working ≡ []
+      emptied (inl e) = absurd (let z : true ≡ false = sym e ∙ l in let o : _≡_ {A = ℕ} 0 1 = cc in omega arith)
+      emptied (inr e) = e
+
+  by-writing : (w : Writing) (stage : Stage) (r : Receiver) (out : List ℕ) → Sound r → Sound (inStage stage r) → Sound (askedBy w stage r out .receiver)
+  by-writing (Writing.written n) stage r out sound then = then
+  by-writing (Writing.refused number values) stage r out sound then = sound
+
+  pub full-sound : (r : Receiver) (out : List ℕ) → Sound r → (stage : Stage) → r .stage ≡ stage → Sound (ask (fullQuery stage r) r out .receiver)
+  full-sound r out sound Stage.idle e = let w = encode crate (ResetQuery (record { version = r .version })) [] out in by-writing (w .says) Stage.askedFull r (w .out) sound (asked-sound r Stage.askedFull sound (ap loadingIn e) (inr refl) refl)
+  full-sound r out sound Stage.mustReset e = let w = encode crate (ResetQuery (record { version = r .version })) [] out in by-writing (w .says) Stage.askedFull r (w .out) sound (asked-sound r Stage.askedFull sound (ap loadingIn e) (inr refl) refl)
+  full-sound r out sound Stage.askedFull e = sound
+  full-sound r out sound Stage.askedChange e = sound
+  full-sound r out sound (Stage.loading kind session) e = sound
+  full-sound r out sound (Stage.stopped k x) e = sound
+
+  pub change-sound : (r : Receiver) (out : List ℕ) → Sound r → (stage : Stage) → r .stage ≡ stage → Sound (ask (changeQuery stage r) r out .receiver)
+  change-sound r out sound Stage.idle e = table (r .table) refl
+    where
+      table : (t : LiveTable) → r .table ≡ t → Sound (ask (serialQuery t r) r out .receiver)
+      table LiveTable.NoTable q = sound
+      table (LiveTable.Known t) q = let w = encode crate (SerialQuery (record { version = r .version; «session_id» = t .session; «serial_number» = t .serial })) [] out in by-writing (w .says) Stage.askedChange r (w .out) sound (asked-sound r Stage.askedChange sound (ap loadingIn e) (inl (ap hasTable q)) refl)
+  change-sound r out sound Stage.mustReset e = sound
+  change-sound r out sound Stage.askedFull e = sound
+  change-sound r out sound Stage.askedChange e = sound
+  change-sound r out sound (Stage.loading kind session) e = sound
+  change-sound r out sound (Stage.stopped k x) e = sound
+
+  pub reconnect-sound : (r : Receiver) → Sound r → Sound (reconnected r)
+  reconnect-sound r sound =
+      let g : Good limit r = sound .good in
+      record {
+        good =
+            record {
+              live = g .live;
+              live-fits = g .live-fits;
+              working = empty-table;
+              working-fits = omega arith;
+              tabled = tabled (g .tabled);
+              emptied = inr refl;
+              quiet = inl refl;
+            };
+        waits = nothing-waits crate H;
+      }
+    where
+      tabled : (hasTable (r .table) ≡ true) ⊎ ((r .live ≡ []) × (changeIn (r .stage) ≡ false)) → (hasTable (r .table) ≡ true) ⊎ ((r .live ≡ []) × (changeIn Stage.idle ≡ false))
+      tabled (inl h) = inl h
+      tabled (inr h) = inr (h .0, refl)
+
+  -- ---- memory along a run
+
+  -- memory stands for a sound receiver at a place
+  pub record Stands (m : Memory) (r : Receiver) : Type 0 where
+    pub size : length (m .hold) ≡ H
+    pub least : 8 ≤ H
+    pub left : leaves (m .session) (m .live) (m .working) (m .hold) ≡ inMemory limit r
+    pub sound : Sound r
+
+  -- so it has receiver shape
+  pub in-shape : {m : Memory} {r : Receiver} → Stands m r → isReceiver limit (m .session) (m .live) (m .working) (m .hold) ≡ true
+  in-shape {m} {r} s =
+      let fits = waits-fits crate H (r .held) (s .least) (s .sound .waits) in
+      let count : m .session .held ≡ length (r .held) = ap (λ (x : Left). x .heldCount) (s .left) in
+      let held : take (m .session .held) (m .hold) ≡ r .held = ap (λ (x : Left). x .held) (s .left) in
+      shape-is limit (m .session) (m .live) (m .working) (m .hold)
+      (shape-of-good limit (m .session) (m .live) (m .working) (m .hold) r (s .sound .good) (s .left)
+      (stream-exactly (m .hold) (m .session .held) (omega (arith, s .size, s .least)) (omega (arith, s .size))
+      (ap (judge crate (length (m .hold))) held ∙ ap (λ (h : ℕ). judge crate h (r .held)) (s .size) ∙ s .sound .waits)))
+
+  -- what a call says where memory has receiver shape
+  fed-left : (done : Done) (l : Left) (hold : List ℕ) (f : Feed) → fedSaidBy (done .answer) (done .taken) (done .updates) l hold ≡ fedTo limit f → l ≡ inMemory limit (f .receiver)
+  fed-left done l hold f e = go (done .answer) e
+    where
+      go : (a : FeedAnswer) → fedSaidBy a (done .taken) (done .updates) l hold ≡ fedTo limit f → l ≡ inMemory limit (f .receiver)
+      go FeedAnswer.GoesOn q = cc
+      go (FeedAnswer.Stopped why) q = cc
+      go FeedAnswer.NotAReceiver q = absurd (let z : _≡_ {A = ℕ} 0 1 = cc in omega arith)
+
+  feed-said : (m : Memory) (piece : List ℕ) → isReceiver limit (m .session) (m .live) (m .working) (m .hold) ≡ true → feedSays limit (m .session) (m .live) (m .working) (m .hold) piece ≡ fedTo limit (feed limit (length (m .hold)) (receiverOf (m .session) (m .live) (m .working) (m .hold)) piece)
+  unfolding feedSays
+  feed-said m piece e = simp e
+
+  full-said : (m : Memory) (out : List ℕ) → isReceiver limit (m .session) (m .live) (m .working) (m .hold) ≡ true → fullAskSays limit (m .session) (m .live) (m .working) (m .hold) out ≡ askedTo limit (ask (fullQuery (receiverOf (m .session) (m .live) (m .working) (m .hold) .stage) (receiverOf (m .session) (m .live) (m .working) (m .hold))) (receiverOf (m .session) (m .live) (m .working) (m .hold)) out)
+  unfolding fullAskSays
+  full-said m out e = simp e
+
+  change-said : (m : Memory) (out : List ℕ) → isReceiver limit (m .session) (m .live) (m .working) (m .hold) ≡ true → changeAskSays limit (m .session) (m .live) (m .working) (m .hold) out ≡ askedTo limit (ask (changeQuery (receiverOf (m .session) (m .live) (m .working) (m .hold) .stage) (receiverOf (m .session) (m .live) (m .working) (m .hold))) (receiverOf (m .session) (m .live) (m .working) (m .hold)) out)
+  unfolding changeAskSays
+  change-said m out e = simp e
+
+  reconnect-said : (m : Memory) → isReceiver limit (m .session) (m .live) (m .working) (m .hold) ≡ true → reconnectSays limit (m .session) (m .live) (m .working) (m .hold) ≡ record { number = 0; left = inMemory limit (reconnected (receiverOf (m .session) (m .live) (m .working) (m .hold))) }
+  unfolding reconnectSays
+  reconnect-said m e = simp e
+
+  -- a run so far: memory stands for a receiver at a place, and whatever comes makes of the history what it makes of the receiver
+  pub record Along (v : RtrProtocolVersion) (calls : List Call) (m : Memory) : Type 0 where
+    pub receiver : Receiver
+    pub place : Place
+    pub stands : Stands m receiver
+    pub at : At limit H receiver place
+    pub to-come : (es : List Event) → tableOf limit (finished limit H v (historyOf calls ++ es)) ≡ outcome limit H receiver place es
+
+  -- the receiver that memory stands for
+  is-receiver : {m : Memory} {r : Receiver} → Stands m r → receiverOf (m .session) (m .live) (m .working) (m .hold) ≡ r
+  is-receiver {m} {r} s = stands-for limit (m .session) (m .live) (m .working) (m .hold) r (s .left)
+
+  history-snoc : (calls : List Call) (call : Call) (es : List Event) → historyOf (calls ++ call ∷ []) ++ es ≡ historyOf calls ++ (historyOf (call ∷ []) ++ es)
+  unfolding historyOf
+  history-snoc [] call es = refl
+  history-snoc (Call.feed piece ∷ calls) call es =
+      append-assoc (bytes piece) (historyOf (calls ++ call ∷ [])) es ∙ ap (λ (x : List Event). bytes piece ++ x) (history-snoc calls call es) ∙ sym (append-assoc (bytes piece) (historyOf calls) (historyOf (call ∷ []) ++ es))
+  history-snoc (Call.ask kind out ∷ calls) call es = ap (λ (x : List Event). Event.ask kind (length out) ∷ x) (history-snoc calls call es)
+  history-snoc (Call.reconnect ∷ calls) call es = ap (λ (x : List Event). Event.reconnect ∷ x) (history-snoc calls call es)
+
+  start-along : (v : RtrProtocolVersion) (m : Memory) (live working : List ℕ) → length (m .hold) ≡ H → startSaid (StartAnswer.Started (m .session)) (m .live) (m .working) (m .hold) ≡ startSays limit v live working (m .hold) → Along v [] m
+  unfolding startSays historyOf tableFromOn
+  start-along v m live working size e = go (eqb (length live) (6 * limit)) (eqb (length working) (6 * limit)) (leb 8 (length (m .hold))) refl e
+    where
+      go : (a b c : Bool) →
+          leb 8 (length (m .hold)) ≡ c →
+          StartSays.started (leaves (m .session) (m .live) (m .working) (m .hold)) ≡ cond (a && (b && c)) (StartSays.started (inMemory limit (fresh v))) (StartSays.refusedStart live working) →
+          Along v [] m
+      go true true true t q =
+          record {
+            receiver = fresh v;
+            place = Place.idle;
+            stands =
+                record {
+                  size = size;
+                  least = omega (arith, size, leb-true 8 (length (m .hold)) t);
+                  left = cc;
+                  sound = record { good = fresh-good limit v; waits = nothing-waits crate H };
+                };
+            at = At.at-idle refl;
+            to-come = λ es. refl;
+          }
+      go true true false t q = absurd (let z : _≡_ {A = ℕ} 0 1 = cc in omega arith)
+      go true false c t q = absurd (let z : _≡_ {A = ℕ} 0 1 = cc in omega arith)
+      go false b c t q = absurd (let z : _≡_ {A = ℕ} 0 1 = cc in omega arith)
+
+  -- one call more
+  step-along : (v : RtrProtocolVersion) (calls : List Call) (call : Call) (m m′ : Memory) → Along v calls m → Step limit m call m′ → Along v (calls ++ call ∷ []) m′
+  unfolding historyOf feed
+  step-along v calls (Call.feed piece) m m′ along (Step.fed s done live working hold size e) =
+      let r : Receiver = along .receiver in
+      let st = along .stands in
+      let f = piece-follows limit H piece r (along .place) 0 0 (along .at) in
+      let there : Receiver = onPiece limit H (from r 0 0) piece .receiver in
+      let said = e ∙ feed-said m piece (in-shape st) in
+      let left = fed-left done (leaves s live working hold) hold (feed limit (length (m .hold)) (receiverOf (m .session) (m .live) (m .working) (m .hold)) piece) said in
+      record {
+        receiver = there;
+        place = f .0;
+        stands =
+            record {
+              size = size ∙ st .size;
+              least = st .least;
+              left =
+                  left
+                  ∙ ap (λ (h : ℕ). inMemory limit (onPiece limit h (from (receiverOf (m .session) (m .live) (m .working) (m .hold)) 0 0) piece .receiver)) (st .size)
+                  ∙ ap (λ (x : Receiver). inMemory limit (onPiece limit H (from x 0 0) piece .receiver)) (is-receiver st);
+              sound = piece-sound piece (from r 0 0) (along .place) (along .at) (st .sound);
+            };
+        at = f .1;
+        to-come = λ es.
+            ap (λ (h : List Event). tableOf limit (finished limit H v h)) (history-snoc calls (Call.feed piece) es)
+            ∙ along .to-come ((bytes piece ++ []) ++ es)
+            ∙ ap (λ (x : List Event). outcome limit H r (along .place) (x ++ es)) (append-nil (bytes piece))
+            ∙ f .2 es;
+      }
+  step-along v calls (Call.ask LoadKind.Full out) m m′ along (Step.askedFull s answer out′ e) =
+      let r : Receiver = along .receiver in
+      let st = along .stands in
+      let f = full-follows limit H r (along .place) out (along .at) in
+      let said = e ∙ full-said m out (in-shape st) in
+      record {
+        receiver = ask (fullQuery (r .stage) r) r out .receiver;
+        place = f .0;
+        stands =
+            record {
+              size = st .size;
+              least = st .least;
+              left = ap (λ (x : AskSays). x .left) said ∙ ap (λ (x : Receiver). inMemory limit (ask (fullQuery (x .stage) x) x out .receiver)) (is-receiver st);
+              sound = full-sound r out (st .sound) (r .stage) refl;
+            };
+        at = f .1;
+        to-come = λ es.
+            ap (λ (h : List Event). tableOf limit (finished limit H v h)) (history-snoc calls (Call.ask LoadKind.Full out) es)
+            ∙ along .to-come (Event.ask LoadKind.Full (length out) ∷ es)
+            ∙ f .2 es;
+      }
+  step-along v calls (Call.ask LoadKind.Change out) m m′ along (Step.askedChange s answer out′ e) =
+      let r : Receiver = along .receiver in
+      let st = along .stands in
+      let f = change-follows limit H r (along .place) out (along .at) in
+      let said = e ∙ change-said m out (in-shape st) in
+      record {
+        receiver = ask (changeQuery (r .stage) r) r out .receiver;
+        place = f .0;
+        stands =
+            record {
+              size = st .size;
+              least = st .least;
+              left = ap (λ (x : AskSays). x .left) said ∙ ap (λ (x : Receiver). inMemory limit (ask (changeQuery (x .stage) x) x out .receiver)) (is-receiver st);
+              sound = change-sound r out (st .sound) (r .stage) refl;
+            };
+        at = f .1;
+        to-come = λ es.
+            ap (λ (h : List Event). tableOf limit (finished limit H v h)) (history-snoc calls (Call.ask LoadKind.Change out) es)
+            ∙ along .to-come (Event.ask LoadKind.Change (length out) ∷ es)
+            ∙ f .2 es;
+      }
+  step-along v calls Call.reconnect m m′ along (Step.connected s answer working e) =
+      let r : Receiver = along .receiver in
+      let st = along .stands in
+      let said = e ∙ reconnect-said m (in-shape st) in
+      record {
+        receiver = reconnected r;
+        place = Place.idle;
+        stands =
+            record {
+              size = st .size;
+              least = st .least;
+              left = ap (λ (x : ReconnectSays). x .left) said ∙ ap (λ (x : Receiver). inMemory limit (reconnected x)) (is-receiver st);
+              sound = reconnect-sound r (st .sound);
+            };
+        at = At.at-idle refl;
+        to-come = λ es.
+            ap (λ (h : List Event). tableOf limit (finished limit H v h)) (history-snoc calls Call.reconnect es)
+            ∙ along .to-come (Event.reconnect ∷ es)
+            ∙ reconnect-follows limit H r (along .place) es;
+      }
+
+  pub run-along : (v : RtrProtocolVersion) (calls : List Call) (m : Memory) → Run limit v H calls m → Along v calls m
+  run-along v calls m (Run.started m₀ live working size e) = start-along v m₀ live working size e
+  run-along v calls m (Run.next {calls = before} {call = call} {m = m₀} run step) = step-along v before call m₀ m (run-along v before m₀ run) step
+
+-- ---- Demand 3
+
+-- In every run, over every version, hold size, list of calls and cut, the live table with its session, serial and intervals is what the updates make that
+-- finished in the history.
+pub history : (limit H : ℕ) (v : RtrProtocolVersion) (calls : List Call) (m : Memory) → Run limit v H calls m → liveIn m ≡ tableOf limit (finished limit H v (historyOf calls))
+unfolding items updates tableFromOn
+history limit H v calls m run =
+    let along = run-along limit H v calls m run in
+    ap liveOf (is-receiver limit H (along .stands))
+    ∙ sym (along .to-come [])
+    ∙ ap (λ (h : List Event). tableOf limit (finished limit H v h)) (append-nil (historyOf calls))
+
+-- the same bytes cut elsewhere, between the same asks and reconnects, leave the same live table
+pub cut-anywhere : (limit H : ℕ) (v : RtrProtocolVersion) (calls calls′ : List Call) (m m′ : Memory) → Run limit v H calls m → Run limit v H calls′ m′ → historyOf calls ≡ historyOf calls′ → liveIn m ≡ liveIn m′
+cut-anywhere limit H v calls calls′ m m′ run run′ e =
+    history limit H v calls m run ∙ ap (λ (h : List Event). tableOf limit (finished limit H v h)) e ∙ sym (history limit H v calls′ m′ run′)
+
+-- a table stays a table
+known-stays : (limit : ℕ) (us : List Update) (live : Live) → hasTable (live .info) ≡ true → hasTable (tableFromOn limit live us .info) ≡ true
+unfolding tableFromOn
+known-stays limit [] live e = e
+known-stays limit (u ∷ us) live e = known-stays limit us (updated limit live u) refl
+
+-- there is no table exactly where no update has finished
+pub no-table : (limit H : ℕ) (v : RtrProtocolVersion) (calls : List Call) (m : Memory) → Run limit v H calls m → (liveIn m .info ≡ LiveTable.NoTable) ↔ (finished limit H v (historyOf calls) ≡ [])
+unfolding tableFromOn
+no-table limit H v calls m run = (λ e. go (finished limit H v (historyOf calls)) (sym (ap (λ (l : Live). l .info) (history limit H v calls m run)) ∙ e), λ e. ap (λ (l : Live). l .info) (history limit H v calls m run) ∙ ap (λ (us : List Update). tableOf limit us .info) e)
+  where
+    go : (us : List Update) → tableOf limit us .info ≡ LiveTable.NoTable → us ≡ []
+    go [] e = refl
+    go (u ∷ us) e = absurd (let z : true ≡ false = sym (known-stays limit us (updated limit noTable u) refl) ∙ ap hasTable e in let o : _≡_ {A = ℕ} 0 1 = cc in omega arith)
