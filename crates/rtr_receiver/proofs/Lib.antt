@@ -8,5 +8,6 @@ mod Feeds
 mod Good
 mod Steps
 mod Stepping
+pub mod Laws
 pub mod Histories
 pub mod Runs
