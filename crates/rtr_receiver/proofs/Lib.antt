@@ -9,5 +9,6 @@ mod Good
 mod Steps
 mod Stepping
 pub mod Laws
+pub mod Unique
 pub mod Histories
 pub mod Runs

@@ -28,7 +28,7 @@ answered (ReadAnswer.Refused error) = StreamAnswer.Refused (StreamError.Read err
 answered (ReadAnswer.Read pdu n) = StreamAnswer.More
 
 -- the answer that says this
-saying : Says → StreamAnswer
+pub saying : Says → StreamAnswer
 saying (Says.pduAt pdu lies bytes) = StreamAnswer.Found pdu lies
 saying (Says.stops number values) = cond (eqb number 12) (StreamAnswer.Refused (StreamError.OverHold (getD values 0 0))) (answered (answerOf (Verdict.refused number values)))
 saying Says.wantsMore = StreamAnswer.More
@@ -48,7 +48,7 @@ error-told RouterKeyInV0 = ap answered (error-back RouterKeyInV0)
 searchedOf : Outcome → Searched
 searchedOf o = record { stream = record { held = o .count }; next = o .next; answer = saying (o .says) }
 
-answer-told : (hold piece : List ℕ) (a : StreamAnswer) → saying (saidBy a hold piece) ≡ a
+pub answer-told : (hold piece : List ℕ) (a : StreamAnswer) → saying (saidBy a hold piece) ≡ a
 unfolding saying
 answer-told hold piece (StreamAnswer.Found pdu lies) = refl
 answer-told hold piece (StreamAnswer.Refused (StreamError.Read e)) = error-told e
