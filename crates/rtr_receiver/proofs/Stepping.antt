@@ -43,7 +43,7 @@ more-told held at End.more q = refl
 more-told held at (End.found pdu bytes) q = absurd (let z : _≡_ {A = ℕ} 0 1 = cc in omega arith)
 more-told held at (End.stop k x) q = absurd (let z : _≡_ {A = ℕ} 0 1 = cc in omega arith)
 
-never-told : (held at : ℕ) (hold : List ℕ) (e : End) → Says.notAStream hold ≡ saysOf held at e → ⊥
+never-told : (held at : ℕ) (hold : List ℕ) (e : End) → Says.refusedCall 22 hold ≡ saysOf held at e → ⊥
 never-told held at hold End.more q = let z : _≡_ {A = ℕ} 0 1 = cc in omega arith
 never-told held at hold (End.found pdu bytes) q = let z : _≡_ {A = ℕ} 0 1 = cc in omega arith
 never-told held at hold (End.stop k x) q = let z : _≡_ {A = ℕ} 0 1 = cc in omega arith

@@ -323,7 +323,7 @@ fn place_among(room: &[u32], end: usize, r: Record) -> usize
     lo
 }
 
-// The last record is looked at first: it alone decides where a record goes behind it, or is it. Any other place is found by halving.
+// The last record is compared first: a record behind it, or equal to it, needs no search. Any other place is found by halving.
 pub fn look_up(room: &[u32], count: usize, r: Record) -> LookUp
     ensures { λ a. ⌜ found a ≡ lookUp (now (room .entry)) count r ⌝ }
 {

@@ -9,12 +9,13 @@ use native.Mathlib.Omega.{arith}
 use lib.ListN.{length, take, drop, length-append}
 use Rattle.rtr_models.specs.declared.RtrPdu.{RtrPdu}
 use Rattle.rtr_codec.specs.Reading.{Reading, crate}
-use Rattle.rtr_codec.specs.Read.{Verdict, read, headerLength, needed}
-use Rattle.rtr_codec.proofs.Laws.{whole-is-not-one, read-consumes, needed-short, needed-large}
+use Rattle.rtr_codec.specs.Read.{Verdict, read, needed}
 use Rattle.rtr_stream.specs.Stream.{Heard, heardOf, judge, Found, State, Listened, fresh, after, onByteIn, onByte, onPiece, onPieces}
 use Rattle.rtr_stream.specs.Stream.Heard.{waits, whole, refused}
-use Rattle.rtr_stream.specs.Search.{End, Search, over, searchFrom, isStream, outcomeOf, search}
-use Rattle.rtr_stream.proofs.Judge.{Waiting, IsStream, judge-short, waits-waiting, waiting-waits, is-stream, stream-is, refused-not-one, whole-pdu, whole-exactly}
+use Rattle.rtr_stream.specs.Search.{End, Search, over, searchFrom, isStream, outcomeOf, search, Outcome, searchSaid}
+use Rattle.rtr_stream.specs.declared.Searched.{Searched}
+use Rattle.rtr_stream.proofs.Runs.{runs-out}
+use Rattle.rtr_stream.proofs.Judge.{Waiting, waiting-grows, IsStream, judge-short, waits-waiting, waiting-waits, is-stream, stream-is, refused-not-one, whole-pdu, whole-exactly}
 use Rattle.rtr_stream.proofs.Judge.Waiting.{short, cut}
 
 -- pieces end to end
@@ -244,6 +245,10 @@ module _ (R : Reading) (H : ℕ) where
       byte at s rest (whole pdu) = refl
       byte at s rest (refused number values) = refl
 
+-- fewer bytes than needed only lengthen what is held
+pub few-are-held : (R : Reading) (H : ℕ) (p : List ℕ) (at : ℕ) (s : List ℕ) → judge R H s ≡ waits → length s + length p < needed s → searchFrom R H at s p ≡ record { end = End.more; next = at + length p; held = s ++ p }
+few-are-held R H p at s w h = runs-out R H p at s (waiting-grows (waits-waiting R H s w) p h)
+
 -- ---- The hold
 
 -- a hold of 8 bytes or more whose held bytes wait is a stream, and no other
@@ -261,3 +266,15 @@ pub search-is
     search hold held piece at ≡ outcomeOf held at (searchFrom crate (length hold) at (take held hold) (drop at piece))
 unfolding search
 search-is hold piece held at e = simp e
+
+-- the hold that a search leaves is a stream again
+pub search-keeps-stream : (hold hold′ piece : List ℕ) (held at : ℕ) (r : Searched) → isStream hold held ≡ true → length hold′ ≡ length hold → searchSaid r hold′ piece ≡ search hold held piece at → isStream hold′ (r .stream .held) ≡ true
+search-keeps-stream hold hold′ piece held at r i same e =
+    let h = stream-has hold held i in
+    let found = searchFrom crate (length hold) at (take held hold) (drop at piece) in
+    let said : searchSaid r hold′ piece ≡ outcomeOf held at found = e ∙ search-is hold piece held at i in
+    let bytes : take (r .stream .held) hold′ ≡ found .held = ap (λ (o : Outcome). o .held) said in
+    let count : r .stream .held ≡ length (found .held) = ap (λ (o : Outcome). o .count) said in
+    let waits-now : judge crate (length hold) (found .held) ≡ waits = search-waits crate (length hold) (drop at piece) at (take held hold) (h .2) in
+    stream-exactly hold′ (r .stream .held) (omega (arith, h .0)) (omega (arith, waits-fits crate (length hold) (found .held) (h .0) waits-now))
+    (ap (judge crate (length hold′)) bytes ∙ ap (λ (n : ℕ). judge crate n (found .held)) same ∙ waits-now)

@@ -32,7 +32,7 @@ pub saying : Says → StreamAnswer
 saying (Says.pduAt pdu lies bytes) = StreamAnswer.Found pdu lies
 saying (Says.stops number values) = cond (eqb number 12) (StreamAnswer.Refused (StreamError.OverHold (getD values 0 0))) (answered (answerOf (Verdict.refused number values)))
 saying Says.wantsMore = StreamAnswer.More
-saying (Says.notAStream hold) = StreamAnswer.NotAStream
+saying (Says.refusedCall number hold) = StreamAnswer.NotAStream
 
 error-told : (e : RtrError) → saying (stopsBy (streamRefusal (StreamError.Read e))) ≡ StreamAnswer.Refused (StreamError.Read e)
 unfolding saying answered
@@ -63,13 +63,13 @@ search-back hold piece r = λ i. record { stream = r .stream; next = r .next; an
 one-held : (r r′ : Searched) (hold hold′ piece : List ℕ) (given : Outcome) →
     searchSaid r hold piece ≡ given →
     searchSaid r′ hold′ piece ≡ given →
-    (r ≡ r′) × (take (r .stream .held) hold ≡ take (r′ .stream .held) hold′)
+    (r ≡ r′) × (take (r .stream .held) hold ≡ take (r′ .stream .held) hold′) × (saidBy (r .answer) hold piece ≡ saidBy (r′ .answer) hold′ piece)
 one-held r r′ hold hold′ piece given p q =
-    (sym (search-back hold piece r) ∙ ap searchedOf (p ∙ sym q) ∙ search-back hold′ piece r′, ap (λ (o : Outcome). o .held) (p ∙ sym q))
+    (sym (search-back hold piece r) ∙ ap searchedOf (p ∙ sym q) ∙ search-back hold′ piece r′, ap (λ (o : Outcome). o .held) (p ∙ sym q), ap (λ (o : Outcome). o .says) (p ∙ sym q))
 
--- two results and two holds that meet the promise are equal, the holds up to the held count
+-- two results and two holds that meet the promise are equal, the holds up to the held count, in the bytes of a PDU that lies there, and whole on 22
 pub search-unique : (κs : _) (a : _) (r r′ : _) (s s′ : _) → search-reads.Post κs a r s → search-reads.Post κs a r′ s′
-    → (r ≡ r′) × (take (r .stream .held) (now (s .0)) ≡ take (r′ .stream .held) (now (s′ .0)))
+    → (r ≡ r′) × (take (r .stream .held) (now (s .0)) ≡ take (r′ .stream .held) (now (s′ .0))) × (saidBy (r .answer) (now (s .0)) (now (a .1 .1 .0)) ≡ saidBy (r′ .answer) (now (s′ .0)) (now (a .1 .1 .0)))
 search-unique κs a r r′ s s′ p q = one-held r r′ (now (s .0)) (now (s′ .0)) _ _ p q
 
 pub stream-new-unique : (κs : _) (a : _) (r r′ : _) (s s′ : _) → new-reads.Post κs a r s → new-reads.Post κs a r′ s′ → r ≡ r′

@@ -60,7 +60,7 @@ pub data Says : Type 0 where
   pduAt : RtrPdu → Lies → List ℕ → Says
   stops : ℕ → List ℕ → Says
   wantsMore : Says
-  notAStream : List ℕ → Says
+  refusedCall : ℕ → List ℕ → Says
 
 -- what it leaves: the place, the count of bytes held, and those bytes; the hold past them is left open
 pub record Outcome : Type 0 where
@@ -82,27 +82,31 @@ unfoldable pub search : List ℕ → ℕ → List ℕ → ℕ → Outcome
 search hold held piece at =
     cond (isStream hold held)
     (outcomeOf held at (searchFrom crate (length hold) at (take held hold) (drop at piece)))
-    (record { says = notAStream hold; next = at; count = held; held = take held hold })
+    (record { says = refusedCall 22 hold; next = at; count = held; held = take held hold })
 
--- what the code's answer says, given the hold that it leaves
+-- document 01's number and values of a stream's refusal
 abbrev pub streamRefusal : StreamError → Verdict
 streamRefusal (StreamError.Read error) = refusal error
 streamRefusal (StreamError.OverHold length) = Verdict.refused 12 (length ∷ [])
 
+-- (a refusal is never an acceptance: the first case does not arise)
 abbrev pub stopsBy : Verdict → Says
 stopsBy (Verdict.accepted pdu consumed) = wantsMore
 stopsBy (Verdict.refused number values) = stops number values
 
+-- the bytes of a PDU, from where it lies
 abbrev pub bytesOf : Lies → List ℕ → List ℕ → List ℕ
 bytesOf (Lies.InPiece place) hold piece = take (place .len) (drop (place .start) piece)
 bytesOf (Lies.InHold place) hold piece = take (place .len) (drop (place .start) hold)
 
+-- what the code's answer says, given the hold that it leaves
 abbrev pub saidBy : StreamAnswer → List ℕ → List ℕ → Says
 saidBy (StreamAnswer.Found pdu lies) hold piece = pduAt pdu lies (bytesOf lies hold piece)
 saidBy (StreamAnswer.Refused error) hold piece = stopsBy (streamRefusal error)
 saidBy StreamAnswer.More hold piece = wantsMore
-saidBy StreamAnswer.NotAStream hold piece = notAStream hold
+saidBy StreamAnswer.NotAStream hold piece = refusedCall 22 hold
 
+-- and the whole of what a call leaves
 abbrev pub searchSaid : Searched → List ℕ → List ℕ → Outcome
 searchSaid r hold piece =
     record { says = saidBy (r .answer) hold piece; next = r .next; count = r .stream .held; held = take (r .stream .held) hold }

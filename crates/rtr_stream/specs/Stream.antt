@@ -1,5 +1,5 @@
 -- The stream, byte by byte: document 01, "Stream and receiver" ("a length outside 8 to 131,086 is refused by 4 .. once 8 bytes are in; then 12
--- if it exceeds H; then the PDU is read when whole"). H is the size of the hold. Nothing here knows of a receiver, of pieces or of a buffer.
+-- if it exceeds H; then the PDU is read when whole"). H is the size of the hold. Nothing here knows of a receiver or of a buffer.
 use Prim.Native.Nat.{ℕ, _+_}
 use mathlib.Core.Bool.{Bool, true, false, cond}
 use mathlib.Core.List.{List, [], _∷_, _++_}
@@ -24,6 +24,7 @@ abbrev pub passing : Bool → ℕ → List ℕ → Heard → Heard
 passing true number values next = next
 passing false number values next = refused number values
 
+-- a read is heard as what it says
 abbrev pub heardOf : Verdict → Heard
 heardOf (Verdict.accepted pdu consumed) = whole pdu
 heardOf (Verdict.refused number values) = refused number values
@@ -48,16 +49,18 @@ pub record Found : Type 0 where
   pub pdu : RtrPdu
   pub bytes : List ℕ
 
--- a stream so far: how many bytes it took, the PDUs found in order, and what it holds, or why it stopped
+-- what a stream holds, or why it stopped
 pub data State : Type 0 where
   holding : List ℕ → State
   stopped : ℕ → List ℕ → State
 
+-- a stream so far: how many bytes it took, the PDUs found in order, and its state
 pub record Listened : Type 0 where
   pub taken : ℕ
   pub pdus : List Found
   pub state : State
 
+-- nothing taken, found or held
 abbrev pub fresh : Listened
 fresh = record { taken = 0; pdus = []; state = holding [] }
 

@@ -52,7 +52,7 @@ impl StreamError {
     }
 }
 
-// Where the bytes of a PDU lie that was found; its own places count from there.
+// Where the bytes of a PDU lie that was found; its own places count from there. In the hold they stand until the next search.
 pub enum Lies {
     InPiece(Place),
     InHold(Place),
@@ -299,7 +299,8 @@ fn one_turn(hold: &mut [u8], held: usize, piece: &[u8], at: usize) -> Turn
     from_hold(hold, held, piece, at)
 }
 
-// Searches the piece from a place on for the next PDU: goes round until it breaks off with a whole PDU, a refusal, or the wish for more.
+// Searches the piece from a place on for the next PDU: goes round until it breaks off with a whole PDU, a refusal, or the wish for more (at most twice:
+// the header, then the PDU).
 pub fn search(hold: &mut [u8], stream: Stream, piece: &[u8], at: usize) -> Searched
     ensures { λ r. ⌜ searchSaid r (now (hold .exit)) (now (piece .entry)) ≡ search (now (hold .entry)) (stream .held) (now (piece .entry)) at ⌝ }
 {
