@@ -13,14 +13,13 @@ use lib.ListN.{length, take, replicate}
 use Rattle.rtr_models.specs.Values.{secondsOr}
 use Rattle.rtr_models.specs.declared.RtrEndOfData.{RtrEndOfData}
 use Rattle.rtr_codec.specs.Read.{Verdict}
-use Rattle.rtr_room.specs.Table.{Change, allInRule, ordered, isTable, enter, leave}
+use Rattle.rtr_room.specs.Table.{Change, ordered, enter, leave}
 use Rattle.rtr_room.specs.Room.{room, records, isRoom, Said, Outcome, keeps, entered, gone, outcomeOf, enterSaid, leaveSaid, copied}
 use Rattle.rtr_room.specs.Room.Said.{counted, refusedBy}
 use Rattle.rtr_room.specs.declared.Record.{Record}
 use Rattle.rtr_room.specs.declared.EnterAnswer.{EnterAnswer}
 use Rattle.rtr_room.specs.declared.LeaveAnswer.{LeaveAnswer}
-use Rattle.rtr_room.proofs.Laws.{rules-exactly, records-of-room, room-length, empty-is, copy-is, enter-is, leave-is, enter-refuses, leave-refuses, changed-is, refused-is}
-use Rattle.rtr_room.proofs.Laws.Tests.{second-of}
+use Rattle.rtr_room.proofs.Laws.{room-length, empty-is, copy-is, enter-is, leave-is, enter-refuses, leave-refuses, changed-is, refused-is}
 use Rattle.rtr_receiver.specs.Receiver.{Stage, Receiver, Deed, stop, startLoad, onCacheResponse, onChangeResponse, changedTo, onRecord, onRouterKey, onCacheReset, finish, noUpdate, onEndOfData}
 use Rattle.rtr_receiver.specs.Receiver.Stage.{idle, mustReset, askedFull, askedChange, loading, stopped}
 use Rattle.rtr_receiver.specs.Promises.{Left, stopSaid, stoppedBy, stageOf, receiverOf, leaves, inMemory}
@@ -33,23 +32,9 @@ use Rattle.rtr_receiver.specs.declared.LiveTable.{LiveTable}
 use Rattle.rtr_receiver.specs.declared.Session.{Session}
 use Rattle.rtr_receiver.specs.declared.DeedDone.{DeedDone}
 use Rattle.rtr_receiver.proofs.Phase as phase-enum
+use Rattle.rtr_receiver.proofs.Memory.{room-stands, room-size, left-alike}
 
 -- ---- rooms
-
--- numbers that keep the room rules are the room of their records
-pub room-stands : (limit count : ℕ) (s : List ℕ) → isRoom limit count s ≡ true → (s ≡ room limit (records count s)) × (length (records count s) ≡ count) × (count ≤ limit) × (ordered (records count s) ≡ true)
-room-stands limit count s h = go (rules-exactly limit count s .0 h)
-  where
-    go : ((t : List Record) × (isTable t ≡ true) × (length t ≡ count) × (count ≤ limit) × (s ≡ room limit t)) → (s ≡ room limit (records count s)) × (length (records count s) ≡ count) × (count ≤ limit) × (ordered (records count s) ≡ true)
-    go (t, table, n, few, e) =
-        let same : records count s ≡ t = rw (e, ← n) (records-of-room limit t) in
-        (e ∙ ap (room limit) (sym same), ap length same ∙ n, few, ap ordered same ∙ second-of (allInRule t) _ table)
-
--- such numbers are six for each record of the limit
-pub room-size : (limit count : ℕ) (s : List ℕ) → isRoom limit count s ≡ true → length s ≡ 6 * limit
-room-size limit count s h =
-    let m = room-stands limit count s h in
-    ap length (m .0) ∙ room-length limit (records count s) (omega (arith, m .1, m .2))
 
 -- zeros of that size are the empty room
 pub zeros-stand : (limit : ℕ) (w w′ : List ℕ) → length w ≡ 6 * limit → w′ ≡ replicate (length w) 0 → w′ ≡ room limit []
@@ -57,17 +42,13 @@ zeros-stand limit w w′ n e = e ∙ ap (λ (k : ℕ). replicate k 0) n ∙ empt
 
 -- ---- what a call leaves
 
-pub left-alike : (a b : Left) → a .version ≡ b .version → a .stage ≡ b .stage → a .table ≡ b .table → a .note ≡ b .note → a .liveCount ≡ b .liveCount → a .workingCount ≡ b .workingCount → a .heldCount ≡ b .heldCount → a .live ≡ b .live → a .working ≡ b .working → a .held ≡ b .held → a ≡ b
-left-alike a b v s t n lc wc hc l w h =
-    λ i. record { version = v i; stage = s i; table = t i; note = n i; liveCount = lc i; workingCount = wc i; heldCount = hc i; live = l i; working = w i; held = h i }
-
 nothing-held : (n : ℕ) → n ≡ 0 → n ≡ length (take {A = ℕ} n [])
 nothing-held n e = e ∙ ap (λ (k : ℕ). length (take {A = ℕ} k [])) (sym e)
 
 -- rooms of tables, with their counts, and nothing held
 pub rooms-stand : (limit : ℕ) (s : Session) (live working : List ℕ) (l w : List Record) → s .live ≡ length l → s .working ≡ length w → s .held ≡ 0 → live ≡ room limit l → working ≡ room limit w →
     Stands limit s live working (record { version = s .version; stage = stageOf (s .phase); table = s .table; note = s .note; live = l; working = w; held = take (s .held) [] })
-rooms-stand limit s live working l w lc wc h le we = left-alike _ _ refl refl refl refl lc wc (nothing-held (s .held) h) le we refl
+rooms-stand limit s live working l w lc wc h le we = left-alike refl refl refl refl lc wc (nothing-held (s .held) h) le we refl
 
 -- a stop, whatever is held
 pub stop-stands : (limit : ℕ) (s : Session) (live working hold : List ℕ) → isRoom limit (s .live) live ≡ true →
@@ -77,7 +58,7 @@ pub stop-stands : (limit : ℕ) (s : Session) (live working hold : List ℕ) →
 stop-stands limit s live working hold b why number values e w w′ n z r q =
     let l = room-stands limit (s .live) live b in
     ap (λ (t : Session). leaves t live w′ hold) q
-    ∙ left-alike _ _ refl (ap stoppedBy e) refl refl (sym (l .1)) refl refl (l .0) (zeros-stand limit w w′ n z) refl
+    ∙ left-alike refl (ap stoppedBy e) refl refl (sym (l .1)) refl refl (l .0) (zeros-stand limit w w′ n z) refl
 
 -- a stop that the code made of a session and the working room as they were
 pub stops : (limit : ℕ) (s : Session) (live working : List ℕ) → BothRooms limit s live working →
@@ -85,7 +66,7 @@ pub stops : (limit : ℕ) (s : Session) (live working : List ℕ) → BothRooms 
     (r : Session) (w′ : List ℕ) → (r ≡ stoppedSession s why) × (w′ ≡ replicate (length working) 0) →
     (to : Receiver) → to ≡ stop number values (receiverOf s live working []) → Stands limit r live w′ to
 stops limit s live working b why number values e r w′ q to t =
-    stop-stands limit s live working [] (b .0) why number values e working w′ (room-size limit (s .working) working (b .1)) (q .1) r (q .0)
+    stop-stands limit s live working [] (b .0) why number values e working w′ (room-size limit (s .working) working (b .1) .0) (q .1) r (q .0)
     ∙ ap (inMemory limit) (sym t)
 
 -- both rooms as they were, in another phase, with another table and note
@@ -245,9 +226,9 @@ module _ (limit : ℕ) (s : Session) (live working : List ℕ) (b : BothRooms li
       let table : LiveTable.Known (record { session = p .«session_id»; serial = p .«serial_number»; refresh = refresh; retry = retry; expire = expire })
       ≡ LiveTable.Known (record { session = p .«session_id»; serial = p .«serial_number»; refresh = secondsOr 3600 (p .«refresh_interval»); retry = secondsOr 600 (p .«retry_interval»); expire = secondsOr 7200 (p .«expire_interval») }) =
       λ i. LiveTable.Known (record { session = p .«session_id»; serial = p .«serial_number»; refresh = h₁ i; retry = h₂ i; expire = h₃ i }) in
-      left-alike _ _ refl refl table refl (sym (m .1)) refl (nothing-held (s .held) (b .2))
+      left-alike refl refl table refl (sym (m .1)) refl (nothing-held (s .held) (b .2))
       (le ∙ ap₂ copied (m .0) (k .0) ∙ copy-is limit _ _ (omega (arith, m .1, m .2)) (omega (arith, k .1, k .2)) .0)
-      (zeros-stand limit working w (room-size limit (s .working) working (b .1)) we)
+      (zeros-stand limit working w (room-size limit (s .working) working (b .1) .0) we)
       refl
 
   -- the live room copied: the load of a change of the table's session
@@ -264,7 +245,7 @@ module _ (limit : ℕ) (s : Session) (live working : List ℕ) (b : BothRooms li
       (q : Session) → q ≡ record { version = s .version; phase = Phase.Loading LoadKind.Full id; table = s .table; note = s .note; live = s .live; working = 0; held = s .held } →
       Stands limit q live w (onCacheResponse (stageOf (s .phase)) id (receiverOf s live working []))
   full-load-stands id e w z q f =
-      load-stands LoadKind.Full id 0 w [] refl (zeros-stand limit working w (room-size limit (s .working) working (b .1)) z) q f
+      load-stands LoadKind.Full id 0 w [] refl (zeros-stand limit working w (room-size limit (s .working) working (b .1) .0) z) q f
       ∙ ap (λ (p : Phase). inMemory limit (onCacheResponse (stageOf p) id (receiverOf s live working []))) (sym e)
 
   -- ---- what is passed over, and a Cache Reset

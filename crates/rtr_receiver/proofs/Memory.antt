@@ -13,6 +13,7 @@ use Rattle.rtr_codec.specs.declared.RtrError.{RtrError}
 use Rattle.rtr_stream.specs.Search.{isStream}
 use Rattle.rtr_stream.specs.declared.StreamError.{StreamError}
 use Rattle.rtr_stream.proofs.Laws.{stream-has}
+use Rattle.rtr_room.specs.Table.{allInRule, ordered, isTable}
 use Rattle.rtr_room.specs.Room.{room, records, isRoom}
 use Rattle.rtr_room.proofs.Laws.{rules-exactly, records-of-room, room-length}
 use Rattle.rtr_room.proofs.Laws.Tests.{first-of, second-of, both, not-both, unless}
@@ -32,13 +33,20 @@ holds {r} e h = sym e ∙ not-false r h
 
 -- ---- Rooms
 
--- a room is the room of its records, as many as counted
-pub room-stands : (limit count : ℕ) (s : List ℕ) → isRoom limit count s ≡ true → (s ≡ room limit (records count s)) × (length (records count s) ≡ count)
+-- numbers that keep the room rules are the room of their records, as many as counted, within the limit, in order and in rule
+pub room-stands
+    : (limit count : ℕ) (s : List ℕ) →
+    isRoom limit count s ≡ true →
+    (s ≡ room limit (records count s))
+    × (length (records count s) ≡ count)
+    × (count ≤ limit)
+    × (ordered (records count s) ≡ true)
+    × (isTable (records count s) ≡ true)
 room-stands limit count s e =
     let r = rules-exactly limit count s .0 e in
     let same : records count s ≡ r .0 =
     ap (λ (n : ℕ). records n s) (sym (r .2)) ∙ ap (records (length (r .0))) (r .4) ∙ records-of-room limit (r .0) in
-    (r .4 ∙ ap (room limit) (sym same), ap length same ∙ r .2)
+    (r .4 ∙ ap (room limit) (sym same), ap length same ∙ r .2, r .3, ap ordered same ∙ second-of (allInRule (r .0)) _ (r .1), ap isTable same ∙ r .1)
 
 -- it has six numbers for each record of the limit, and no more records than the limit
 pub room-size : (limit count : ℕ) (s : List ℕ) → isRoom limit count s ≡ true → (length s ≡ 6 * limit) × (count ≤ limit)

@@ -35,7 +35,8 @@ use Rattle.rtr_receiver.specs.declared.Then.{Then}
 use Rattle.rtr_receiver.proofs.Phase as phase-enum
 use Rattle.rtr_receiver.proofs.Feeds.{from, stopped-takes-none, fed-more, fed-pdu, fed-stop}
 use Rattle.rtr_receiver.proofs.Good.{Good, pdu-good}
-use Rattle.rtr_receiver.proofs.Steps.{Shape, shape-of, shape-is, good-of, shape-of-good, stands-for, room-stands, stop-told, stopped-stage}
+use Rattle.rtr_receiver.proofs.Steps.{Shape, shape-is, good-of, shape-of-good, stands-for, stopped-stage}
+use Rattle.rtr_receiver.proofs.Memory.{room-stands, room-size, left-alike, standing, stop-says}
 
 -- a search's end, told from what the code's answer says
 more-told : (held at : ℕ) (e : End) → Says.wantsMore ≡ saysOf held at e → e ≡ End.more
@@ -66,33 +67,6 @@ goes-on askedFull e = refl
 goes-on askedChange e = refl
 goes-on (loading kind session) e = refl
 goes-on (stopped k x) e = absurd (let z : _≡_ {A = ℕ} 0 1 = cc in omega arith)
-
--- what a session and memory leave, field by field
-pub left-alike : {a b : Left} →
-    a .version ≡ b .version →
-    a .stage ≡ b .stage →
-    a .table ≡ b .table →
-    a .note ≡ b .note →
-    a .liveCount ≡ b .liveCount →
-    a .workingCount ≡ b .workingCount →
-    a .heldCount ≡ b .heldCount →
-    a .live ≡ b .live →
-    a .working ≡ b .working →
-    a .held ≡ b .held →
-    a ≡ b
-left-alike v s t n lc wc hc l w h = λ i.
-    record {
-      version = v i;
-      stage = s i;
-      table = t i;
-      note = n i;
-      liveCount = lc i;
-      workingCount = wc i;
-      heldCount = hc i;
-      live = l i;
-      working = w i;
-      held = h i;
-    }
 
 module _ (limit : ℕ) (s : Session) (live working hold piece : List ℕ) (at updates : ℕ) (shape : Shape limit s live working hold) (on : listens (stageOf (s .phase)) ≡ true) where
   abbrev here : Receiver
@@ -132,9 +106,7 @@ module _ (limit : ℕ) (s : Session) (live working hold piece : List ℕ) (at up
     -- zeros all over are the empty working table
     zeros : replicate (length working) 0 ≡ room limit []
     zeros =
-        let w = room-stands limit (s .working) working (shape .working-room) in
-        let size : length working ≡ 6 * limit = ap length (w .0) ∙ room-length limit (records (s .working) working) (omega (arith, w .1, w .3)) in
-        ap (λ (n : ℕ). replicate n 0) size ∙ empty-is limit .0
+        ap (λ (n : ℕ). replicate n 0) (room-size limit (s .working) working (shape .working-room) .0) ∙ empty-is limit .0
 
     pub step-more
         : r .answer ≡ StreamAnswer.More →
@@ -161,7 +133,7 @@ module _ (limit : ℕ) (s : Session) (live working hold piece : List ℕ) (at up
         fedSaidBy (FeedAnswer.Stopped (Stop.Stream error)) (r .next) updates (leaves t live working′ hold′) hold′
         ≡ fedTo limit (feedHere limit s live working hold piece at updates)
     step-stop error t working′ a stopping emptied =
-        let told = stop-told (Stop.Stream error) in
+        let told = stop-says (Stop.Stream error) in
         let k : ℕ = told .0 in
         let x : List ℕ = told .1 in
         let end : ended .end ≡ End.stop k x =
@@ -298,13 +270,6 @@ module _ (limit : ℕ) (s : Session) (live working hold piece : List ℕ) (at up
 
 -- ---- the whole feed
 
--- memory of receiver shape is its receiver's
-pub standing : (limit : ℕ) (s : Session) (live working hold : List ℕ) → Shape limit s live working hold → leaves s live working hold ≡ inMemory limit (receiverOf s live working hold)
-standing limit s live working hold shape =
-    let l = room-stands limit (s .live) live (shape .live-room) in
-    let w = room-stands limit (s .working) working (shape .working-room) in
-    left-alike refl refl refl refl (sym (l .1)) (sym (w .1)) (sym (length-take-le (s .held) hold (stream-has hold (s .held) (shape .stream) .1))) (l .0) (w .0) refl
-
 module _ (limit : ℕ) (s : Session) (live working hold piece : List ℕ) where
   pub feed-refused : isReceiver limit s live working hold ≡ false → FeedSays.notAReceiver 0 0 (leaves s live working hold) hold ≡ feedSays limit s live working hold piece
   unfolding feedSays
@@ -323,7 +288,7 @@ module _ (limit : ℕ) (s : Session) (live working hold piece : List ℕ) where
   feed-stopped why e shape =
       let stage : stageOf (Phase.Stopped why) ≡ stageOf (s .phase) = sym (ap stageOf e) in
       let deaf : listens (stageOf (s .phase)) ≡ false = sym (ap listens (sym (stopped-stage why) ∙ stage)) in
-      (λ i. FeedSays.fed 0 0 (endingOf (stage i)) (standing limit s live working hold (shape-of limit s live working hold shape) i))
+      (λ i. FeedSays.fed 0 0 (endingOf (stage i)) (standing limit s live working hold shape i))
       ∙ sym (ap (fedTo limit) (stopped-takes-none limit (length hold) piece (from (receiverOf s live working hold) 0 0) deaf))
       ∙ feed-taken shape
 

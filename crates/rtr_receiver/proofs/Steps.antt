@@ -13,7 +13,6 @@ use lib.Seq.{take-nil, drop-drop}
 use Rattle.rtr_models.specs.declared.RtrPdu.{RtrPdu}
 use Rattle.rtr_codec.specs.Reading.{crate}
 use Rattle.rtr_codec.specs.Read.{Verdict}
-use Rattle.rtr_codec.specs.declared.RtrError.the-variants.{IncompletePdu, InvalidProtocolVersion, InvalidPduType, InvalidLength, RouterKeyInV0, InvalidPrefixLength, InvalidErrorCode, InvalidUtf8}
 use Rattle.rtr_stream.specs.Search.{End, Search, Says, Outcome, isStream, searchFrom, search, saysOf, outcomeOf, lying, streamRefusal, stopsBy, saidBy, searchSaid, bytesOf}
 use Rattle.rtr_stream.specs.declared.StreamError.{StreamError}
 use Rattle.rtr_stream.specs.declared.Lies.{Lies}
@@ -31,6 +30,8 @@ use Rattle.rtr_receiver.specs.declared.LoadKind.{LoadKind}
 use Rattle.rtr_receiver.specs.declared.Stop.{Stop}
 use Rattle.rtr_receiver.specs.declared.Phase.{Phase}
 use Rattle.rtr_receiver.specs.declared.Session.{Session}
+use Rattle.rtr_receiver.proofs.Memory as memory
+use Rattle.rtr_receiver.proofs.Memory.{room-stands, stop-says}
 use Rattle.rtr_receiver.proofs.Good.{Good, changeIn, loadingIn, stoppedIn}
 
 -- ---- tests
@@ -63,33 +64,9 @@ none (x ∷ t) e = absurd (omega arith)
 
 -- ---- the phase in the session record and the phase
 
-stop-is-stopped : (v : Verdict) (k : ℕ) (x : List ℕ) → v ≡ Verdict.refused k x → stoppedBy v ≡ stopped k x
-stop-is-stopped v k x e = ap stoppedBy e
-
--- each stop has its number and values
-pub stop-told : (stop : Stop) → (k : ℕ) × (x : List ℕ) × (stopSaid stop ≡ Verdict.refused k x)
-stop-told (Stop.Stream error) = refusal-told error
-  where
-    refusal-told : (error : StreamError) → (k : ℕ) × (x : List ℕ) × (streamRefusal error ≡ Verdict.refused k x)
-    refusal-told (StreamError.OverHold n) = (_, _, refl)
-    refusal-told (StreamError.Read (IncompletePdu a n)) = (_, _, refl)
-    refusal-told (StreamError.Read (InvalidPduType t)) = (_, _, refl)
-    refusal-told (StreamError.Read (InvalidProtocolVersion v)) = (_, _, refl)
-    refusal-told (StreamError.Read (InvalidErrorCode c)) = (_, _, refl)
-    refusal-told (StreamError.Read (InvalidLength e a t)) = (_, _, refl)
-    refusal-told (StreamError.Read (InvalidPrefixLength l m b)) = (_, _, refl)
-    refusal-told (StreamError.Read InvalidUtf8) = (_, _, refl)
-    refusal-told (StreamError.Read RouterKeyInV0) = (_, _, refl)
-stop-told Stop.OutOfTurn = (_, _, refl)
-stop-told Stop.OtherVersion = (_, _, refl)
-stop-told Stop.OtherSession = (_, _, refl)
-stop-told Stop.NotIn = (_, _, refl)
-stop-told Stop.AlreadyIn = (_, _, refl)
-stop-told Stop.RoomFull = (_, _, refl)
-stop-told (Stop.ErrorReport code) = (_, _, refl)
-
-pub stopped-stage : (stop : Stop) → stageOf (Phase.Stopped stop) ≡ stopped (stop-told stop .0) (stop-told stop .1)
-stopped-stage stop = ap stoppedBy (stop-told stop .2)
+-- a phase that stopped, by the stop's number and values
+pub stopped-stage : (stop : Stop) → stageOf (Phase.Stopped stop) ≡ stopped (stop-says stop .0) (stop-says stop .1)
+stopped-stage stop = ap stoppedBy (stop-says stop .2)
 
 change-alike : (p : Phase) → changeUnderWay p ≡ changeIn (stageOf p)
 change-alike Phase.Idle = refl
@@ -118,15 +95,6 @@ stopped-alike (Phase.Stopped stop) = sym (ap stoppedIn (stopped-stage stop))
 
 -- ---- memory and receiver
 
-pub room-stands : (limit count : ℕ) (s : List ℕ) → isRoom limit count s ≡ true → (s ≡ room limit (records count s)) × (length (records count s) ≡ count) × (isTable (records count s) ≡ true) × (count ≤ limit)
-room-stands limit count s e = go (rules-exactly limit count s .0 e)
-  where
-    go : (t : List Record) × (isTable t ≡ true) × (length t ≡ count) × (count ≤ limit) × (s ≡ room limit t) →
-        (s ≡ room limit (records count s)) × (length (records count s) ≡ count) × (isTable (records count s) ≡ true) × (count ≤ limit)
-    go (t, table, long, fits, is) =
-        let same : records count s ≡ t = ap (λ (n : ℕ). records n s) (sym long) ∙ ap (records (length t)) is ∙ records-of-room limit t in
-        (is ∙ ap (room limit) (sym same), ap length same ∙ long, ap isTable same ∙ table, fits)
-
 -- the four parts of receiver shape
 pub record Shape (limit : ℕ) (s : Session) (live working hold : List ℕ) : Type 0 where
   pub live-room : isRoom limit (s .live) live ≡ true
@@ -136,16 +104,12 @@ pub record Shape (limit : ℕ) (s : Session) (live working hold : List ℕ) : Ty
 
 module _ (limit : ℕ) (s : Session) (live working hold : List ℕ) where
   pub shape-of : isReceiver limit s live working hold ≡ true → Shape limit s live working hold
-  unfolding isReceiver
   shape-of e =
-      let a = both _ _ e in
-      let b = both _ _ (a .1) in
-      let c = both _ _ (b .1) in
-      record { live-room = a .0; working-room = b .0; stream = c .0; order = c .1 }
+      let t = memory.shape-of limit s live working hold e in
+      record { live-room = t .0; working-room = t .1; stream = t .2; order = t .3 }
 
   pub shape-is : Shape limit s live working hold → isReceiver limit s live working hold ≡ true
-  unfolding isReceiver
-  shape-is h = and-is (h .live-room) (and-is (h .working-room) (and-is (h .stream) (h .order)))
+  shape-is h = memory.shape-is limit s live working hold (h .live-room) (h .working-room) (h .stream) (h .order)
 
   -- receiver shape in memory is receiver shape on tables
   pub good-of : Shape limit s live working hold → Good limit (receiverOf s live working hold)
@@ -155,10 +119,10 @@ module _ (limit : ℕ) (s : Session) (live working hold : List ℕ) where
       let o = both _ _ (h .order) in
       let p = both _ _ (o .1) in
       record {
-        live = l .2;
-        live-fits = omega (arith, l .1, l .3);
-        working = w .2;
-        working-fits = omega (arith, w .1, w .3);
+        live = l .4;
+        live-fits = omega (arith, l .1, l .2);
+        working = w .4;
+        working-fits = omega (arith, w .1, w .2);
         tabled = tabled (l .1) (either _ _ (o .0));
         emptied = emptied (w .1) (either _ _ (p .0));
         quiet = quiet (either _ _ (p .1));

@@ -34,7 +34,8 @@ use Rattle.rtr_receiver.specs.declared.Fed.{Fed}
 use Rattle.rtr_receiver.specs.declared.ReconnectAnswer.{ReconnectAnswer}
 use Rattle.rtr_receiver.specs.declared.Reconnected.{Reconnected}
 use Rattle.rtr_receiver.specs.declared.NotifyAnswer.{NotifyAnswer}
-use Rattle.rtr_receiver.proofs.Steps.{stop-told, stopped-stage}
+use Rattle.rtr_receiver.proofs.Memory.{stop-says}
+use Rattle.rtr_receiver.proofs.Steps.{stopped-stage}
 use Rattle.rtr_receiver.proofs.start.Reads as start-reads
 use Rattle.rtr_receiver.proofs.full_ask.Reads as full-reads
 use Rattle.rtr_receiver.proofs.change_ask.Reads as change-reads
@@ -131,10 +132,10 @@ one-left s s′ live live′ working working′ hold hold′ e = (
 
 -- ---- feed
 
-stop-back : (stop : Stop) → stopOf (stop-told stop .0) (stop-told stop .1) ≡ stop
+stop-back : (stop : Stop) → stopOf (stop-says stop .0) (stop-says stop .1) ≡ stop
 unfolding phaseOf
 stop-back stop =
-    let e : Phase.Stopped (stopOf (stop-told stop .0) (stop-told stop .1)) ≡ Phase.Stopped stop = sym (ap phaseOf (stopped-stage stop)) ∙ phase-back (Phase.Stopped stop) in
+    let e : Phase.Stopped (stopOf (stop-says stop .0) (stop-says stop .1)) ≡ Phase.Stopped stop = sym (ap phaseOf (stopped-stage stop)) ∙ phase-back (Phase.Stopped stop) in
     cc
 
 answerIn : Ending → FeedAnswer
