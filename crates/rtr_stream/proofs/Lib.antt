@@ -1,6 +1,7 @@
 -- `Laws` and `Unique` are for readers and other crates; the others are the argument.
 pub mod Laws
 pub mod Unique
+pub mod Calls
 mod Judge
 mod Runs
 mod Turns

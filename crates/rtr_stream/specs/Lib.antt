@@ -1,3 +1,4 @@
 pub mod Stream
 pub mod Search
+pub mod Calls
 pub mod Turns
