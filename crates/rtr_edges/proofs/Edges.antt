@@ -1,4 +1,4 @@
--- Every line of the table holds: each by the sample or the law of the floor that it is about. Assumes nothing.
+-- Every line of the table holds: each by the sample or the law of the floor that it is about; the notify lines are computed. Assumes nothing.
 use mathlib.Core.Path.{_≡_, refl}
 use native.Mathlib.Omega.{arith}
 use lib.ListN.{drop}
@@ -23,7 +23,7 @@ query-at-level-1 =
 
 -- the lines from an unknown type on
 later-edges : AllHold (drop 5 edges)
-later-edges = (type-unknown-read, (key-in-version-0, (code-nine, (copy-past-the-end, (behind-in-crate, (rw behind-in-crate behind-not-written, (query-at-level-1, tt)))))))
+later-edges = (type-unknown-read, (key-in-version-0, (code-nine, (copy-past-the-end, (behind-in-crate, (rw behind-in-crate behind-not-written, (query-at-level-1, (refl, (refl, tt)))))))))
 
 -- document 01's edges hold
 pub edges-hold : AllHold edges

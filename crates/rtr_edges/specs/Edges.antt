@@ -1,4 +1,4 @@
--- Document 01, "Either side of each edge": the lines marked P, as one table. (The notify lines join when the receiver is there.)
+-- Document 01, "Either side of each edge": the lines marked P, as one table.
 use Prim.Native.Nat.{ℕ}
 use mathlib.Core.List.{List, [], _∷_, _++_}
 use mathlib.Core.Path.{_≡_}
@@ -12,15 +12,21 @@ use Rattle.rtr_codec.specs.Read.{Verdict, read}
 use Rattle.rtr_codec.specs.Read.Verdict.{accepted, refused}
 use Rattle.rtr_encode.specs.Encode.{Encoded, encode}
 use Rattle.rtr_encode.specs.Encode.Writing.{written}
+use Rattle.rtr_receiver.specs.Receiver.{Notified, notified}
+use Rattle.rtr_receiver.specs.Receiver.Notified.{newer, undefined}
+use Rattle.rtr_receiver.specs.declared.LiveTable.{LiveTable}
+use Rattle.rtr_receiver.specs.declared.Note.{Note}
 use Rattle.rtr_walk.specs.Walk.{WalkVerdict, walk}
 use Rattle.rtr_walk.specs.Walk.End.{plain}
 use Rattle.rtr_walk.specs.Walk.WalkVerdict.{walked}
 
--- an edge: what a slice reads as; what encoding the PDU read from it into an output says and leaves; how the walk of it ends
+-- an edge: what a slice reads as; what encoding the PDU read from it into an output says and leaves; how the walk of it ends; how a Serial Notify's
+-- serial compares with the table's, under one session
 pub data Edge : Type 0 where
   reads : List ℕ → Verdict → Edge
   recodes : List ℕ → List ℕ → Encoded → Edge
   walks : List ℕ → WalkVerdict → Edge
+  notifies : ℕ → ℕ → Notified → Edge
 
 -- a slice is read, and encoding what was read gives this
 abbrev pub Recodes : List ℕ → List ℕ → Encoded → Verdict → Type 0
@@ -32,6 +38,7 @@ abbrev pub Holds : Edge → Type 0
 Holds (reads s v) = read crate s ≡ v
 Holds (recodes s out left) = Recodes s out left (read crate s)
 Holds (walks s v) = walk crate s ≡ v
+Holds (notifies table serial v) = notified (LiveTable.Known (record { session = 0; serial = table; refresh = 0; retry = 0; expire = 0 })) (Note.Noted 0 serial) ≡ v
 
 abbrev pub AllHold : List Edge → Type 0
 AllHold [] = Unit {0}
@@ -71,4 +78,6 @@ edges =
     ∷ recodes byteBehind (replicate 17 0xaa)
     (record { says = written 16; out = 0x01 ∷ 0x0a ∷ 0x00 ∷ 0x00 ∷ 0x00 ∷ 0x00 ∷ 0x00 ∷ 0x10 ∷ replicate 8 0 ++ (0xaa ∷ []) })
     ∷ walks reportOfQuery (walked 1 (plain RtrPduType.ResetQuery))
+    ∷ notifies 4294967295 0 newer
+    ∷ notifies 0 2147483648 undefined
     ∷ []
