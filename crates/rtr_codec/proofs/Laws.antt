@@ -1,15 +1,16 @@
 -- The laws that higher crates cite of reading, over every `Reading`. A slice is short (no header), cut (fewer bytes than its header names)
 -- or whole; each law goes by these three. Assumes nothing.
-use Prim.Native.Nat.{ℕ, _≤_, _<_}
+use Prim.Native.Nat.{ℕ, zero, suc, _+_, _*_, _^_, _≤_, _<_}
 use mathlib.Core.Bool.{Bool, true, false}
 use mathlib.Core.List.{List, [], _∷_, _++_}
 use mathlib.Core.Logic.{_⊎_, inr}
 use mathlib.Core.Path.{_≡_, refl, sym, ap, _∙_, subst}
+use native.Mathlib.Nat.{pow-suc}
 use native.Mathlib.Omega.{arith}
 use borrow.Author.Tests.{leb-true, leb-false, le-leb, lt-leb}
 use lib.Dec.{leb}
-use lib.ListN.{length, take, drop, length-append, take-append-drop}
-use lib.Seq.{length-take-le}
+use lib.ListN.{length, getD, take, drop, length-append, take-append-drop}
+use lib.Seq.{length-take-le, getD-append-add}
 use Rattle.rtr_models.specs.Codes.{versionFound}
 use Rattle.rtr_models.specs.declared.RtrPdu.{RtrPdu}
 use Rattle.rtr_codec.specs.Bytes.{number}
@@ -58,6 +59,34 @@ needed-short s h = simp (lt-leb 8 (length s) h)
 pub needed-large : (s : List ℕ) → 8 ≤ length s → needed s ≡ headerLength s
 unfolding needed
 needed-large s h = simp (le-leb 8 (length s) h)
+
+-- the header's length is the number in bytes 4 to 7
+pub header-is : (s : List ℕ) → headerLength s ≡ number s 4 4
+unfolding headerLength
+header-is s = refl
+
+-- a number, byte by byte: none is 0, and one byte more is 256 times those before it and that byte
+pub number-none : (s : List ℕ) (at : ℕ) → number s at 0 ≡ 0
+unfolding number
+number-none s at = refl
+
+pub number-more : (s : List ℕ) (at size : ℕ) → number s at (suc size) ≡ number s at size * 256 + getD s (at + size) 0
+unfolding number
+number-more s at size = refl
+
+-- a number of so many bytes fits them
+pub number-fits : (s : List ℕ) → ((i : ℕ) → getD s i 0 < 256) → (at size : ℕ) → number s at size < 256 ^ size
+unfolding number
+number-fits s bs at zero = omega arith
+number-fits s bs at (suc size) = rw pow-suc (omega (arith, bs (at + size), number-fits s bs at size))
+
+-- a number is read of what stands there alone
+pub number-behind-front : (p r : List ℕ) (size : ℕ) → number (p ++ r) (length p) size ≡ number r 0 size
+unfolding number
+number-behind-front p r zero = refl
+number-behind-front p r (suc size) =
+    let i : 0 + size ≡ size = omega arith in
+    cc (number-behind-front p r size, getD-append-add p r size 0)
 
 -- bytes behind a header leave the length that it names
 pub header-stays : (s t : List ℕ) → 8 ≤ length s → headerLength (s ++ t) ≡ headerLength s

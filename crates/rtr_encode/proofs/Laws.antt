@@ -1,14 +1,19 @@
 -- The laws that higher crates cite of encoding, over every `Reading`. Assumes nothing.
-use Prim.Native.Nat.{ℕ}
+use Prim.Native.Nat.{ℕ, zero, suc, _+_, _*_, _/_, _%_, _^_, _<_}
 use mathlib.Core.Bool.{Bool, true, false, cond}
-use mathlib.Core.List.{List, [], _∷_, _++_}
-use mathlib.Core.Path.{_≡_, refl, ap}
+use mathlib.Core.List.{List, [], _∷_, _++_, append-assoc}
+use mathlib.Core.Path.{_≡_, refl, ap, _∙_}
+use native.Mathlib.Nat.{pow-suc}
+use native.Mathlib.Omega.{arith}
 use lib.Dec.{leb}
-use lib.ListN.{length, drop}
+use lib.ListN.{length, getD, drop, length-append}
+use lib.Seq.{getD-at}
+use Rattle.rtr_codec.specs.Bytes.{number}
+use Rattle.rtr_codec.proofs.Laws.{number-none, number-more}
 use Rattle.rtr_models.specs.declared.RtrProtocolVersion.{RtrProtocolVersion}
 use Rattle.rtr_models.specs.declared.RtrPdu.{RtrPdu}
 use Rattle.rtr_codec.specs.Reading.{Reading}
-use Rattle.rtr_encode.specs.Encode.{Writing, unless, placesInside, textIn, encodedLength, encoding, encodeSays, encode, outAfter}
+use Rattle.rtr_encode.specs.Encode.{Writing, bytesOf, unless, placesInside, textIn, encodedLength, encoding, encodeSays, encode, outAfter}
 use Rattle.rtr_encode.specs.Encode.Writing.{written, refused}
 
 -- a refusal writes nothing
@@ -46,3 +51,35 @@ reset-query-says R v out = checked-last (leb 8 (length out)) 8
 pub serial-query-says : (R : Reading) (v : RtrProtocolVersion) (session serial : ℕ) (out : List ℕ) → encode R (RtrPdu.SerialQuery (record { version = v; «session_id» = session; «serial_number» = serial })) [] out .says ≡ cond (leb 12 (length out)) (written 12) (refused 9 (12 ∷ []))
 unfolding encode encodeSays encodedLength
 serial-query-says R v session serial out = checked-last (leb 12 (length out)) 12
+
+-- where something is written, a test before it holds
+test-held : (b : Bool) (k : ℕ) (values : List ℕ) (next : Writing) (n : ℕ) → unless b k values next ≡ written n → (b ≡ true) × (next ≡ written n)
+test-held true k values next n e = (refl, e)
+test-held false k values next n e = absurd (let z : _≡_ {A = ℕ} 0 1 = cc in omega arith)
+
+-- what was written has its payloads in the slice, a text that is UTF-8, and a length that fits 32 bits
+pub written-tests : (R : Reading) (pdu : RtrPdu) (s out : List ℕ) (n : ℕ) → encode R pdu s out .says ≡ written n → (placesInside pdu s ≡ true) × (textIn pdu s ≡ true) × (leb (encodedLength R pdu) 4294967295 ≡ true)
+unfolding encode encodeSays
+written-tests R pdu s out n e =
+    let places = test-held (placesInside pdu s) 11 [] _ n e in
+    let text = test-held (textIn pdu s) 8 [] _ n (places .1) in
+    let short = test-held (leb (encodedLength R pdu) 4294967295) 10 [] _ n (text .1) in
+    (places .0, text .0, short .0)
+
+-- as many bytes as asked for
+pub bytes-long : (size n : ℕ) → length (bytesOf size n) ≡ size
+unfolding bytesOf
+bytes-long zero n = refl
+bytes-long (suc size) n = length-append (bytesOf size (n / 256)) (n % 256 ∷ []) ∙ omega (arith, bytes-long size (n / 256))
+
+-- a number that fits its bytes is read back from them
+pub number-of-bytes : (size n : ℕ) (q : List ℕ) → n < 256 ^ size → number (bytesOf size n ++ q) 0 size ≡ n
+unfolding bytesOf
+number-of-bytes zero n q h = number-none q 0 ∙ omega arith
+number-of-bytes (suc size) n q h =
+    let h′ : n < 256 ^ size * 256 = rw pow-suc at h in
+    let e : bytesOf size (n / 256) ++ (n % 256 ∷ []) ++ q ≡ bytesOf size (n / 256) ++ (n % 256 ∷ q) = append-assoc (bytesOf size (n / 256)) (n % 256 ∷ []) q in
+    let front : number (bytesOf size (n / 256) ++ (n % 256 ∷ q)) 0 size ≡ n / 256 = number-of-bytes size (n / 256) (n % 256 ∷ q) (omega arith) in
+    let last : getD (bytesOf size (n / 256) ++ (n % 256 ∷ q)) (0 + size) 0 ≡ n % 256 =
+    getD-at (bytesOf size (n / 256)) (n % 256) q 0 (0 + size) (omega (arith, bytes-long size (n / 256))) in
+    ap (λ (l : List ℕ). number l 0 (suc size)) e ∙ number-more (bytesOf size (n / 256) ++ (n % 256 ∷ q)) 0 size ∙ rw (front, last) (omega arith)

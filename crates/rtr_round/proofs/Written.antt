@@ -1,40 +1,21 @@
 -- What was written is read where it stands: a number that fits its bytes is read as itself, so the values of written fields are the values
 -- themselves, but for a payload, which is read as the place where it stands; and the length is read at byte 4. `E` is the whole list, of
 -- which `p` is what stands before the fields and `q` what stands behind them. Assumes nothing.
-use Prim.Native.Nat.{ℕ, zero, suc, _+_, _*_, _/_, _%_, _^_, _≤_, _<_}
+use Prim.Native.Nat.{ℕ, _+_, _^_, _≤_, _<_}
 use mathlib.Core.Bool.{false}
 use mathlib.Core.List.{List, [], _∷_, _++_, append-assoc}
 use mathlib.Core.Path.{_≡_, refl, sym, ap, _∙_}
-use native.Mathlib.Nat.{pow-suc}
 use native.Mathlib.Omega.{arith}
 use lib.ListN.{length, getD, take, drop, replicate, length-append, length-replicate}
-use lib.Seq.{getD-at, getD-append-add}
 use Rattle.rtr_codec.specs.Bytes.{number}
+use Rattle.rtr_codec.proofs.Laws.{number-behind-front}
 use Rattle.rtr_codec.specs.Layout.{Field, valuesFrom}
 use Rattle.rtr_codec.specs.Layout.Field.{ignored, total, value, payload}
 use Rattle.rtr_encode.specs.Encode.{bytesOf, fieldBytes}
+use Rattle.rtr_encode.proofs.Laws.{number-of-bytes}
 use Rattle.rtr_round.specs.RoundTrip.{valuesFit}
 use Rattle.rtr_round.proofs.Bytes.{length-bytes, length-part}
 use Rattle.rtr_round.proofs.Fields.{TotalAt4, PayloadsIn}
-
--- a number is read of what stands there alone
-number-behind-front : (p r : List ℕ) (size : ℕ) → number (p ++ r) (length p) size ≡ number r 0 size
-unfolding number
-number-behind-front p r zero = refl
-number-behind-front p r (suc size) =
-    let i : 0 + size ≡ size = omega arith in
-    cc (number-behind-front p r size, getD-append-add p r size 0)
-
-number-of-bytes : (size n : ℕ) (q : List ℕ) → n < 256 ^ size → number (bytesOf size n ++ q) 0 size ≡ n
-unfolding number bytesOf
-number-of-bytes zero n q h = omega arith
-number-of-bytes (suc size) n q h =
-    let h′ : n < 256 ^ size * 256 = rw pow-suc at h in
-    let e : bytesOf size (n / 256) ++ (n % 256 ∷ []) ++ q ≡ bytesOf size (n / 256) ++ (n % 256 ∷ q) = append-assoc (bytesOf size (n / 256)) (n % 256 ∷ []) q in
-    let front : number (bytesOf size (n / 256) ++ (n % 256 ∷ q)) 0 size ≡ n / 256 = number-of-bytes size (n / 256) (n % 256 ∷ q) (omega arith) in
-    let last : getD (bytesOf size (n / 256) ++ (n % 256 ∷ q)) (0 + size) 0 ≡ n % 256 =
-    getD-at (bytesOf size (n / 256)) (n % 256) q 0 (0 + size) (omega (arith, length-bytes size (n / 256))) in
-    rw (e, front, last) (omega arith)
 
 -- a number that fits is read as itself
 pub number-written : (p q : List ℕ) (at size n : ℕ) → length p ≡ at → n < 256 ^ size → number (p ++ (bytesOf size n ++ q)) at size ≡ n
