@@ -57,14 +57,18 @@ test-held : (b : Bool) (k : ℕ) (values : List ℕ) (next : Writing) (n : ℕ) 
 test-held true k values next n e = (refl, e)
 test-held false k values next n e = absurd (let z : _≡_ {A = ℕ} 0 1 = cc in omega arith)
 
--- what was written has its payloads in the slice, a text that is UTF-8, and a length that fits 32 bits
-pub written-tests : (R : Reading) (pdu : RtrPdu) (s out : List ℕ) (n : ℕ) → encode R pdu s out .says ≡ written n → (placesInside pdu s ≡ true) × (textIn pdu s ≡ true) × (leb (encodedLength R pdu) 4294967295 ≡ true)
+-- what was written has its payloads in the slice, a text that is UTF-8, a length that fits 32 bits, and room in the output
+pub written-tests
+    : (R : Reading) (pdu : RtrPdu) (s out : List ℕ) (n : ℕ) →
+    encode R pdu s out .says ≡ written n →
+    (placesInside pdu s ≡ true) × (textIn pdu s ≡ true) × (leb (encodedLength R pdu) 4294967295 ≡ true) × (leb (encodedLength R pdu) (length out) ≡ true)
 unfolding encode encodeSays
 written-tests R pdu s out n e =
     let places = test-held (placesInside pdu s) 11 [] _ n e in
     let text = test-held (textIn pdu s) 8 [] _ n (places .1) in
     let short = test-held (leb (encodedLength R pdu) 4294967295) 10 [] _ n (text .1) in
-    (places .0, text .0, short .0)
+    let room = test-held (leb (encodedLength R pdu) (length out)) 9 (encodedLength R pdu ∷ []) (written (encodedLength R pdu)) n (short .1) in
+    (places .0, text .0, short .0, room .0)
 
 -- as many bytes as asked for
 pub bytes-long : (size n : ℕ) → length (bytesOf size n) ≡ size

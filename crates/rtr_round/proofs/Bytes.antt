@@ -5,16 +5,16 @@ use mathlib.Core.List.{List, [], _∷_, _++_}
 use mathlib.Core.Logic.{_↔_}
 use mathlib.Core.Path.{_≡_, refl, sym, ap, _∙_}
 use native.Mathlib.Omega.{arith}
-use lib.ListN.{length, getD, take, drop, length-append, length-drop}
+use lib.ListN.{length, getD, take, drop, length-drop}
 use lib.Seq.{take-suc, getD-drop, take-at, drop-at, take-add, drop-drop, length-take-le}
 use Rattle.rtr_codec.specs.Bytes.{number}
+use Rattle.rtr_codec.proofs.Laws.{number-fits}
 use Rattle.rtr_encode.specs.Encode.{bytesOf}
+use Rattle.rtr_encode.proofs.Laws.{bytes-long}
 use Rattle.rtr_round.specs.RoundTrip.{Bytes}
 
 pub length-bytes : (size n : ℕ) → length (bytesOf size n) ≡ size
-unfolding bytesOf
-length-bytes zero n = refl
-length-bytes (suc size) n = simp length-append (omega (arith, length-bytes size (n / 256)))
+length-bytes = bytes-long
 
 pub bytes-of-number : (s : List ℕ) → Bytes s → (at size : ℕ) → at + size ≤ length s → bytesOf size (number s at size) ≡ take size (drop at s)
 unfolding bytesOf number
@@ -32,8 +32,7 @@ bytes-of-number s bs at (suc size) h =
 
 -- a number of four bytes fits 32 bits
 pub four-bytes-fit : (s : List ℕ) → Bytes s → (at : ℕ) → number s at 4 ≤ 4294967295
-unfolding number
-four-bytes-fit s bs at = omega (arith, bs (at + 0), bs (at + 1), bs (at + 2), bs (at + 3))
+four-bytes-fit s bs at = omega (arith, number-fits s bs at 4)
 
 -- lists with fronts of one length are the same exactly if their fronts and their rests are
 pub append-same : (a b c d : List ℕ) → length a ≡ length c → (a ++ b ≡ c ++ d) ↔ ((a ≡ c) × (b ≡ d))

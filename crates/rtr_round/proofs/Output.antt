@@ -13,23 +13,15 @@ use Rattle.rtr_models.specs.declared.RtrPdu.{RtrPdu}
 use Rattle.rtr_codec.specs.Reading.{Reading}
 use Rattle.rtr_encode.specs.Encode.{Writing, unless, placesInside, textIn, encodedLength, encoding, encodeSays, encode}
 use Rattle.rtr_encode.specs.Encode.Writing.{written}
-use Rattle.rtr_encode.proofs.Laws.{written-is-encoding, written-length}
+use Rattle.rtr_encode.proofs.Laws.{written-is-encoding, written-length, written-tests}
 use Rattle.rtr_round.proofs.RoundTrip.{length-encoding}
-
-passed : (b : Bool) (k : ℕ) (values : List ℕ) (next : Writing) (n : ℕ) → unless b k values next ≡ written n → (b ≡ true) × (next ≡ written n)
-passed true k values next n e = (refl, e)
-passed false k values next n e = ((cc), (cc))
 
 module _ (R : Reading) (pdu : RtrPdu) (s out : List ℕ) (n : ℕ) (e : encode R pdu s out .says ≡ written n) where
   -- every payload was inside, and there was room
   written-passed : (placesInside pdu s ≡ true) × (encodedLength R pdu ≤ length out)
-  unfolding encode encodeSays
   written-passed =
-      let a = passed (placesInside pdu s) 11 [] _ n e in
-      let b = passed (textIn pdu s) 8 [] _ n (a .1) in
-      let c = passed (leb (encodedLength R pdu) 4294967295) 10 [] _ n (b .1) in
-      let d = passed (leb (encodedLength R pdu) (length out)) 9 (encodedLength R pdu ∷ []) (written (encodedLength R pdu)) n (c .1) in
-      (a .0, leb-true (encodedLength R pdu) (length out) (d .0))
+      let t = written-tests R pdu s out n e in
+      (t .0, leb-true (encodedLength R pdu) (length out) (t .3))
 
   -- as many bytes are written as the encoding has
   pub written-all : length (encoding R pdu s) ≡ n
