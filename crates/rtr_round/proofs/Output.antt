@@ -1,17 +1,16 @@
 -- What a written encoding leaves of the output: exactly its own bytes are written, those behind them stay, and the output is as long as it
 -- was. Assumes nothing.
 use Prim.Native.Nat.{ℕ, _≤_}
-use mathlib.Core.Bool.{Bool, true, false}
-use mathlib.Core.List.{List, [], _∷_}
-use mathlib.Core.Path.{_≡_, refl, ap, _∙_}
+use mathlib.Core.Bool.{true}
+use mathlib.Core.List.{List}
+use mathlib.Core.Path.{_≡_, ap, _∙_}
 use native.Mathlib.Omega.{arith}
 use borrow.Author.Tests.{leb-true}
-use lib.Dec.{leb}
 use lib.ListN.{length, drop, length-append, length-drop}
 use lib.Seq.{drop-at}
 use Rattle.rtr_models.specs.declared.RtrPdu.{RtrPdu}
 use Rattle.rtr_codec.specs.Reading.{Reading}
-use Rattle.rtr_encode.specs.Encode.{Writing, unless, placesInside, textIn, encodedLength, encoding, encodeSays, encode}
+use Rattle.rtr_encode.specs.Encode.{placesInside, encodedLength, encoding, encode}
 use Rattle.rtr_encode.specs.Encode.Writing.{written}
 use Rattle.rtr_encode.proofs.Laws.{written-is-encoding, written-length, written-tests}
 use Rattle.rtr_round.proofs.RoundTrip.{length-encoding}
