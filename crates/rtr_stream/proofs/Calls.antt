@@ -3,19 +3,17 @@
 use Prim.Native.Nat.{ℕ, _+_, _-_, _≤_}
 use mathlib.Core.Bool.{true}
 use mathlib.Core.List.{List, [], _∷_, _++_, append-assoc, append-nil}
-use mathlib.Core.Path.{_≡_, refl, sym, ap, _∙_, subst}
+use mathlib.Core.Path.{_≡_, refl, sym, ap, _∙_}
 use native.Mathlib.Omega.{arith}
 use lib.ListN.{length, take, drop, length-drop}
 use lib.Seq.{drop-drop}
 use Rattle.rtr_models.specs.declared.RtrPdu.{RtrPdu}
 use Rattle.rtr_codec.specs.Reading.{Reading, crate}
-use Rattle.rtr_codec.specs.Read.{Verdict}
 use Rattle.rtr_stream.specs.Stream.{Heard, judge, Found, State, Listened, after, onByteIn, onByte, onPiece, onPieces}
-use Rattle.rtr_stream.specs.Search.{End, Says, Outcome, isStream, over, searchFrom, search, saysOf, outcomeOf, stopsBy, saidBy, searchSaid, streamRefusal, bytesOf}
-use Rattle.rtr_stream.specs.Calls.{Between, Called, Through, Pieces, stateOf}
+use Rattle.rtr_stream.specs.Search.{End, Says, Outcome, isStream, over, searchFrom, saysOf, stopsBy, saidBy, bytesOf}
+use Rattle.rtr_stream.specs.Calls.{Between, Through, Pieces, stateOf}
 use Rattle.rtr_stream.specs.declared.Lies.{Lies}
 use Rattle.rtr_stream.specs.declared.StreamAnswer.{StreamAnswer}
-use Rattle.rtr_stream.specs.declared.Searched.{Searched}
 use Rattle.rtr_stream.proofs.Laws.{joined, cut-anywhere, byEnd, search-is-stream, search-takes, search-is, search-keeps-stream}
 
 -- a stream that stopped takes no byte more

@@ -1,16 +1,16 @@
 -- The laws that higher crates cite of the stream, over every reading and every H. A piece is the fold of its bytes, so a cut anywhere changes nothing;
 -- what is held waits; and anything that goes by the bytes one by one goes by searches (`by-search`): that is the one lemma by which code
 -- that takes runs of bytes is code that takes bytes. Assumes nothing.
-use Prim.Native.Nat.{ℕ, zero, suc, _+_, _-_, _≤_, _<_}
-use mathlib.Core.Bool.{Bool, true, false}
+use Prim.Native.Nat.{ℕ, suc, _+_, _-_, _≤_, _<_}
+use mathlib.Core.Bool.{true}
 use mathlib.Core.List.{List, [], _∷_, _++_}
 use mathlib.Core.Path.{_≡_, refl, sym, ap, _∙_}
 use native.Mathlib.Omega.{arith}
-use lib.ListN.{length, take, drop, length-append}
+use lib.ListN.{length, take, drop}
 use Rattle.rtr_models.specs.declared.RtrPdu.{RtrPdu}
 use Rattle.rtr_codec.specs.Reading.{Reading, crate}
 use Rattle.rtr_codec.specs.Read.{Verdict, read, needed}
-use Rattle.rtr_stream.specs.Stream.{Heard, heardOf, judge, Found, State, Listened, fresh, after, onByteIn, onByte, onPiece, onPieces}
+use Rattle.rtr_stream.specs.Stream.{Heard, judge, Found, State, Listened, fresh, after, onByteIn, onByte, onPiece, onPieces}
 use Rattle.rtr_stream.specs.Stream.Heard.{waits, whole, refused}
 use Rattle.rtr_stream.specs.Search.{End, Search, over, searchFrom, isStream, outcomeOf, search, Outcome, searchSaid}
 use Rattle.rtr_stream.specs.declared.Searched.{Searched}

@@ -4,7 +4,7 @@
 use Prim.Native.Nat.{ℕ, zero, suc, _+_, _-_, _≤_, _<_}
 use mathlib.Core.List.{List, [], _∷_, _++_, append-assoc, append-nil}
 use mathlib.Core.Logic.{_⊎_, inl, inr}
-use mathlib.Core.Path.{_≡_, refl, sym, ap, _∙_, subst}
+use mathlib.Core.Path.{_≡_, sym, ap, _∙_, subst}
 use native.Mathlib.Nat.{add-zero}
 use native.Mathlib.Omega.{arith}
 use lib.ListN.{length, getD, take, drop, length-append, take-append-drop}
@@ -13,7 +13,7 @@ use Rattle.rtr_codec.specs.Reading.{Reading}
 use Rattle.rtr_codec.specs.Read.{headerLength}
 use Rattle.rtr_codec.proofs.Laws.{header-stays}
 use Rattle.rtr_stream.specs.Stream.{judge}
-use Rattle.rtr_stream.specs.Search.{Search, over, searchFrom}
+use Rattle.rtr_stream.specs.Search.{over, searchFrom}
 use Rattle.rtr_stream.specs.Search.End.{more}
 use Rattle.rtr_stream.proofs.Judge.{InRange, Waiting, few-or-many, waiting-waits}
 use Rattle.rtr_stream.proofs.Judge.Waiting.{short, cut}

@@ -1,7 +1,7 @@
 -- `from_piece`: with nothing held, what is left of the piece is judged where it lies: no header yet, a length that is refused, a PDU cut off by the
 -- piece's end, or a whole one. Assumes nothing.
 use mathlib.Core.Path.{_≡_, refl, sym, ap, _∙_}
-use Prim.Native.Nat.{_+_, _-_, _≤_, _<_}
+use Prim.Native.Nat.{_+_, _-_}
 use native.Mathlib.Omega.{arith}
 use denote.Ref.{now}
 use lib.ListN.{length, getD, take, drop, length-drop}

@@ -1,7 +1,6 @@
 -- `test_length` goes by the definition's three tests, in their order. Assumes nothing.
 use borrow.Author.Tests.{le-leb, lt-leb}
 use borrow.Author.Needs.{needs}
-use Rattle.rtr_stream.specs.Stream.{longest}
 use Rattle.rtr_stream.proofs.test_length.Statement.{statement}
 use Rattle.rtr_stream.proofs.test_length.Tie as tie
 
