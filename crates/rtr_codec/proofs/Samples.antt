@@ -8,12 +8,14 @@ use lib.ListN.{drop, replicate}
 use Rattle.rtr_text.proofs.Laws.{empty-is-well-formed}
 use Rattle.rtr_models.specs.declared.RtrProtocolVersion.the-variants.{V0, V1}
 use Rattle.rtr_models.specs.declared.RtrErrorCode.the-variants.{CorruptData, UnexpectedProtocolVersion}
-use Rattle.rtr_models.specs.declared.RtrPdu.the-variants.{ResetQuery, RouterKey, ErrorReport}
+use Rattle.rtr_models.specs.declared.Interval.{Interval}
+use Rattle.rtr_models.specs.declared.RtrPdu.{RtrPdu}
+use Rattle.rtr_models.specs.declared.RtrPdu.the-variants.{ResetQuery, CacheResponse, IPv4Prefix, EndOfData, RouterKey, ErrorReport}
 use Rattle.rtr_codec.specs.Bytes.{number}
 use Rattle.rtr_codec.specs.Reading.{rfc, crate}
 use Rattle.rtr_codec.specs.Departures.{applies}
 use Rattle.rtr_codec.specs.Departures.Departure.{codeEightInV0, bytesBehindText, keyByCrate}
-use Rattle.rtr_codec.specs.Read.{headerLength, readResetQuery, readRouterKey, readText, readEncapsulated, readCode, readErrorReport, readAs, readTyped, readVersioned, read}
+use Rattle.rtr_codec.specs.Read.{headerLength, readResetQuery, readCacheResponse, readIPv4Prefix, readEndOfData, readRouterKey, readText, readEncapsulated, readCode, readErrorReport, readAs, readTyped, readVersioned, read}
 use Rattle.rtr_codec.specs.Read.Verdict.{accepted, refused}
 
 -- a version 0 report of code 8, with nothing in it
@@ -132,3 +134,63 @@ pub report-of-query : read crate
     24
 unfolding number headerLength readText readEncapsulated readCode readErrorReport readAs readTyped readVersioned read
 report-of-query = rw empty-is-well-formed refl
+
+-- Document 01, The listing: its input's three PDUs, the prefix withdrawn, and an End of Data of serial 8 and one of another session. rtr_receiver's worked histories cite
+-- them.
+
+abbrev pub responseBytes : List ℕ
+responseBytes = 0x01 ∷ 0x03 ∷ 0x12 ∷ 0x34 ∷ 0x00 ∷ 0x00 ∷ 0x00 ∷ 0x08 ∷ []
+
+-- a prefix with these flags: 192.0.2.0/24, max 24, AS 64496
+abbrev pub prefixBytes : ℕ → List ℕ
+prefixBytes flags =
+    0x01 ∷ 0x04 ∷ 0x00 ∷ 0x00 ∷ 0x00 ∷ 0x00 ∷ 0x00 ∷ 0x14
+    ∷ flags ∷ 0x18 ∷ 0x18 ∷ 0x00 ∷ 0xc0 ∷ 0x00 ∷ 0x02 ∷ 0x00 ∷ 0x00 ∷ 0x00 ∷ 0xfb ∷ 0xf0 ∷ []
+
+-- an End of Data, of the two bytes of its session and the last byte of its serial; 3,600, 600 and 7,200 seconds
+abbrev pub endBytes : ℕ → ℕ → ℕ → List ℕ
+endBytes high low serial =
+    0x01 ∷ 0x07 ∷ high ∷ low ∷ 0x00 ∷ 0x00 ∷ 0x00 ∷ 0x18 ∷ 0x00 ∷ 0x00 ∷ 0x00 ∷ serial
+    ∷ 0x00 ∷ 0x00 ∷ 0x0e ∷ 0x10 ∷ 0x00 ∷ 0x00 ∷ 0x02 ∷ 0x58 ∷ 0x00 ∷ 0x00 ∷ 0x1c ∷ 0x20 ∷ []
+
+abbrev pub responsePdu : RtrPdu
+responsePdu = CacheResponse (record { version = V1; «session_id» = 4660 })
+
+abbrev pub prefixPdu : ℕ → RtrPdu
+prefixPdu flags = IPv4Prefix (record { version = V1; flags = flags; «prefix_length» = 24; «max_length» = 24; prefix = 3221225984; asn = 64496 })
+
+abbrev pub endPdu : ℕ → ℕ → RtrPdu
+endPdu session serial =
+    EndOfData
+    (record {
+      version = V1;
+      «session_id» = session;
+      «serial_number» = serial;
+      «refresh_interval» = Interval.Seconds 3600;
+      «retry_interval» = Interval.Seconds 600;
+      «expire_interval» = Interval.Seconds 7200;
+    })
+
+pub response-read : read crate responseBytes ≡ accepted responsePdu 8
+unfolding number headerLength readCacheResponse readAs readTyped readVersioned read
+response-read = refl
+
+pub announced-read : read crate (prefixBytes 1) ≡ accepted (prefixPdu 1) 20
+unfolding number headerLength readIPv4Prefix readAs readTyped readVersioned read
+announced-read = refl
+
+pub withdrawn-read : read crate (prefixBytes 0) ≡ accepted (prefixPdu 0) 20
+unfolding number headerLength readIPv4Prefix readAs readTyped readVersioned read
+withdrawn-read = refl
+
+pub end-read : read crate (endBytes 0x12 0x34 7) ≡ accepted (endPdu 4660 7) 24
+unfolding number headerLength readEndOfData readAs readTyped readVersioned read
+end-read = refl
+
+pub later-end-read : read crate (endBytes 0x12 0x34 8) ≡ accepted (endPdu 4660 8) 24
+unfolding number headerLength readEndOfData readAs readTyped readVersioned read
+later-end-read = refl
+
+pub other-end-read : read crate (endBytes 0x12 0x35 7) ≡ accepted (endPdu 4661 7) 24
+unfolding number headerLength readEndOfData readAs readTyped readVersioned read
+other-end-read = refl

@@ -1,6 +1,6 @@
 -- What each deed leaves in memory stands for what the definition makes of the receiver: a room that keeps the rules is the room of its records, so
 -- the laws of rooms say what a call makes of it. Assumes nothing.
-use Prim.Native.Nat.{ℕ, _*_, _≤_}
+use Prim.Native.Nat.{ℕ, _*_}
 use mathlib.Core.Bool.{Bool, true, cond}
 use mathlib.Core.List.{List, [], _∷_}
 use mathlib.Core.Logic.{⊎-elim}
@@ -13,7 +13,7 @@ use lib.ListN.{length, take, replicate}
 use Rattle.rtr_models.specs.Values.{secondsOr}
 use Rattle.rtr_models.specs.declared.RtrEndOfData.{RtrEndOfData}
 use Rattle.rtr_codec.specs.Read.{Verdict}
-use Rattle.rtr_room.specs.Table.{Change, ordered, enter, leave}
+use Rattle.rtr_room.specs.Table.{Change, enter, leave}
 use Rattle.rtr_room.specs.Room.{room, records, isRoom, Said, Outcome, keeps, entered, gone, outcomeOf, enterSaid, leaveSaid, copied}
 use Rattle.rtr_room.specs.Room.Said.{counted, refusedBy}
 use Rattle.rtr_room.specs.declared.Record.{Record}
@@ -22,7 +22,7 @@ use Rattle.rtr_room.specs.declared.LeaveAnswer.{LeaveAnswer}
 use Rattle.rtr_room.proofs.Laws.{room-length, empty-is, copy-is, enter-is, leave-is, enter-refuses, leave-refuses, changed-is, refused-is}
 use Rattle.rtr_receiver.specs.Receiver.{Stage, Receiver, Deed, stop, startLoad, onCacheResponse, onChangeResponse, changedTo, onRecord, onRouterKey, onCacheReset, finish, noUpdate, onEndOfData}
 use Rattle.rtr_receiver.specs.Receiver.Stage.{idle, mustReset, askedFull, askedChange, loading, stopped}
-use Rattle.rtr_receiver.specs.Promises.{Left, stopSaid, stoppedBy, stageOf, receiverOf, leaves, inMemory}
+use Rattle.rtr_receiver.specs.Promises.{stopSaid, stoppedBy, stageOf, receiverOf, leaves, inMemory}
 use Rattle.rtr_receiver.specs.Private.{BothRooms, Stands, Did, stoppedSession}
 use Rattle.rtr_receiver.specs.declared.LoadKind.{LoadKind}
 use Rattle.rtr_receiver.specs.declared.Stop.{Stop}

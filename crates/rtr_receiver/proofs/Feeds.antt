@@ -10,7 +10,7 @@ use Rattle.rtr_codec.specs.Reading.{crate}
 use Rattle.rtr_stream.specs.Stream.{Heard, judge}
 use Rattle.rtr_stream.specs.Search.{End, Search, searchFrom}
 use Rattle.rtr_stream.proofs.Laws.{byHeard, byEnd, by-search}
-use Rattle.rtr_receiver.specs.Receiver.{Receiver, Deed, Feed, holding, stop, onPdu, heard, listens, onByte, onPiece}
+use Rattle.rtr_receiver.specs.Receiver.{Receiver, Feed, holding, stop, onPdu, heard, listens, onByte, onPiece}
 
 -- a feed at a place, with so many updates behind it
 abbrev pub from : Receiver → ℕ → ℕ → Feed

@@ -1,12 +1,12 @@
 -- Receiver shape on tables: what a receiver's parts have to do with each other, kept by every PDU and every stop. Assumes nothing.
-use Prim.Native.Nat.{ℕ, zero, suc, _≤_}
-use mathlib.Core.Bool.{Bool, true, false, cond, _&&_}
-use mathlib.Core.List.{List, [], _∷_}
+use Prim.Native.Nat.{ℕ, _≤_}
+use mathlib.Core.Bool.{Bool, true, false, cond}
+use mathlib.Core.List.{List, []}
 use mathlib.Core.Logic.{_⊎_, inl, inr}
-use mathlib.Core.Path.{_≡_, refl, sym, ap, _∙_, subst}
+use mathlib.Core.Path.{_≡_, refl, sym, ap, _∙_}
 use native.Mathlib.Omega.{arith}
 use borrow.Author.Tests.{le-leb}
-use lib.Dec.{eqb, leb}
+use lib.Dec.{eqb}
 use lib.ListN.{length}
 use Rattle.rtr_models.specs.Codes.{versionNumber}
 use Rattle.rtr_models.specs.Values.{announces}
@@ -17,7 +17,7 @@ use Rattle.rtr_codec.proofs.Rules.{LengthsInRule}
 use Rattle.rtr_room.specs.Table.{Change, enter, leave, isTable, inRule, ipv4Record, ipv6Record}
 use Rattle.rtr_room.specs.declared.Record.{Record}
 use Rattle.rtr_room.proofs.Laws.{enter-keeps, leave-keeps, ipv4-in-rule, ipv6-in-rule, empty-table}
-use Rattle.rtr_receiver.specs.Receiver.{Stage, Receiver, Deed, fresh, stop, onSerialNotify, startLoad, onChangeResponse, onCacheResponse, changedTo, onRecord, onRouterKey, onCacheReset, finish, onEndOfData, onKind, ofVersion, onPdu}
+use Rattle.rtr_receiver.specs.Receiver.{Stage, Receiver, Deed, fresh, stop, onSerialNotify, startLoad, onChangeResponse, onCacheResponse, changedTo, onRecord, onRouterKey, onCacheReset, finish, onEndOfData, onKind, onPdu}
 use Rattle.rtr_receiver.specs.Receiver.Stage.{idle, mustReset, askedFull, askedChange, loading, stopped}
 use Rattle.rtr_receiver.specs.Promises.{hasTable}
 use Rattle.rtr_receiver.specs.declared.LoadKind.{LoadKind}

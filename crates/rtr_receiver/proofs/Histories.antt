@@ -8,8 +8,6 @@ use mathlib.Core.Path.{_≡_, refl, sym, ap, _∙_, subst}
 use native.Mathlib.Omega.{arith}
 use lib.Dec.{eqb, leb}
 use lib.ListN.{length}
-use Rattle.rtr_models.specs.Codes.{versionNumber}
-use Rattle.rtr_models.specs.Values.{announces, versionOf}
 use Rattle.rtr_models.specs.declared.RtrProtocolVersion.{RtrProtocolVersion}
 use Rattle.rtr_models.specs.declared.RtrEndOfData.{RtrEndOfData}
 use Rattle.rtr_models.specs.declared.RtrPdu.{RtrPdu}
@@ -20,8 +18,8 @@ use Rattle.rtr_encode.proofs.Laws.{reset-query-says, serial-query-says}
 use Rattle.rtr_stream.specs.Stream.{Heard, judge}
 use Rattle.rtr_room.specs.Table.{Change, enter, leave}
 use Rattle.rtr_room.specs.declared.Record.{Record}
-use Rattle.rtr_receiver.specs.Receiver.{Stage, Receiver, Deed, Feed, holding, stop, startLoad, onChangeResponse, onCacheResponse, changedTo, onRecord, onRouterKey, onCacheReset, finish, tableFrom, onEndOfData, onKind, onPdu, heard, listens, onByte, onPiece, inStage, Query, resetQuery, fullQuery, serialQuery, changeQuery, Asked, askedBy, ask, reconnected}
-use Rattle.rtr_receiver.specs.History.{Event, Changed, Update, Live, Item, Place, Next, applied, kept, withAll, base, updated, tableFromOn, itemsBy, items, isKnown, onAsk, ofSession, onResponse, takenIn, onPrefix, onKey, onReset, onEnd, onTold, ofVersion, onPduAt, onItem, orFinished, updates}
+use Rattle.rtr_receiver.specs.Receiver.{Stage, Receiver, Deed, holding, stop, startLoad, onChangeResponse, onCacheResponse, changedTo, onRecord, onRouterKey, onCacheReset, finish, onEndOfData, onKind, onPdu, heard, listens, onByte, onPiece, inStage, Query, resetQuery, fullQuery, serialQuery, changeQuery, askedBy, ask, reconnected}
+use Rattle.rtr_receiver.specs.History.{Event, Changed, Update, Live, Item, Place, Next, applied, kept, withAll, base, updated, tableFromOn, itemsBy, items, isKnown, ofSession, onResponse, takenIn, onPrefix, onKey, onReset, tableFrom, onEnd, onTold, ofVersion, onPduAt, onItem, orFinished, updates}
 use Rattle.rtr_receiver.specs.History.Next.{goes, finishes}
 use Rattle.rtr_receiver.specs.Runs.{bytes}
 use Rattle.rtr_receiver.specs.declared.LoadKind.{LoadKind}

@@ -1,17 +1,16 @@
 -- The laws that higher crates and readers cite of the receiver's calls, over every limit: a refused call changes nothing, a stop clears and repeats, every call
 -- keeps receiver shape. Assumes nothing.
 use Prim.Native.Nat.{ℕ}
-use mathlib.Core.Bool.{Bool, true, false, cond}
+use mathlib.Core.Bool.{true, false}
 use mathlib.Core.List.{List, []}
-use mathlib.Core.Path.{_≡_, refl, sym, ap, _∙_}
+use mathlib.Core.Path.{_≡_, refl}
 use native.Mathlib.Omega.{arith}
-use lib.ListN.{length}
 use Rattle.rtr_models.specs.declared.RtrProtocolVersion.{RtrProtocolVersion}
 use Rattle.rtr_encode.specs.Encode.{Writing, encode}
 use Rattle.rtr_encode.proofs.Laws.{refused-keeps-output}
 use Rattle.rtr_codec.specs.Reading.{crate}
-use Rattle.rtr_receiver.specs.Receiver.{Stage, Receiver, Feed, Query, Asked, feed, stop, listens, askedBy, ask}
-use Rattle.rtr_receiver.specs.Promises.{FeedSays, StartSays, isReceiver, leaves, feedSays, startSays}
+use Rattle.rtr_receiver.specs.Receiver.{Receiver, Query, feed, stop, listens, askedBy, ask}
+use Rattle.rtr_receiver.specs.Promises.{FeedSays, isReceiver, leaves, feedSays}
 use Rattle.rtr_receiver.specs.Runs.{Call, Memory, Run}
 use Rattle.rtr_receiver.specs.declared.Session.{Session}
 use Rattle.rtr_receiver.proofs.Feeds.{from, stopped-takes-none}

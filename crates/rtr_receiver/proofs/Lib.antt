@@ -1,4 +1,4 @@
--- `Laws`, `Histories`, `Shape` and `Unique` are for readers and other crates; the others are the argument.
+-- `Laws`, `Shape`, `Unique`, `Runs` (demand 3) and `Examples` are for readers and other crates; the others are the argument.
 pub mod Memory
 pub mod Shape
 mod Calls
@@ -12,3 +12,4 @@ pub mod Laws
 pub mod Unique
 pub mod Histories
 pub mod Runs
+pub mod Examples

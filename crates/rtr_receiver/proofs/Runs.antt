@@ -4,35 +4,31 @@ use Prim.Native.Nat.{ℕ, _+_, _*_, _≤_}
 use mathlib.Core.Bool.{Bool, true, false, cond, _&&_}
 use mathlib.Core.List.{List, [], _∷_, _++_, append-assoc, append-nil}
 use mathlib.Core.Logic.{_⊎_, inl, inr, _↔_}
-use mathlib.Core.Path.{_≡_, refl, sym, ap, _∙_, subst}
+use mathlib.Core.Path.{_≡_, refl, sym, ap, _∙_}
 use native.Mathlib.Omega.{arith}
-use borrow.Author.Tests.{leb-true, eqb-true}
+use borrow.Author.Tests.{leb-true}
 use lib.Dec.{eqb, leb}
 use lib.ListN.{length, take}
 use Rattle.rtr_models.specs.declared.RtrProtocolVersion.{RtrProtocolVersion}
-use Rattle.rtr_models.specs.declared.RtrPdu.{RtrPdu}
 use Rattle.rtr_models.specs.declared.RtrPdu.the-variants.{ResetQuery, SerialQuery}
 use Rattle.rtr_codec.specs.Reading.{crate}
 use Rattle.rtr_codec.proofs.Rules.{LengthsInRule, accepted-in-rule}
 use Rattle.rtr_encode.specs.Encode.{Writing, encode}
 use Rattle.rtr_stream.specs.Stream.{Heard, judge}
-use Rattle.rtr_stream.specs.Search.{isStream}
-use Rattle.rtr_stream.proofs.Laws.{nothing-waits, whole-is-read, stream-has, stream-exactly, waits-fits}
+use Rattle.rtr_stream.proofs.Laws.{nothing-waits, whole-is-read, stream-exactly, waits-fits}
 use Rattle.rtr_room.proofs.Laws.{empty-table}
-use Rattle.rtr_receiver.specs.Receiver.{Stage, Receiver, Feed, Query, Asked, fresh, holding, inStage, stop, heard, listens, onPdu, onByte, onPiece, feed, fullQuery, changeQuery, resetQuery, serialQuery, askedBy, ask, reconnected}
-use Rattle.rtr_receiver.specs.History.{Event, Update, Live, Place, Item, noTable, tableFromOn, tableOf, updated, items, updates, finished}
-use Rattle.rtr_receiver.specs.Promises.{Left, FeedSays, StartSays, AskSays, ReconnectSays, receiverOf, isReceiver, leaves, inMemory, fedTo, feedSays, fedSaid, fedSaidBy, startSays, startSaid, askedTo, askSays, fullAskSays, changeAskSays, askSaid, reconnectSays, reconnectSaid, hasTable}
+use Rattle.rtr_receiver.specs.Receiver.{Stage, Receiver, Feed, fresh, holding, inStage, heard, listens, onByte, onPiece, feed, fullQuery, changeQuery, serialQuery, askedBy, ask, reconnected}
+use Rattle.rtr_receiver.specs.History.{Event, Update, Live, Place, noTable, tableFromOn, tableOf, updated, items, updates, finished}
+use Rattle.rtr_receiver.specs.Promises.{Left, StartSays, AskSays, ReconnectSays, receiverOf, isReceiver, leaves, inMemory, fedTo, feedSays, fedSaidBy, startSays, startSaid, askedTo, fullAskSays, changeAskSays, reconnectSays, hasTable}
 use Rattle.rtr_receiver.specs.Runs.{Call, Memory, Step, Run, bytes, historyOf, liveIn}
 use Rattle.rtr_receiver.specs.declared.LoadKind.{LoadKind}
-use Rattle.rtr_receiver.specs.declared.Table.{Table}
 use Rattle.rtr_receiver.specs.declared.LiveTable.{LiveTable}
 use Rattle.rtr_receiver.specs.declared.Done.{Done}
 use Rattle.rtr_receiver.specs.declared.FeedAnswer.{FeedAnswer}
-use Rattle.rtr_receiver.specs.declared.Session.{Session}
 use Rattle.rtr_receiver.specs.declared.StartAnswer.{StartAnswer}
 use Rattle.rtr_receiver.proofs.Feeds.{from}
 use Rattle.rtr_receiver.proofs.Good.{Good, fresh-good, stop-good, pdu-good, changeIn, loadingIn, stoppedIn}
-use Rattle.rtr_receiver.proofs.Steps.{Shape, shape-of, shape-is, good-of, shape-of-good, stands-for}
+use Rattle.rtr_receiver.proofs.Steps.{shape-is, shape-of-good, stands-for}
 use Rattle.rtr_receiver.proofs.Histories.{At, liveOf, outcome, told-drops, byte-follows, piece-follows, full-follows, change-follows, reconnect-follows}
 
 module _ (limit H : ℕ) where

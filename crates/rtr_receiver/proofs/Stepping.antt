@@ -1,37 +1,35 @@
 -- What a step of a feed comes to, by what the search found. Assumes nothing.
-use Prim.Native.Nat.{ℕ, _+_, _-_, _*_, _≤_, _<_}
-use mathlib.Core.Bool.{Bool, true, false}
+use Prim.Native.Nat.{ℕ, _+_, _-_, _≤_, _<_}
+use mathlib.Core.Bool.{true, false}
 use mathlib.Core.List.{List, [], _∷_}
 use mathlib.Core.Logic.{inr}
-use mathlib.Core.Path.{_≡_, refl, sym, ap, _∙_, subst}
+use mathlib.Core.Path.{_≡_, refl, sym, ap, _∙_}
 use native.Mathlib.Omega.{arith}
 use denote.Enum.Declared.{tagOf}
 use types.Run.{OneOf, miss}
 use lib.ListN.{length, take, drop, replicate, length-drop}
-use lib.Seq.{take-nil, drop-drop, length-take-le}
+use lib.Seq.{take-nil, drop-drop}
 use Rattle.rtr_models.specs.declared.RtrPdu.{RtrPdu}
 use Rattle.rtr_codec.specs.Reading.{crate}
-use Rattle.rtr_codec.specs.Read.{Verdict}
 use Rattle.rtr_codec.proofs.Rules.{LengthsInRule, accepted-in-rule}
 use Rattle.rtr_stream.specs.Stream.{judge}
-use Rattle.rtr_stream.specs.Search.{End, Search, Says, Outcome, isStream, searchFrom, search, saysOf, outcomeOf, lying, streamRefusal, stopsBy, saidBy, searchSaid, bytesOf}
+use Rattle.rtr_stream.specs.Search.{End, Search, Says, Outcome, isStream, searchFrom, search, saysOf, outcomeOf, streamRefusal, stopsBy, saidBy, searchSaid, bytesOf}
 use Rattle.rtr_stream.specs.declared.StreamError.{StreamError}
 use Rattle.rtr_stream.specs.declared.Lies.{Lies}
 use Rattle.rtr_stream.specs.declared.StreamAnswer.{StreamAnswer}
 use Rattle.rtr_stream.specs.declared.Searched.{Searched}
 use Rattle.rtr_stream.proofs.Laws.{stream-has, stream-exactly, search-is, search-takes, search-moves, found-is-read, nothing-waits}
-use Rattle.rtr_room.specs.Room.{room, records, isRoom}
-use Rattle.rtr_room.proofs.Laws.{room-length, empty-is}
-use Rattle.rtr_receiver.specs.Receiver.{Stage, Receiver, Deed, Feed, holding, stop, listens, onPdu, onPiece, feed}
+use Rattle.rtr_room.specs.Room.{room, records}
+use Rattle.rtr_room.proofs.Laws.{empty-is}
+use Rattle.rtr_receiver.specs.Receiver.{Stage, Receiver, Deed, holding, stop, listens, onPdu, onPiece, feed}
 use Rattle.rtr_receiver.specs.Receiver.Stage.{idle, mustReset, askedFull, askedChange, loading, stopped}
 use Rattle.rtr_receiver.specs.Promises.{Ending, FeedSays, stopSaid, stoppedBy, stageOf, receiverOf, isReceiver, endingOf, Left, leaves, inMemory, fedTo, feedSays, fedSaidBy}
-use Rattle.rtr_receiver.specs.Private.{BothRooms, Did, feedHere, SteppedTo, stoppedSession, goesOnIn}
+use Rattle.rtr_receiver.specs.Private.{Did, feedHere, SteppedTo, stoppedSession, goesOnIn}
 use Rattle.rtr_receiver.specs.declared.Stop.{Stop}
 use Rattle.rtr_receiver.specs.declared.Phase.{Phase}
 use Rattle.rtr_receiver.specs.declared.Session.{Session}
 use Rattle.rtr_receiver.specs.declared.FeedAnswer.{FeedAnswer}
 use Rattle.rtr_receiver.specs.declared.DeedDone.{DeedDone}
-use Rattle.rtr_receiver.specs.declared.Then.{Then}
 use Rattle.rtr_receiver.proofs.Phase as phase-enum
 use Rattle.rtr_receiver.proofs.Feeds.{from, stopped-takes-none, fed-more, fed-pdu, fed-stop}
 use Rattle.rtr_receiver.proofs.Good.{Good, pdu-good}

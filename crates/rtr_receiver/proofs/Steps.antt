@@ -1,31 +1,20 @@
 -- A step of a feed, in the code's words and in the definition's: what the search found decides, and memory that stands for a receiver stands for what the
 -- receiver becomes. Assumes nothing.
-use Prim.Native.Nat.{ℕ, zero, suc, _+_, _-_, _*_, _≤_, _<_}
-use mathlib.Core.Bool.{Bool, true, false, not, cond, _&&_, _||_}
-use mathlib.Core.List.{List, [], _∷_, _++_}
+use Prim.Native.Nat.{ℕ, _-_}
+use mathlib.Core.Bool.{Bool, true, false, not, _&&_, _||_}
+use mathlib.Core.List.{List, [], _∷_}
 use mathlib.Core.Logic.{_⊎_, inl, inr}
-use mathlib.Core.Path.{_≡_, refl, sym, ap, _∙_, subst}
+use mathlib.Core.Path.{_≡_, refl, sym, ap, _∙_}
 use native.Mathlib.Omega.{arith}
 use borrow.Author.Tests.{eq-eqb, eqb-true}
 use lib.Dec.{eqb}
-use lib.ListN.{length, take, drop, length-drop}
-use lib.Seq.{take-nil, drop-drop}
-use Rattle.rtr_models.specs.declared.RtrPdu.{RtrPdu}
-use Rattle.rtr_codec.specs.Reading.{crate}
-use Rattle.rtr_codec.specs.Read.{Verdict}
-use Rattle.rtr_stream.specs.Search.{End, Search, Says, Outcome, isStream, searchFrom, search, saysOf, outcomeOf, lying, streamRefusal, stopsBy, saidBy, searchSaid, bytesOf}
-use Rattle.rtr_stream.specs.declared.StreamError.{StreamError}
-use Rattle.rtr_stream.specs.declared.Lies.{Lies}
-use Rattle.rtr_stream.specs.declared.StreamAnswer.{StreamAnswer}
-use Rattle.rtr_stream.specs.declared.Searched.{Searched}
-use Rattle.rtr_stream.proofs.Laws.{stream-has, search-is}
-use Rattle.rtr_room.specs.Room.{room, records, isRoom}
-use Rattle.rtr_room.specs.Table.{isTable}
-use Rattle.rtr_room.specs.declared.Record.{Record}
+use lib.ListN.{length, take}
+use Rattle.rtr_stream.specs.Search.{isStream}
+use Rattle.rtr_room.specs.Room.{records, isRoom}
 use Rattle.rtr_room.proofs.Laws.{rules-exactly, records-of-room}
-use Rattle.rtr_receiver.specs.Receiver.{Stage, Receiver, listens}
-use Rattle.rtr_receiver.specs.Receiver.Stage.{idle, mustReset, askedFull, askedChange, loading, stopped}
-use Rattle.rtr_receiver.specs.Promises.{stopSaid, stoppedBy, stageOf, receiverOf, hasTable, changeUnderWay, isLoading, isStopped, inOrder, isReceiver, Left, leaves, inMemory}
+use Rattle.rtr_receiver.specs.Receiver.{Receiver}
+use Rattle.rtr_receiver.specs.Receiver.Stage.{stopped}
+use Rattle.rtr_receiver.specs.Promises.{stoppedBy, stageOf, receiverOf, hasTable, changeUnderWay, isLoading, isStopped, inOrder, isReceiver, Left, leaves, inMemory}
 use Rattle.rtr_receiver.specs.declared.LoadKind.{LoadKind}
 use Rattle.rtr_receiver.specs.declared.Stop.{Stop}
 use Rattle.rtr_receiver.specs.declared.Phase.{Phase}

@@ -2,7 +2,7 @@
 -- are"). A session record is told from what it leaves: the phase by its name, a stop by its number and values. Assumes nothing.
 use Prim.Native.Nat.{ℕ}
 use mathlib.Core.Bool.{cond}
-use mathlib.Core.List.{List, [], _∷_}
+use mathlib.Core.List.{List, []}
 use mathlib.Core.Path.{_≡_, refl, sym, ap, _∙_}
 use denote.Ref.{now}
 use lib.Dec.{eqb}
@@ -12,7 +12,6 @@ use Rattle.rtr_models.specs.Codes.{codeFound, codeNumber}
 use Rattle.rtr_models.specs.declared.RtrErrorCode.{RtrErrorCode}
 use Rattle.rtr_models.specs.declared.RtrErrorCode.the-variants.{CorruptData, InternalError, NoDataAvailable, InvalidRequest, UnsupportedProtocolVersion, UnsupportedPduType, WithdrawalOfUnknownRecord, DuplicateAnnouncementReceived, UnexpectedProtocolVersion}
 use Rattle.rtr_models.specs.declared.CodeFound.{CodeFound}
-use Rattle.rtr_codec.specs.Read.{Verdict}
 use Rattle.rtr_codec.specs.declared.RtrError.the-variants.{IncompletePdu, InvalidProtocolVersion, InvalidPduType, InvalidLength, RouterKeyInV0, InvalidPrefixLength, InvalidErrorCode, InvalidUtf8}
 use Rattle.rtr_encode.specs.Encode.{Writing}
 use Rattle.rtr_encode.specs.declared.EncodeError.{EncodeError}
@@ -21,7 +20,7 @@ use Rattle.rtr_stream.specs.declared.StreamError.{StreamError}
 use Rattle.rtr_stream.specs.declared.StreamAnswer.{StreamAnswer}
 use Rattle.rtr_stream.proofs.Unique.{saying, answer-told}
 use Rattle.rtr_receiver.specs.Receiver.{Stage, Notified}
-use Rattle.rtr_receiver.specs.Promises.{Left, Ending, FeedSays, StartSays, AskSays, ReconnectSays, NotifySays, stopSaid, stoppedBy, stageOf, endingOf, leaves, fedSaidBy, fedSaid, startSaid, askWriting, askError, askSaid, reconnectNumber, reconnectSaid, notifySaid}
+use Rattle.rtr_receiver.specs.Promises.{Left, Ending, FeedSays, StartSays, AskSays, ReconnectSays, NotifySays, stopSaid, stoppedBy, stageOf, endingOf, leaves, fedSaidBy, fedSaid, startSaid, askWriting, askSaid, reconnectNumber, reconnectSaid, notifySaid}
 use Rattle.rtr_receiver.specs.declared.Stop.{Stop}
 use Rattle.rtr_receiver.specs.declared.Phase.{Phase}
 use Rattle.rtr_receiver.specs.declared.Session.{Session}

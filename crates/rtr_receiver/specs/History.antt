@@ -3,21 +3,21 @@
 --
 -- An example. In version 1, with no table yet, this history (a full ask; a Cache Response of session 4660; one announced prefix; an End of Data of session
 -- 4660 with serial 7) has one finished update, and the table holds that prefix under session 4660 and serial 7. Cut off before its last byte it has none, and
--- there is no table; with another session in the End of Data it has none either.
+-- there is no table; with another session in the End of Data it has none either. proofs/Examples.antt has these computed, and a change that is refused half-way.
 use Prim.Native.Nat.{ℕ}
 use mathlib.Core.Bool.{Bool, true, false, cond, _&&_}
 use mathlib.Core.List.{List, [], _∷_, _++_}
 use lib.Dec.{eqb, leb}
 use Rattle.rtr_models.specs.Codes.{versionNumber}
-use Rattle.rtr_models.specs.Values.{announces, versionOf}
+use Rattle.rtr_models.specs.Values.{announces, secondsOr, versionOf}
 use Rattle.rtr_models.specs.declared.RtrProtocolVersion.{RtrProtocolVersion}
+use Rattle.rtr_models.specs.declared.RtrEndOfData.{RtrEndOfData}
 use Rattle.rtr_models.specs.declared.RtrPdu.{RtrPdu}
 use Rattle.rtr_models.specs.declared.RtrPdu.the-variants.{SerialNotify, SerialQuery, ResetQuery, CacheResponse, IPv4Prefix, IPv6Prefix, EndOfData, CacheReset, RouterKey, ErrorReport}
 use Rattle.rtr_codec.specs.Reading.{crate}
 use Rattle.rtr_stream.specs.Stream.{Heard, judge}
 use Rattle.rtr_room.specs.Table.{Change, ipv4Record, ipv6Record, enter, leave}
 use Rattle.rtr_room.specs.declared.Record.{Record}
-use Rattle.rtr_receiver.specs.Receiver.{tableFrom}
 use Rattle.rtr_receiver.specs.declared.LoadKind.{LoadKind}
 use Rattle.rtr_receiver.specs.declared.Table.{Table}
 use Rattle.rtr_receiver.specs.declared.LiveTable.{LiveTable}
@@ -113,16 +113,12 @@ pub data Next : Type 0 where
   goes : Place → Next
   finishes : Update → Next
 
--- an ask is made where there is room for its query: 8 bytes, or 12
-abbrev pub hasRoom : LoadKind → ℕ → Bool
-hasRoom LoadKind.Full room = leb 8 room
-hasRoom LoadKind.Change room = leb 12 room
-
 abbrev pub isKnown : LiveTable → Bool
 isKnown LiveTable.NoTable = false
 isKnown (LiveTable.Known t) = true
 
--- a full ask from idle or after a Cache Reset, a change ask from idle with a table; others are refused and change nothing
+-- a full ask from idle or after a Cache Reset, a change ask from idle with a table, each where there is room for its query (8 bytes, or 12); others are refused and
+-- change nothing
 abbrev pub onAsk : LiveTable → Place → LoadKind → ℕ → Place
 onAsk info idle LoadKind.Full room = cond (leb 8 room) (asked LoadKind.Full) idle
 onAsk info idle LoadKind.Change room = cond (isKnown info && leb 12 room) (asked LoadKind.Change) idle
@@ -174,6 +170,17 @@ onReset idle = lost
 onReset mustReset = lost
 onReset (loading kind session cs) = lost
 onReset lost = lost
+
+-- what an End of Data says of the table; version 0 has no intervals, the defaults stand
+abbrev pub tableFrom : RtrEndOfData → Table
+tableFrom p =
+    record {
+      session = p .«session_id»;
+      serial = p .«serial_number»;
+      refresh = secondsOr 3600 (p .«refresh_interval»);
+      retry = secondsOr 600 (p .«retry_interval»);
+      expire = secondsOr 7200 (p .«expire_interval»);
+    }
 
 -- End of Data: of the load's session it finishes the update
 abbrev pub onEnd : Place → ℕ → Table → Next

@@ -1,10 +1,10 @@
 -- What the private functions of src/lib.rt promise each other; no public promise rests on this page.
 use Prim.Native.Nat.{ℕ, _+_, _≤_, _<_}
-use mathlib.Core.Bool.{Bool, true, false, not, _&&_, _||_}
+use mathlib.Core.Bool.{Bool, true, not, _&&_, _||_}
 use mathlib.Core.List.{List, []}
 use mathlib.Core.Path.{_≡_}
 use lib.Dec.{eqb}
-use lib.ListN.{length, take, drop}
+use lib.ListN.{length, drop}
 use Rattle.rtr_room.specs.Room.{isRoom}
 use Rattle.rtr_receiver.specs.Receiver.{Receiver, Deed, Feed, listens, onPiece}
 use Rattle.rtr_receiver.specs.Promises.{hasTable, changeUnderWay, isLoading, isStopped, stageOf, receiverOf, isReceiver, leaves, inMemory, fedTo, fedSaidBy}

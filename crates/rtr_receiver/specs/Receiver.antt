@@ -4,7 +4,7 @@ use mathlib.Core.Bool.{Bool, true, false, cond, _&&_, _||_}
 use mathlib.Core.List.{List, [], _∷_, _++_}
 use lib.Dec.{eqb, ltb}
 use Rattle.rtr_models.specs.Codes.{codeNumber, versionNumber}
-use Rattle.rtr_models.specs.Values.{announces, secondsOr}
+use Rattle.rtr_models.specs.Values.{announces}
 use Rattle.rtr_models.specs.declared.RtrProtocolVersion.{RtrProtocolVersion}
 use Rattle.rtr_models.specs.declared.RtrEndOfData.{RtrEndOfData}
 use Rattle.rtr_models.specs.declared.RtrPdu.{RtrPdu}
@@ -14,8 +14,8 @@ use Rattle.rtr_encode.specs.Encode.{Writing, encode}
 use Rattle.rtr_stream.specs.Stream.{Heard, judge}
 use Rattle.rtr_room.specs.Table.{Change, ipv4Record, ipv6Record, enter, leave}
 use Rattle.rtr_room.specs.declared.Record.{Record}
+use Rattle.rtr_receiver.specs.History.{tableFrom}
 use Rattle.rtr_receiver.specs.declared.LoadKind.{LoadKind}
-use Rattle.rtr_receiver.specs.declared.Table.{Table}
 use Rattle.rtr_receiver.specs.declared.LiveTable.{LiveTable}
 use Rattle.rtr_receiver.specs.declared.Note.{Note}
 
@@ -121,17 +121,6 @@ onCacheReset mustReset r = stop 13 [] r
 onCacheReset askedFull r = stop 13 [] r
 onCacheReset (loading kind id) r = stop 13 [] r
 onCacheReset (stopped number values) r = stop 13 [] r
-
--- what an End of Data says of the table; version 0 has no intervals, the defaults stand
-abbrev pub tableFrom : RtrEndOfData → Table
-tableFrom p =
-    record {
-      session = p .«session_id»;
-      serial = p .«serial_number»;
-      refresh = secondsOr 3600 (p .«refresh_interval»);
-      retry = secondsOr 600 (p .«retry_interval»);
-      expire = secondsOr 7200 (p .«expire_interval»);
-    }
 
 -- the working table becomes the live one
 abbrev pub finish : RtrEndOfData → Receiver → Receiver

@@ -11,7 +11,7 @@ pub mod Moves
 pub mod Kept
 use Prim.Native.Nat.{ℕ, suc, _*_, _<_, _≤_}
 use mathlib.Core.Bool.{true, false, cond, not, _&&_, _||_}
-use mathlib.Core.List.{List, []}
+use mathlib.Core.List.{List, [], _∷_}
 use mathlib.Core.Logic.{_↔_, _⊎_}
 use mathlib.Core.Path.{_≡_, refl}
 use lib.Dec.{leb}
@@ -154,6 +154,19 @@ enter-is = moves.enter-is
 -- leaving the room of a table is leaving the table
 pub leave-is : (limit : ℕ) (r : Record) (t : List Record) → ordered t ≡ true → length t ≤ limit → gone (room limit t) (length t) r ≡ outcomeOf limit t (leave r t)
 leave-is = moves.leave-is
+
+-- the smallest tables: a record enters the empty one and does not enter again; it leaves, and cannot leave again
+pub enter-first : (limit : ℕ) (r : Record) → 1 ≤ limit → enter limit r [] ≡ changed (r ∷ [])
+enter-first = tables.enter-first
+
+pub enter-again : (limit : ℕ) (r : Record) (t : List Record) → enter limit r (r ∷ t) ≡ Change.refused 17
+enter-again = tables.enter-again
+
+pub leave-first : (r : Record) (t : List Record) → leave r (r ∷ t) ≡ changed t
+leave-first = tables.leave-first
+
+pub leave-empty : (r : Record) → leave r [] ≡ Change.refused 16
+leave-empty = tables.leave-empty
 
 -- a refusal to enter is 17 or 18
 pub enter-refuses : (limit n : ℕ) (r : Record) (t : List Record) → enter limit r t ≡ Change.refused n → (n ≡ 17) ⊎ (n ≡ 18)

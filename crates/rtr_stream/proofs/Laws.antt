@@ -4,18 +4,20 @@
 use Prim.Native.Nat.{ℕ, suc, _+_, _-_, _≤_, _<_}
 use mathlib.Core.Bool.{true}
 use mathlib.Core.List.{List, [], _∷_, _++_}
-use mathlib.Core.Path.{_≡_, refl, sym, ap, _∙_}
+use mathlib.Core.Logic.{_⊎_, inl, inr}
+use mathlib.Core.Path.{_≡_, refl, sym, ap, _∙_, subst}
 use native.Mathlib.Omega.{arith}
-use lib.ListN.{length, take, drop}
+use lib.ListN.{length, take, drop, length-append}
 use Rattle.rtr_models.specs.declared.RtrPdu.{RtrPdu}
 use Rattle.rtr_codec.specs.Reading.{Reading, crate}
-use Rattle.rtr_codec.specs.Read.{Verdict, read, needed}
-use Rattle.rtr_stream.specs.Stream.{Heard, judge, Found, State, Listened, fresh, after, onByteIn, onByte, onPiece, onPieces}
+use Rattle.rtr_codec.specs.Read.{Verdict, headerLength, read, needed}
+use Rattle.rtr_codec.proofs.Laws.{header-stays, read-consumes}
+use Rattle.rtr_stream.specs.Stream.{Heard, longest, heardOf, judge, Found, State, Listened, fresh, after, onByteIn, onByte, onPiece, onPieces}
 use Rattle.rtr_stream.specs.Stream.Heard.{waits, whole, refused}
 use Rattle.rtr_stream.specs.Search.{End, Search, over, searchFrom, isStream, outcomeOf, search, Outcome, searchSaid}
 use Rattle.rtr_stream.specs.declared.Searched.{Searched}
 use Rattle.rtr_stream.proofs.Runs.{runs-out}
-use Rattle.rtr_stream.proofs.Judge.{Waiting, waiting-grows, IsStream, judge-short, waits-waiting, waiting-waits, is-stream, stream-is, refused-not-one, whole-pdu, whole-exactly}
+use Rattle.rtr_stream.proofs.Judge.{Waiting, waiting-grows, IsStream, judge-short, waits-waiting, waiting-waits, is-stream, stream-is, refused-not-one, whole-pdu, whole-exactly, few-or-many, judge-whole, judge-cut}
 use Rattle.rtr_stream.proofs.Judge.Waiting.{short, cut}
 
 -- pieces end to end
@@ -173,6 +175,25 @@ module _ (R : Reading) (H : ℕ) where
   -- bytes in hand that are a PDU are read as that PDU
   pub whole-is-read : (s : List ℕ) (pdu : RtrPdu) → judge R H s ≡ whole pdu → (n : ℕ) × (read R s ≡ Verdict.accepted pdu n)
   whole-is-read s pdu e = whole-pdu R H s pdu e .read-as
+
+  -- the bytes of one PDU, no more and no fewer, that are in range: each shorter front of them waits, and all of them are heard as it
+  pub pdu-is-heard : (s : List ℕ) (pdu : RtrPdu) → length s ≤ longest → length s ≤ H → read R s ≡ Verdict.accepted pdu (length s) → judge R H s ≡ whole pdu
+  pdu-is-heard s pdu most fits e =
+      let c = read-consumes R s pdu (length s) e in
+      let n : headerLength s ≡ length s = sym (c .0) in
+      judge-whole R H s (c .1) (record { least = subst (λ (k : ℕ). 8 ≤ k) (c .0) (c .1); most = subst (λ (k : ℕ). k ≤ longest) (c .0) most; fits = subst (λ (k : ℕ). k ≤ H) (c .0) fits }) (omega arith)
+      ∙ ap heardOf e
+
+  pub front-waits : (s t : List ℕ) (pdu : RtrPdu) → 0 < length t → length (s ++ t) ≤ longest → length (s ++ t) ≤ H → read R (s ++ t) ≡ Verdict.accepted pdu (length (s ++ t)) → judge R H s ≡ waits
+  front-waits s t pdu more most fits e = go (few-or-many s)
+    where
+      go : (length s < 8) ⊎ (8 ≤ length s) → judge R H s ≡ waits
+      go (inl few) = judge-short R H s few
+      go (inr many) =
+          let c = read-consumes R (s ++ t) pdu (length (s ++ t)) e in
+          let n : headerLength s ≡ length (s ++ t) = sym (header-stays s t many) ∙ sym (c .0) in
+          let l = length-append s t in
+          judge-cut R H s many (record { least = omega arith; most = omega arith; fits = omega arith }) (omega arith)
 
   -- 1 is never a stop
   pub never-one : (s : List ℕ) (number : ℕ) (values : List ℕ) → judge R H s ≡ refused number values → number ≡ 1 → ⊥

@@ -7,7 +7,7 @@ use mathlib.Core.List.{List, [], _∷_}
 use mathlib.Core.Logic.{_⊎_, inl, inr}
 use mathlib.Core.Path.{_≡_, refl, sym, ap, _∙_, subst}
 use native.Mathlib.Omega.{arith}
-use borrow.Author.Tests.{leb-false}
+use borrow.Author.Tests.{leb-false, lt-leb}
 use lib.Dec.{leb}
 use lib.ListN.{length}
 use Rattle.rtr_room.specs.Table.{before, same, isIn, insert, remove, inRule, above, ordered, allInRule, isTable, enter, leave}
@@ -252,3 +252,20 @@ tables-equal (x ∷ t) (y ∷ u) h k e = go (sides x y) (tables-equal t u (order
     go (before-it p) rest = absurd (true≢false (sym (isIn-first x t) ∙ e x ∙ not-below x y u p k))
     go (the-same p) rest = let q : t ≡ u = rest (λ z. behind p z (same x z) refl) in cc
     go (behind-it p) rest = absurd (true≢false (sym (isIn-first y u) ∙ sym (e y) ∙ not-below y x t p h))
+
+-- the smallest tables
+pub enter-first : (limit : ℕ) (r : Record) → 1 ≤ limit → enter limit r [] ≡ changed (r ∷ [])
+unfolding enter isIn insert
+enter-first limit r h = rw (lt-leb limit 0 h)
+
+pub enter-again : (limit : ℕ) (r : Record) (t : List Record) → enter limit r (r ∷ t) ≡ refused 17
+unfolding enter
+enter-again limit r t = rw (isIn-first r t)
+
+pub leave-first : (r : Record) (t : List Record) → leave r (r ∷ t) ≡ changed t
+unfolding leave remove
+leave-first r t = rw (isIn-first r t, same-is-equal r r .1 refl)
+
+pub leave-empty : (r : Record) → leave r [] ≡ refused 16
+unfolding leave isIn
+leave-empty r = refl

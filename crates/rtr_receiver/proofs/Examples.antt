@@ -1,0 +1,207 @@
+-- Small histories with their updates and tables computed, for the reader of specs/History.antt; the bytes are those of document 01's listing. First: the bytes of a
+-- PDU come to that PDU, and without the last of them to nothing. Assumes nothing.
+use Prim.Native.Nat.{ℕ, _≤_, _<_}
+use mathlib.Core.Bool.{true, false}
+use mathlib.Core.List.{List, [], _∷_, _++_, append-assoc}
+use mathlib.Core.Path.{_≡_, refl, sym, ap, _∙_, subst}
+use native.Mathlib.Omega.{arith}
+use lib.ListN.{length, take}
+use Rattle.rtr_models.specs.declared.RtrPdu.{RtrPdu}
+use Rattle.rtr_models.specs.declared.RtrProtocolVersion.the-variants.{V1}
+use Rattle.rtr_codec.specs.Reading.{crate}
+use Rattle.rtr_codec.specs.Read.{Verdict, read}
+use Rattle.rtr_codec.proofs.Samples.{responseBytes, prefixBytes, endBytes, responsePdu, prefixPdu, endPdu, response-read, announced-read, withdrawn-read, end-read, later-end-read, other-end-read}
+use Rattle.rtr_stream.specs.Stream.{Heard, longest}
+use Rattle.rtr_stream.proofs.Laws.{pdu-is-heard, front-waits}
+use Rattle.rtr_room.specs.Table.{Change, ipv4Record, leave}
+use Rattle.rtr_room.specs.declared.Record.{Record}
+use Rattle.rtr_room.proofs.Laws.{enter-first, leave-first, leave-empty}
+use Rattle.rtr_receiver.specs.History.{Event, Update, Live, Item, Place, noTable, kept, withAll, tableFromOn, tableOf, itemsBy, items, takenIn, updates, finished}
+use Rattle.rtr_receiver.specs.Runs.{bytes}
+use Rattle.rtr_receiver.specs.declared.LoadKind.{LoadKind}
+use Rattle.rtr_receiver.specs.declared.Table.{Table}
+use Rattle.rtr_receiver.specs.declared.LiveTable.{LiveTable}
+
+module _ (H : ℕ) where
+  -- these bytes, no more and no fewer, are a PDU that is listened to
+  abbrev Says : List ℕ → RtrPdu → Type 0
+  Says s pdu = (length s ≤ longest) × (length s ≤ H) × (read crate s ≡ Verdict.accepted pdu (length s))
+
+  -- the bytes of a PDU, of which s are in hand and t are to come, come to it
+  rest-told : (s t : List ℕ) (pdu : RtrPdu) → 0 < length t → Says (s ++ t) pdu → (es : List Event) → items H s (bytes t ++ es) ≡ Item.told pdu ∷ items H [] es
+  unfolding items
+  rest-told s [] pdu more says es = absurd (omega arith)
+  rest-told s (b ∷ []) pdu more says es = ap (λ (h : Heard). itemsBy (s ++ b ∷ []) h (λ held. items H held es)) (pdu-is-heard crate H (s ++ b ∷ []) pdu (says .0) (says .1) (says .2))
+  rest-told s (b ∷ c ∷ t) pdu more says es =
+      let later : Says ((s ++ b ∷ []) ++ c ∷ t) pdu = subst (λ (x : List ℕ). Says x pdu) (sym (append-assoc s (b ∷ []) (c ∷ t))) says in
+      ap (λ (h : Heard). itemsBy (s ++ b ∷ []) h (λ held. items H held (bytes (c ∷ t) ++ es))) (front-waits crate H (s ++ b ∷ []) (c ∷ t) pdu (omega arith) (later .0) (later .1) (later .2))
+      ∙ rest-told (s ++ b ∷ []) (c ∷ t) pdu (omega arith) later es
+
+  -- the bytes of a PDU come to it
+  pub told-by : (s : List ℕ) (pdu : RtrPdu) → 0 < length s → Says s pdu → (es : List Event) → items H [] (bytes s ++ es) ≡ Item.told pdu ∷ items H [] es
+  told-by s pdu more says es = rest-told [] s pdu more says es
+
+  -- bytes that are cut off before the PDU's end come to nothing
+  rest-cut : (s t u : List ℕ) (pdu : RtrPdu) → 0 < length u → Says (s ++ (t ++ u)) pdu → items H s (bytes t) ≡ []
+  unfolding items
+  rest-cut s [] u pdu more says = refl
+  rest-cut s (b ∷ t) u pdu more says =
+      let later : Says ((s ++ b ∷ []) ++ (t ++ u)) pdu = subst (λ (x : List ℕ). Says x pdu) (sym (append-assoc s (b ∷ []) (t ++ u))) says in
+      ap (λ (h : Heard). itemsBy (s ++ b ∷ []) h (λ held. items H held (bytes t))) (front-waits crate H (s ++ b ∷ []) (t ++ u) pdu (longer t u more) (later .0) (later .1) (later .2))
+      ∙ rest-cut (s ++ b ∷ []) t u pdu more later
+    where
+      longer : (t u : List ℕ) → 0 < length u → 0 < length (t ++ u)
+      longer [] u more = more
+      longer (x ∷ t) u more = omega arith
+
+  pub cut-off : (t u : List ℕ) (pdu : RtrPdu) → 0 < length u → Says (t ++ u) pdu → items H [] (bytes t) ≡ []
+  cut-off t u pdu more says = rest-cut [] t u pdu more says
+
+-- ---- Histories, in version 1, with any record limit of 1 or more and any hold of 24 bytes or more
+
+-- 192.0.2.0/24, max 24, AS 64496
+abbrev prefix : Record
+prefix = ipv4Record 24 24 3221225984 64496
+
+-- what the End of Data of a serial says
+abbrev said : ℕ → Table
+said serial = record { session = 4660; serial = serial; refresh = 3600; retry = 600; expire = 7200 }
+
+abbrev fullAsk : List Event → List Event
+fullAsk es = Event.ask LoadKind.Full 32 ∷ es
+
+abbrev changeAsk : List Event → List Event
+changeAsk es = Event.ask LoadKind.Change 32 ∷ es
+
+abbrev response : List Event → List Event
+response es = bytes responseBytes ++ es
+
+abbrev announced : List Event → List Event
+announced es = bytes (prefixBytes 1) ++ es
+
+abbrev withdrawn : List Event → List Event
+withdrawn es = bytes (prefixBytes 0) ++ es
+
+abbrev ended : ℕ → List Event → List Event
+ended serial es = bytes (endBytes 0x12 0x34 serial) ++ es
+
+-- a full load of that prefix, and the update that it finishes
+abbrev load : List Event → List Event
+load es = fullAsk (response (announced (ended 7 es)))
+
+abbrev loaded : Update
+loaded = record { kind = LoadKind.Full; records = record { announced = true; what = prefix } ∷ []; end = said 7 }
+
+-- the change that withdraws it
+abbrev emptied : Update
+emptied = record { kind = LoadKind.Change; records = record { announced = false; what = prefix } ∷ []; end = said 8 }
+
+module _ (limit H : ℕ) (some : 1 ≤ limit) (size : 24 ≤ H) where
+  heard : (s : List ℕ) (pdu : RtrPdu) → 0 < length s → length s ≤ 24 → read crate s ≡ Verdict.accepted pdu (length s) → (es : List Event) → items H [] (bytes s ++ es) ≡ Item.told pdu ∷ items H [] es
+  heard s pdu more few e es = told-by H s pdu more (omega arith, omega arith, e) es
+
+  -- ---- what the bytes come to
+
+  response-items : (es : List Event) → items H [] (response es) ≡ Item.told responsePdu ∷ items H [] es
+  response-items es = heard responseBytes responsePdu (omega arith) (omega arith) response-read es
+
+  announced-items : (es : List Event) → items H [] (announced es) ≡ Item.told (prefixPdu 1) ∷ items H [] es
+  announced-items es = heard (prefixBytes 1) (prefixPdu 1) (omega arith) (omega arith) announced-read es
+
+  withdrawn-items : (es : List Event) → items H [] (withdrawn es) ≡ Item.told (prefixPdu 0) ∷ items H [] es
+  withdrawn-items es = heard (prefixBytes 0) (prefixPdu 0) (omega arith) (omega arith) withdrawn-read es
+
+  ended-items : (es : List Event) → items H [] (ended 7 es) ≡ Item.told (endPdu 4660 7) ∷ items H [] es
+  ended-items es = heard (endBytes 0x12 0x34 7) (endPdu 4660 7) (omega arith) (omega arith) end-read es
+
+  later-ended-items : (es : List Event) → items H [] (ended 8 es) ≡ Item.told (endPdu 4660 8) ∷ items H [] es
+  later-ended-items es = heard (endBytes 0x12 0x34 8) (endPdu 4660 8) (omega arith) (omega arith) later-end-read es
+
+  -- ---- a load so far, with what is still to come
+
+  -- asked, answered and told one prefix
+  began : (es : List Event) →
+      finished limit H V1 (fullAsk (response (announced es)))
+      ≡ updates limit V1 noTable (Place.loading LoadKind.Full 4660 (record { announced = true; what = prefix } ∷ [])) (items H [] es)
+  unfolding items updates withAll
+  began es =
+      ap (updates limit V1 noTable (Place.asked LoadKind.Full)) (response-items (announced es))
+      ∙ ap (updates limit V1 noTable (Place.loading LoadKind.Full 4660 [])) (announced-items es)
+      ∙ ap (λ (c : Change). updates limit V1 noTable (takenIn LoadKind.Full 4660 [] true prefix c) (items H [] es)) (enter-first limit prefix some)
+
+  -- the table after the load
+  abbrev first : Live
+  first = record { info = LiveTable.Known (said 7); records = prefix ∷ [] }
+
+  loaded-is : tableFromOn limit noTable (loaded ∷ []) ≡ first
+  unfolding tableFromOn withAll
+  loaded-is = ap (λ (c : Change). record { info = LiveTable.Known (said 7); records = kept [] c }) (enter-first limit prefix some)
+
+  after-load : (es : List Event) → finished limit H V1 (load es) ≡ loaded ∷ updates limit V1 first Place.idle (items H [] es)
+  unfolding updates tableFromOn
+  after-load es =
+      began (ended 7 es)
+      ∙ ap (updates limit V1 noTable (Place.loading LoadKind.Full 4660 (record { announced = true; what = prefix } ∷ []))) (ended-items es)
+      ∙ ap (λ (l : Live). loaded ∷ updates limit V1 l Place.idle (items H [] es)) loaded-is
+
+  -- 1. the load alone: one update, and the table of document 01's listing
+  pub listing : finished limit H V1 (load []) ≡ loaded ∷ []
+  unfolding items updates
+  listing = after-load []
+
+  pub listing-table : tableOf limit (finished limit H V1 (load [])) ≡ record { info = LiveTable.Known (said 7); records = prefix ∷ [] }
+  listing-table = ap (tableOf limit) listing ∙ loaded-is
+
+  -- 2. without its last byte: no update, and no table
+  pub listing-cut : finished limit H V1 (fullAsk (response (announced (bytes (take 23 (endBytes 0x12 0x34 7)))))) ≡ []
+  unfolding updates
+  listing-cut =
+      began (bytes (take 23 (endBytes 0x12 0x34 7)))
+      ∙ ap (updates limit V1 noTable (Place.loading LoadKind.Full 4660 (record { announced = true; what = prefix } ∷ [])))
+      (cut-off H (take 23 (endBytes 0x12 0x34 7)) (0x20 ∷ []) (endPdu 4660 7) (omega arith) (omega arith, omega arith, end-read))
+
+  -- 3. with another session in its End of Data: none either
+  pub other-session : finished limit H V1 (fullAsk (response (announced (bytes (endBytes 0x12 0x35 7) ++ [])))) ≡ []
+  unfolding items updates
+  other-session =
+      began (bytes (endBytes 0x12 0x35 7) ++ [])
+      ∙ ap (updates limit V1 noTable (Place.loading LoadKind.Full 4660 (record { announced = true; what = prefix } ∷ [])))
+      (heard (endBytes 0x12 0x35 7) (endPdu 4661 7) (omega arith) (omega arith) other-end-read [])
+
+  -- ---- a change after it
+
+  -- asked, answered, and the prefix withdrawn
+  changing : (es : List Event) →
+      finished limit H V1 (load (changeAsk (response (withdrawn es))))
+      ≡ loaded ∷ updates limit V1 first (Place.loading LoadKind.Change 4660 (record { announced = false; what = prefix } ∷ [])) (items H [] es)
+  unfolding items updates withAll
+  changing es =
+      after-load (changeAsk (response (withdrawn es)))
+      ∙ ap (_∷_ loaded)
+      (ap (updates limit V1 first (Place.asked LoadKind.Change)) (response-items (withdrawn es))
+      ∙ ap (updates limit V1 first (Place.loading LoadKind.Change 4660 [])) (withdrawn-items es)
+      ∙ ap (λ (c : Change). updates limit V1 first (takenIn LoadKind.Change 4660 [] false prefix c) (items H [] es)) (leave-first prefix []))
+
+  -- 4. a change that withdraws the prefix: two updates, and an empty table of serial 8
+  pub change : finished limit H V1 (load (changeAsk (response (withdrawn (ended 8 []))))) ≡ loaded ∷ emptied ∷ []
+  unfolding items updates
+  change =
+      changing (ended 8 [])
+      ∙ ap (λ (is : List Item). loaded ∷ updates limit V1 first (Place.loading LoadKind.Change 4660 (record { announced = false; what = prefix } ∷ [])) is) (later-ended-items [])
+
+  pub change-table : tableOf limit (finished limit H V1 (load (changeAsk (response (withdrawn (ended 8 [])))))) ≡ record { info = LiveTable.Known (said 8); records = [] }
+  unfolding tableFromOn withAll
+  change-table =
+      ap (tableOf limit) change
+      ∙ ap (λ (l : Live). tableFromOn limit l (emptied ∷ [])) loaded-is
+      ∙ ap (λ (c : Change). record { info = LiveTable.Known (said 8); records = kept (prefix ∷ []) c }) (leave-first prefix [])
+
+  -- 5. a change that is refused half-way (the prefix withdrawn twice): the table stays the load's, though an End of Data follows
+  pub refused-change : finished limit H V1 (load (changeAsk (response (withdrawn (withdrawn (ended 8 [])))))) ≡ loaded ∷ []
+  unfolding items updates withAll
+  refused-change =
+      changing (withdrawn (ended 8 []))
+      ∙ ap (λ (is : List Item). loaded ∷ updates limit V1 first (Place.loading LoadKind.Change 4660 (record { announced = false; what = prefix } ∷ [])) is) (withdrawn-items (ended 8 []))
+      ∙ ap (λ (c : Change). loaded ∷ updates limit V1 first (takenIn LoadKind.Change 4660 (record { announced = false; what = prefix } ∷ []) false prefix (leave prefix (kept (prefix ∷ []) c))) (items H [] (ended 8 []))) (leave-first prefix [])
+      ∙ ap (λ (c : Change). loaded ∷ updates limit V1 first (takenIn LoadKind.Change 4660 (record { announced = false; what = prefix } ∷ []) false prefix c) (items H [] (ended 8 []))) (leave-empty prefix)
+      ∙ ap (λ (is : List Item). loaded ∷ updates limit V1 first Place.lost is) (later-ended-items [])
