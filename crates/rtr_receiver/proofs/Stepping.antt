@@ -13,11 +13,12 @@ use Rattle.rtr_models.specs.declared.RtrPdu.{RtrPdu}
 use Rattle.rtr_codec.specs.Reading.{crate}
 use Rattle.rtr_codec.proofs.Rules.{LengthsInRule, accepted-in-rule}
 use Rattle.rtr_stream.specs.Stream.{judge}
-use Rattle.rtr_stream.specs.Search.{End, Search, Says, Outcome, isStream, searchFrom, search, saysOf, outcomeOf, streamRefusal, stopsBy, saidBy, searchSaid, bytesOf}
+use Rattle.rtr_stream.specs.Search.{End, Search, Outcome, isStream, searchFrom, search, saysOf, outcomeOf, streamRefusal, stopsBy, saidBy, searchSaid, bytesOf}
 use Rattle.rtr_stream.specs.declared.StreamError.{StreamError}
 use Rattle.rtr_stream.specs.declared.Lies.{Lies}
 use Rattle.rtr_stream.specs.declared.StreamAnswer.{StreamAnswer}
 use Rattle.rtr_stream.specs.declared.Searched.{Searched}
+use Rattle.rtr_stream.proofs.Told.{more-told, stop-told, pdu-told, never-told}
 use Rattle.rtr_stream.proofs.Laws.{stream-has, stream-exactly, search-is, search-takes, search-moves, found-is-read, nothing-waits}
 use Rattle.rtr_room.specs.Room.{room, records}
 use Rattle.rtr_room.proofs.Laws.{empty-is}
@@ -35,27 +36,6 @@ use Rattle.rtr_receiver.proofs.Feeds.{from, stopped-takes-none, fed-mor
 use Rattle.rtr_receiver.proofs.Good.{Good, pdu-good}
 use Rattle.rtr_receiver.proofs.Steps.{Shape, shape-is, good-of, shape-of-good, stands-for, stopped-stage}
 use Rattle.rtr_receiver.proofs.Memory.{room-stands, room-size, left-alike, standing, stop-says}
-
--- a search's end, told from what the code's answer says
-more-told : (held at : ℕ) (e : End) → Says.wantsMore ≡ saysOf held at e → e ≡ End.more
-more-told held at End.more q = refl
-more-told held at (End.found pdu bytes) q = absurd (let z : _≡_ {A = ℕ} 0 1 = cc in omega arith)
-more-told held at (End.stop k x) q = absurd (let z : _≡_ {A = ℕ} 0 1 = cc in omega arith)
-
-never-told : (held at : ℕ) (hold : List ℕ) (e : End) → Says.refusedCall 22 hold ≡ saysOf held at e → ⊥
-never-told held at hold End.more q = let z : _≡_ {A = ℕ} 0 1 = cc in omega arith
-never-told held at hold (End.found pdu bytes) q = let z : _≡_ {A = ℕ} 0 1 = cc in omega arith
-never-told held at hold (End.stop k x) q = let z : _≡_ {A = ℕ} 0 1 = cc in omega arith
-
-stop-found : (held at k : ℕ) (x : List ℕ) (e : End) → Says.stops k x ≡ saysOf held at e → e ≡ End.stop k x
-stop-found held at k x End.more q = absurd (let z : _≡_ {A = ℕ} 0 1 = cc in omega arith)
-stop-found held at k x (End.found pdu bytes) q = absurd (let z : _≡_ {A = ℕ} 0 1 = cc in omega arith)
-stop-found held at k x (End.stop k′ x′) q = let p : k ≡ k′ = cc in let r : x ≡ x′ = cc in cc
-
-pdu-found : (held at : ℕ) (pdu : RtrPdu) (lies : Lies) (bytes : List ℕ) (e : End) → Says.pduAt pdu lies bytes ≡ saysOf held at e → e ≡ End.found pdu bytes
-pdu-found held at pdu lies bytes End.more q = absurd (let z : _≡_ {A = ℕ} 0 1 = cc in omega arith)
-pdu-found held at pdu lies bytes (End.found pdu′ bytes′) q = let p : pdu ≡ pdu′ = cc in let r : bytes ≡ bytes′ = cc in cc
-pdu-found held at pdu lies bytes (End.stop k x) q = absurd (let z : _≡_ {A = ℕ} 0 1 = cc in omega arith)
 
 -- a receiver that listens has no stop to tell
 goes-on : (stage : Stage) → listens stage ≡ true → endingOf stage ≡ Ending.goesOn
@@ -135,7 +115,7 @@ module _ (limit : ℕ) (s : Session) (live working hold piece : List ℕ) (at up
         let k : ℕ = told .0 in
         let x : List ℕ = told .1 in
         let end : ended .end ≡ End.stop k x =
-        stop-found (s .held) at k x (ended .end) (sym (ap stopsBy (told .2)) ∙ sym (ap (λ (y : StreamAnswer). saidBy y hold′ piece) a) ∙ says-is) in
+        stop-told (s .held) at k x (ended .end) (sym (ap stopsBy (told .2)) ∙ sym (ap (λ (y : StreamAnswer). saidBy y hold′ piece) a) ∙ says-is) in
         let fed : feedHere limit s live working hold piece at updates ≡ from (stop k x here) (ended .next) updates =
         fed-stop limit (length hold) here updates on (drop at piece) at (take (s .held) hold) k x end in
         let stage : stoppedBy (streamRefusal error) ≡ stopped k x = ap stoppedBy (told .2) in
@@ -149,7 +129,7 @@ module _ (limit : ℕ) (s : Session) (live working hold piece : List ℕ) (at up
       bytes = bytesOf lies hold′ piece
 
       end-is : ended .end ≡ End.found pdu bytes
-      end-is = pdu-found (s .held) at pdu lies bytes (ended .end) (sym (ap (λ (x : StreamAnswer). saidBy x hold′ piece) found) ∙ says-is)
+      end-is = pdu-told (s .held) at pdu lies bytes (ended .end) (sym (ap (λ (x : StreamAnswer). saidBy x hold′ piece) found) ∙ says-is)
 
       abbrev deed : Deed
       deed = onPdu limit pdu (holding [] here)

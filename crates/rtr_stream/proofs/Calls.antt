@@ -7,13 +7,12 @@ use mathlib.Core.Path.{_≡_, refl, sym, ap, _∙_}
 use native.Mathlib.Omega.{arith}
 use lib.ListN.{length, take, drop, length-drop}
 use lib.Seq.{drop-drop}
-use Rattle.rtr_models.specs.declared.RtrPdu.{RtrPdu}
 use Rattle.rtr_codec.specs.Reading.{Reading, crate}
 use Rattle.rtr_stream.specs.Stream.{Heard, judge, Found, State, Listened, after, onByteIn, onByte, onPiece, onPieces}
-use Rattle.rtr_stream.specs.Search.{End, Says, Outcome, isStream, over, searchFrom, saysOf, stopsBy, saidBy, bytesOf}
+use Rattle.rtr_stream.specs.Search.{End, Outcome, isStream, over, searchFrom, stopsBy, saidBy, bytesOf}
 use Rattle.rtr_stream.specs.Calls.{Between, Through, Pieces, stateOf}
-use Rattle.rtr_stream.specs.declared.Lies.{Lies}
 use Rattle.rtr_stream.specs.declared.StreamAnswer.{StreamAnswer}
+use Rattle.rtr_stream.proofs.Told.{more-told, stop-told, pdu-told}
 use Rattle.rtr_stream.proofs.Laws.{joined, cut-anywhere, byEnd, search-is-stream, search-takes, search-is, search-keeps-stream}
 
 -- a stream that stopped takes no byte more
@@ -21,22 +20,6 @@ stopped-stays : (R : Reading) (H : ℕ) (p : List ℕ) (taken : ℕ) (pdus : Lis
 unfolding onPiece onByte
 stopped-stays R H [] taken pdus k x = refl
 stopped-stays R H (b ∷ p) taken pdus k x = stopped-stays R H p taken pdus k x
-
--- the end that a code's answer tells
-more-told : (held at : ℕ) (e : End) → Says.wantsMore ≡ saysOf held at e → e ≡ End.more
-more-told held at End.more q = refl
-more-told held at (End.found pdu bytes) q = absurd (let z : _≡_ {A = ℕ} 0 1 = cc in omega arith)
-more-told held at (End.stop k x) q = absurd (let z : _≡_ {A = ℕ} 0 1 = cc in omega arith)
-
-stop-told : (held at k : ℕ) (x : List ℕ) (e : End) → Says.stops k x ≡ saysOf held at e → e ≡ End.stop k x
-stop-told held at k x End.more q = absurd (let z : _≡_ {A = ℕ} 0 1 = cc in omega arith)
-stop-told held at k x (End.found pdu bytes) q = absurd (let z : _≡_ {A = ℕ} 0 1 = cc in omega arith)
-stop-told held at k x (End.stop k′ x′) q = let p : k ≡ k′ = cc in let r : x ≡ x′ = cc in cc
-
-pdu-told : (held at : ℕ) (pdu : RtrPdu) (lies : Lies) (bytes : List ℕ) (e : End) → Says.pduAt pdu lies bytes ≡ saysOf held at e → e ≡ End.found pdu bytes
-pdu-told held at pdu lies bytes End.more q = absurd (let z : _≡_ {A = ℕ} 0 1 = cc in omega arith)
-pdu-told held at pdu lies bytes (End.found pdu′ bytes′) q = let p : pdu ≡ pdu′ = cc in let r : bytes ≡ bytes′ = cc in cc
-pdu-told held at pdu lies bytes (End.stop k x) q = absurd (let z : _≡_ {A = ℕ} 0 1 = cc in omega arith)
 
 -- the PDUs and the state, the count of bytes left aside
 pub record Same (l : Listened) (pdus : List Found) (state : State) : Type 0 where

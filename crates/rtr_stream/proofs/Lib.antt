@@ -1,4 +1,5 @@
--- `Laws` and `Unique` are for readers and other crates; the others are the argument.
+-- `Laws`, `Told`, `Unique` and `Calls` are for readers and other crates; the others are the argument.
+pub mod Told
 pub mod Laws
 pub mod Unique
 pub mod Calls
