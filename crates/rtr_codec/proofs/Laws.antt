@@ -108,11 +108,15 @@ one-is-missing R s values e = go (reach s)
     go : Reach s → length s < needed s
     go (short p) = omega (arith, needed-short s p)
     go (cut p q) = omega (arith, needed-large s p)
-    go (whole p q) = absurd ((subst (Whole (headerLength s)) e (whole-verdict R s p q)) refl)
+    go (whole p q) = absurd (let w : (2 ≤ 1) × (1 ≤ 8) = subst (Whole (headerLength s)) e (whole-verdict R s p q) in omega arith)
+
+-- bytes that are all there are refused by 2 to 8
+pub refusal-numbers : (R : Reading) (s : List ℕ) (n : ℕ) (values : List ℕ) → 8 ≤ length s → headerLength s ≤ length s → read R s ≡ refused n values → (2 ≤ n) × (n ≤ 8)
+refusal-numbers R s n values p q e = subst (Whole (headerLength s)) e (whole-verdict R s p q)
 
 -- a slice with a header that is as long as its header says is never refused by 1
 pub whole-is-not-one : (R : Reading) (s values : List ℕ) → 8 ≤ length s → headerLength s ≤ length s → read R s ≡ refused 1 values → ⊥
-whole-is-not-one R s values p q e = (subst (Whole (headerLength s)) e (whole-verdict R s p q)) refl
+whole-is-not-one R s values p q e = let w = refusal-numbers R s 1 values p q e in omega arith
 
 -- an accepted read takes the header's length, which is 8 or more, and so many bytes are there
 pub read-consumes : (R : Reading) (s : List ℕ) (pdu : RtrPdu) (n : ℕ) → read R s ≡ accepted pdu n → (n ≡ headerLength s) × (8 ≤ n) × (n ≤ length s)

@@ -225,7 +225,7 @@ module _ (limit : ℕ) (s : Session) (live working hold : List ℕ) where
 
   -- ---- The notify comparison
 
-  pub notify-shapeless : isReceiver limit s live working hold ≡ false → NotifySays.refusedNotify ≡ notifySays limit s live working hold
+  pub notify-shapeless : isReceiver limit s live working hold ≡ false → NotifySays.refusedNotify 22 ≡ notifySays limit s live working hold
   unfolding notifySays
   notify-shapeless e = simp e
 
@@ -291,15 +291,15 @@ module _ (n t a : ℕ) (small-n : n < 4294967296) (small-t : t < 4294967296) (sm
 -- ---- Start
 
 module _ (limit : ℕ) (version : RtrProtocolVersion) (live working hold : List ℕ) where
-  pub start-live : (length live ≡ 6 * limit → ⊥) → StartSays.refusedStart live working ≡ startSays limit version live working hold
+  pub start-live : (length live ≡ 6 * limit → ⊥) → StartSays.refusedStart 22 live working ≡ startSays limit version live working hold
   unfolding startSays
   start-live h = simp (ne-eqb (length live) (6 * limit) h)
 
-  pub start-working : length live ≡ 6 * limit → (length working ≡ 6 * limit → ⊥) → StartSays.refusedStart live working ≡ startSays limit version live working hold
+  pub start-working : length live ≡ 6 * limit → (length working ≡ 6 * limit → ⊥) → StartSays.refusedStart 22 live working ≡ startSays limit version live working hold
   unfolding startSays
   start-working l h = simp (eq-eqb (length live) (6 * limit) l, ne-eqb (length working) (6 * limit) h)
 
-  pub start-hold : length live ≡ 6 * limit → length working ≡ 6 * limit → length hold < 8 → StartSays.refusedStart live working ≡ startSays limit version live working hold
+  pub start-hold : length live ≡ 6 * limit → length working ≡ 6 * limit → length hold < 8 → StartSays.refusedStart 22 live working ≡ startSays limit version live working hold
   unfolding startSays
   start-hold l w h = simp (eq-eqb (length live) (6 * limit) l, eq-eqb (length working) (6 * limit) w, lt-leb 8 (length hold) h)
 

@@ -17,7 +17,7 @@ use Rattle.rtr_receiver.proofs.Feeds.{from, stopped-takes-none}
 use Rattle.rtr_receiver.proofs.Runs.{run-along, in-shape}
 
 -- 22: a feed takes and counts 0 and leaves everything, the whole hold too
-pub refused-keeps-feed : (limit : ℕ) (s : Session) (live working hold piece : List ℕ) → isReceiver limit s live working hold ≡ false → feedSays limit s live working hold piece ≡ FeedSays.notAReceiver 0 0 (leaves s live working hold) hold
+pub refused-keeps-feed : (limit : ℕ) (s : Session) (live working hold piece : List ℕ) → isReceiver limit s live working hold ≡ false → feedSays limit s live working hold piece ≡ FeedSays.refusedFeed 22 0 0 (leaves s live working hold) hold
 unfolding feedSays
 refused-keeps-feed limit s live working hold piece e = simp e
 

@@ -246,7 +246,7 @@ module _ (limit H : ℕ) where
     where
       go : (a b c : Bool) →
           leb 8 (length (m .hold)) ≡ c →
-          StartSays.started (leaves (m .session) (m .live) (m .working) (m .hold)) ≡ cond (a && (b && c)) (StartSays.started (inMemory limit (fresh v))) (StartSays.refusedStart live working) →
+          StartSays.started (leaves (m .session) (m .live) (m .working) (m .hold)) ≡ cond (a && (b && c)) (StartSays.started (inMemory limit (fresh v))) (StartSays.refusedStart 22 live working) →
           Along v [] m
       go true true true t q =
           record {

@@ -249,7 +249,7 @@ module _ (limit : ℕ) (s : Session) (live working hold piece : List ℕ) (at up
 -- ---- the whole feed
 
 module _ (limit : ℕ) (s : Session) (live working hold piece : List ℕ) where
-  pub feed-refused : isReceiver limit s live working hold ≡ false → FeedSays.notAReceiver 0 0 (leaves s live working hold) hold ≡ feedSays limit s live working hold piece
+  pub feed-refused : isReceiver limit s live working hold ≡ false → FeedSays.refusedFeed 22 0 0 (leaves s live working hold) hold ≡ feedSays limit s live working hold piece
   unfolding feedSays
   feed-refused e = simp e
 

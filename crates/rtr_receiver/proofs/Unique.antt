@@ -143,11 +143,11 @@ answerIn (Ending.stops k x) = FeedAnswer.Stopped (stopOf k x)
 
 fedOf : FeedSays → Fed
 fedOf (FeedSays.fed taken updates ending left) = record { session = sessionOf left; done = record { taken = taken; updates = updates; answer = answerIn ending } }
-fedOf (FeedSays.notAReceiver taken updates left hold) = record { session = sessionOf left; done = record { taken = taken; updates = updates; answer = FeedAnswer.NotAReceiver } }
+fedOf (FeedSays.refusedFeed number taken updates left hold) = record { session = sessionOf left; done = record { taken = taken; updates = updates; answer = FeedAnswer.NotAReceiver } }
 
 leftIn : FeedSays → Left
 leftIn (FeedSays.fed taken updates ending left) = left
-leftIn (FeedSays.notAReceiver taken updates left hold) = left
+leftIn (FeedSays.refusedFeed number taken updates left hold) = left
 
 left-in : (a : FeedAnswer) (taken updates : ℕ) (left : Left) (hold : List ℕ) → leftIn (fedSaidBy a taken updates left hold) ≡ left
 unfolding leftIn
@@ -187,15 +187,15 @@ feed-unique κs a r r′ s s′ p q = one-fed r r′ (now (s .1 .0)) (now (s′ 
 
 startOf : StartSays → StartAnswer
 startOf (StartSays.started left) = StartAnswer.Started (sessionOf left)
-startOf (StartSays.refusedStart live working) = StartAnswer.NotAReceiver
+startOf (StartSays.refusedStart number live working) = StartAnswer.NotAReceiver
 
 liveIn : StartSays → List ℕ
 liveIn (StartSays.started left) = left .live
-liveIn (StartSays.refusedStart live working) = live
+liveIn (StartSays.refusedStart number live working) = live
 
 workingIn : StartSays → List ℕ
 workingIn (StartSays.started left) = left .working
-workingIn (StartSays.refusedStart live working) = working
+workingIn (StartSays.refusedStart number live working) = working
 
 start-back : (r : StartAnswer) (live working hold : List ℕ) → (startOf (startSaid r live working hold) ≡ r) × (liveIn (startSaid r live working hold) ≡ live) × (workingIn (startSaid r live working hold) ≡ working)
 unfolding startOf liveIn workingIn
@@ -267,7 +267,7 @@ pub change-ask-unique : (κs : _) (a : _) (r r′ : _) (s s′ : _) → change-r
 change-ask-unique κs a r r′ s s′ p q = one-asked r r′ _ _ _ (now (s .1 .1 .1 .1 .0)) (now (s′ .1 .1 .1 .1 .0)) _ p q
 
 notifyOf : NotifySays → NotifyAnswer
-notifyOf NotifySays.refusedNotify = NotifyAnswer.NotAReceiver
+notifyOf (NotifySays.refusedNotify number) = NotifyAnswer.NotAReceiver
 notifyOf (NotifySays.compares Notified.none) = NotifyAnswer.None
 notifyOf (NotifySays.compares Notified.otherSession) = NotifyAnswer.OtherSession
 notifyOf (NotifySays.compares Notified.same) = NotifyAnswer.Same

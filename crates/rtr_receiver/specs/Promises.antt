@@ -193,10 +193,11 @@ endingOf askedChange = goesOn
 endingOf (loading kind session) = goesOn
 endingOf (stopped number values) = stops number values
 
--- ---- feed: bytes taken, updates finished, the stop if there is one, and what is left; or 22, which takes and counts 0 and leaves all, the whole hold too
+-- ---- feed: bytes taken, updates finished, the stop if there is one, and what is left; or refused by a number, with bytes taken, updates finished, what is left and the
+-- whole hold: 22 takes and counts 0 and leaves all
 pub data FeedSays : Type 0 where
   fed : ℕ → ℕ → Ending → Left → FeedSays
-  notAReceiver : ℕ → ℕ → Left → List ℕ → FeedSays
+  refusedFeed : ℕ → ℕ → ℕ → Left → List ℕ → FeedSays
 
 abbrev pub fedTo : ℕ → Feed → FeedSays
 fedTo limit f = fed (f .taken) (f .updates) (endingOf (f .receiver .stage)) (inMemory limit (f .receiver))
@@ -205,31 +206,31 @@ unfoldable pub feedSays : ℕ → Session → List ℕ → List ℕ → List ℕ
 feedSays limit s live working hold piece =
     cond (isReceiver limit s live working hold)
     (fedTo limit (feed limit (length hold) (receiverOf s live working hold) piece))
-    (notAReceiver 0 0 (leaves s live working hold) hold)
+    (refusedFeed 22 0 0 (leaves s live working hold) hold)
 
 -- what the code's answer says, given the memory that it leaves
 abbrev pub fedSaidBy : FeedAnswer → ℕ → ℕ → Left → List ℕ → FeedSays
 fedSaidBy FeedAnswer.GoesOn taken updates left hold = fed taken updates goesOn left
 fedSaidBy (FeedAnswer.Stopped stop) taken updates left hold = fed taken updates (endingOf (stoppedBy (stopSaid stop))) left
-fedSaidBy FeedAnswer.NotAReceiver taken updates left hold = notAReceiver taken updates left hold
+fedSaidBy FeedAnswer.NotAReceiver taken updates left hold = refusedFeed 22 taken updates left hold
 
 abbrev pub fedSaid : Fed → List ℕ → List ℕ → List ℕ → FeedSays
 fedSaid r live working hold = fedSaidBy (r .done .answer) (r .done .taken) (r .done .updates) (leaves (r .session) live working hold) hold
 
--- ---- start: a fresh receiver in both rooms, or 22 for a room's size or H, and both rooms as they were
+-- ---- start: a fresh receiver in both rooms, or refused by a number, with both rooms as they are left: 22 for a room's size or H leaves them as they were
 pub data StartSays : Type 0 where
   started : Left → StartSays
-  refusedStart : List ℕ → List ℕ → StartSays
+  refusedStart : ℕ → List ℕ → List ℕ → StartSays
 
 unfoldable pub startSays : ℕ → RtrProtocolVersion → List ℕ → List ℕ → List ℕ → StartSays
 startSays limit version live working hold =
     cond (eqb (length live) (6 * limit) && (eqb (length working) (6 * limit) && leb 8 (length hold)))
     (started (inMemory limit (fresh version)))
-    (refusedStart live working)
+    (refusedStart 22 live working)
 
 abbrev pub startSaid : StartAnswer → List ℕ → List ℕ → List ℕ → StartSays
 startSaid (StartAnswer.Started s) live working hold = started (leaves s live working hold)
-startSaid StartAnswer.NotAReceiver live working hold = refusedStart live working
+startSaid StartAnswer.NotAReceiver live working hold = refusedStart 22 live working
 
 -- ---- the asks: 22, 20, 21, 9; what was written or the refusal, the output, and what is left
 pub record AskSays : Type 0 where
@@ -287,10 +288,10 @@ reconnectSaid r live working hold = record { number = reconnectNumber (r .answer
 -- ---- the notify comparison: 22 first
 pub data NotifySays : Type 0 where
   compares : Notified → NotifySays
-  refusedNotify : NotifySays
+  refusedNotify : ℕ → NotifySays
 
 unfoldable pub notifySays : ℕ → Session → List ℕ → List ℕ → List ℕ → NotifySays
-notifySays limit s live working hold = cond (isReceiver limit s live working hold) (compares (notified (s .table) (s .note))) refusedNotify
+notifySays limit s live working hold = cond (isReceiver limit s live working hold) (compares (notified (s .table) (s .note))) (refusedNotify 22)
 
 abbrev pub notifySaid : NotifyAnswer → NotifySays
 notifySaid NotifyAnswer.None = compares Notified.none
@@ -299,4 +300,4 @@ notifySaid NotifyAnswer.Same = compares Notified.same
 notifySaid NotifyAnswer.Newer = compares Notified.newer
 notifySaid NotifyAnswer.Older = compares Notified.older
 notifySaid NotifyAnswer.Undefined = compares Notified.undefined
-notifySaid NotifyAnswer.NotAReceiver = refusedNotify
+notifySaid NotifyAnswer.NotAReceiver = refusedNotify 22

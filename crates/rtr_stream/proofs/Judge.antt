@@ -4,7 +4,7 @@ use Prim.Native.Nat.{ℕ, _+_, _≤_, _<_}
 use mathlib.Core.Bool.{Bool, true, false, cond, _&&_}
 use mathlib.Core.List.{List, [], _∷_, _++_}
 use mathlib.Core.Logic.{_⊎_, inl, inr}
-use mathlib.Core.Path.{_≡_, refl, sym, ap, _∙_}
+use mathlib.Core.Path.{_≡_, refl, sym, ap, _∙_, subst}
 use native.Mathlib.Omega.{arith}
 use borrow.Author.Tests.{leb-true, leb-false, le-leb, lt-leb, ltb-true, ltb-false}
 use lib.Dec.{leb, ltb}
@@ -13,7 +13,7 @@ use lib.Seq.{length-take-le}
 use Rattle.rtr_models.specs.declared.RtrPdu.{RtrPdu}
 use Rattle.rtr_codec.specs.Reading.{Reading, crate}
 use Rattle.rtr_codec.specs.Read.{Verdict, headerLength, read, needed}
-use Rattle.rtr_codec.proofs.Laws.{needed-short, needed-large, header-stays, whole-is-not-one, read-consumes}
+use Rattle.rtr_codec.proofs.Laws.{needed-short, needed-large, header-stays, refusal-numbers, read-consumes}
 use Rattle.rtr_stream.specs.Stream.{Heard, longest, passing, heardOf, lengthIn, judge}
 use Rattle.rtr_stream.specs.Stream.Heard.{waits, whole, refused}
 use Rattle.rtr_stream.specs.Search.{isWaits, isStream}
@@ -113,16 +113,20 @@ waits-waiting R H s = go (leb 8 (length s)) (leb 8 n) (leb n longest) (leb n H) 
         (record { least = leb-true 8 n q; most = leb-true n longest r; fits = leb-true n H t })
         (leb-false n (length s) u)
 
--- a refusal is 4, 12 or a read's of bytes that are all there, so never 1
-pub refused-not-one : (R : Reading) (H : ℕ) (s : List ℕ) (number : ℕ) (values : List ℕ) → judge R H s ≡ refused number values → number ≡ 1 → ⊥
+-- the numbers by which a stream stops: 2 to 8, or 12
+abbrev pub Stops : ℕ → Type 0
+Stops k = ((2 ≤ k) × (k ≤ 8)) ⊎ (k ≡ 12)
+
+-- a refusal is 4, 12 or a read's of bytes that are all there
+pub refused-numbers : (R : Reading) (H : ℕ) (s : List ℕ) (number : ℕ) (values : List ℕ) → judge R H s ≡ refused number values → Stops number
 unfolding judge
-refused-not-one R H s number values = go (leb 8 (length s)) (leb 8 n) (leb n longest) (leb n H) (leb n (length s)) refl refl
+refused-numbers R H s number values = go (leb 8 (length s)) (leb 8 n) (leb n longest) (leb n H) (leb n (length s)) refl refl
   where
     n : ℕ
     n = headerLength s
 
-    unlike : (k : ℕ) (x : List ℕ) → (k ≡ 1 → ⊥) → refused k x ≡ refused number values → number ≡ 1 → ⊥
-    unlike k x f e one = f (let same : k ≡ number = cc in same ∙ one)
+    alike : (k : ℕ) (x : List ℕ) → Stops k → refused k x ≡ refused number values → Stops number
+    alike k x f e = subst Stops (let same : k ≡ number = cc in same) f
 
     was-read : (v : Verdict) → heardOf v ≡ refused number values → v ≡ Verdict.refused number values
     was-read (Verdict.accepted pdu m) e = absurd (let z : _≡_ {A = ℕ} 0 1 = cc in omega arith)
@@ -135,16 +139,13 @@ refused-not-one R H s number values = go (leb 8 (length s)) (leb 8 n) (leb n lon
         (passing b 4 (8 ∷ n ∷ getD s 1 0 ∷ []) (passing c 4 (longest ∷ n ∷ getD s 1 0 ∷ []) (passing d 12 (n ∷ []) (cond e (heardOf (read R s)) waits))))
         waits
         ≡ refused number values →
-        number ≡ 1 →
-        ⊥
+        Stops number
     go false b c d e p u w = absurd (not-refused _ _ (sym w))
-    go true false c d e p u w = unlike 4 _ (λ z. omega arith) w
-    go true true false d e p u w = unlike 4 _ (λ z. omega arith) w
-    go true true true false e p u w = unlike 12 _ (λ z. omega arith) w
+    go true false c d e p u w = alike 4 _ (inl (omega arith, omega arith)) w
+    go true true false d e p u w = alike 4 _ (inl (omega arith, omega arith)) w
+    go true true true false e p u w = alike 12 _ (inr refl) w
     go true true true true false p u w = absurd (not-refused _ _ (sym w))
-    go true true true true true p u w =
-        λ one. whole-is-not-one R s values (leb-true 8 (length s) p) (leb-true n (length s) u)
-        (was-read (read R s) w ∙ ap (λ (k : ℕ). Verdict.refused k values) one)
+    go true true true true true p u w = inl (refusal-numbers R s number values (leb-true 8 (length s) p) (leb-true n (length s) u) (was-read (read R s) w))
 
 -- bytes that are a PDU: a header in range, all that it names, and the read accepts them
 pub record WholePdu (R : Reading) (H : ℕ) (s : List ℕ) (pdu : RtrPdu) : Type 0 where

@@ -17,7 +17,7 @@ use Rattle.rtr_stream.specs.Stream.Heard.{waits, whole, refused}
 use Rattle.rtr_stream.specs.Search.{End, Search, over, searchFrom, isStream, outcomeOf, search, Outcome, searchSaid}
 use Rattle.rtr_stream.specs.declared.Searched.{Searched}
 use Rattle.rtr_stream.proofs.Runs.{runs-out}
-use Rattle.rtr_stream.proofs.Judge.{Waiting, waiting-grows, IsStream, judge-short, waits-waiting, waiting-waits, is-stream, stream-is, refused-not-one, whole-pdu, whole-exactly, few-or-many, judge-whole, judge-cut}
+use Rattle.rtr_stream.proofs.Judge.{Waiting, waiting-grows, IsStream, judge-short, waits-waiting, waiting-waits, is-stream, stream-is, refused-numbers, whole-pdu, whole-exactly, few-or-many, judge-whole, judge-cut}
 use Rattle.rtr_stream.proofs.Judge.Waiting.{short, cut}
 
 -- pieces end to end
@@ -195,9 +195,16 @@ module _ (R : Reading) (H : ℕ) where
           let l = length-append s t in
           judge-cut R H s many (record { least = omega arith; most = omega arith; fits = omega arith }) (omega arith)
 
-  -- 1 is never a stop
+  -- "2 to 8 and 12 to 19 in the stream are stops; 1 never arises there": 13 to 19 are the receiver's
+  pub stop-numbers : (s : List ℕ) (number : ℕ) (values : List ℕ) → judge R H s ≡ refused number values → ((2 ≤ number) × (number ≤ 8)) ⊎ (number ≡ 12)
+  stop-numbers s number values e = refused-numbers R H s number values e
+
   pub never-one : (s : List ℕ) (number : ℕ) (values : List ℕ) → judge R H s ≡ refused number values → number ≡ 1 → ⊥
-  never-one s number values e one = refused-not-one R H s number values e one
+  never-one s number values e one = go (stop-numbers s number values e)
+    where
+      go : ((2 ≤ number) × (number ≤ 8)) ⊎ (number ≡ 12) → ⊥
+      go (inl range) = omega arith
+      go (inr twelve) = omega arith
 
   module _ {A : Type 0} (F : ℕ → List ℕ → List ℕ → A) (G : ℕ → RtrPdu → List ℕ → List ℕ → A) (K : ℕ → ℕ → List ℕ → List ℕ → A) where
     -- a function that goes by the bytes, each judged with those in hand, goes by searches
