@@ -5,6 +5,7 @@ mod Calls
 mod Deeds
 mod Pdus
 mod Feeds
+pub mod Kept
 mod Good
 mod Steps
 mod Stepping

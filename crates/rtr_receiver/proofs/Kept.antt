@@ -1,0 +1,253 @@
+-- What every PDU keeps, whatever the receiver: its version for life; an empty hold; a stop is by 13 to 19; and the one update that a phase can still give in a feed is given once, since a load begins
+-- by an ask alone. From there what a feed keeps: bytes are taken one by one, a stop takes those up to the one that made it, one update finishes at the most. Assumes nothing.
+use Prim.Native.Nat.{ℕ, suc, _+_, _≤_, _<_}
+use mathlib.Core.Bool.{Bool, true, false, cond, _&&_, _||_}
+use mathlib.Core.List.{List, [], _∷_, _++_}
+use mathlib.Core.Logic.{_⊎_, inl, inr}
+use mathlib.Core.Path.{_≡_, refl, sym, ap, _∙_, subst}
+use native.Mathlib.Omega.{arith}
+use borrow.Author.Tests.{le-leb}
+use lib.Dec.{eqb, leb}
+use lib.ListN.{length, take}
+use Rattle.rtr_models.specs.Codes.{versionNumber}
+use Rattle.rtr_models.specs.Values.{announces}
+use Rattle.rtr_models.specs.declared.RtrProtocolVersion.{RtrProtocolVersion}
+use Rattle.rtr_models.specs.declared.RtrEndOfData.{RtrEndOfData}
+use Rattle.rtr_models.specs.declared.RtrPdu.{RtrPdu}
+use Rattle.rtr_models.specs.declared.RtrPdu.the-variants.{SerialNotify, SerialQuery, ResetQuery, CacheResponse, IPv4Prefix, IPv6Prefix, EndOfData, CacheReset, RouterKey, ErrorReport}
+use Rattle.rtr_codec.specs.Reading.{crate}
+use Rattle.rtr_stream.specs.Stream.{Heard, judge}
+use Rattle.rtr_stream.proofs.Laws.{stop-numbers}
+use Rattle.rtr_room.specs.Table.{Change, enter, leave}
+use Rattle.rtr_room.specs.declared.Record.{Record}
+use Rattle.rtr_room.proofs.Laws.{enter-refuses, leave-refuses}
+use Rattle.rtr_receiver.specs.Receiver.{Stage, Receiver, Deed, Feed, holding, stop, noUpdate, onSerialNotify, onChangeResponse, onCacheResponse, changedTo, onRecord, onRouterKey, onCacheReset, finish, onEndOfData, onKind, ofVersion, onPdu, heard, listens, onByte, onPiece, feed}
+use Rattle.rtr_receiver.specs.Receiver.Stage.{idle, mustReset, askedFull, askedChange, loading, stopped}
+use Rattle.rtr_receiver.specs.declared.LoadKind.{LoadKind}
+use Rattle.rtr_receiver.specs.declared.LiveTable.{LiveTable}
+use Rattle.rtr_receiver.proofs.Feeds.{from, stopped-takes-none}
+
+-- how many updates a phase can still give before the next ask
+abbrev pub toCome : Stage → ℕ
+toCome idle = 0
+toCome mustReset = 0
+toCome askedFull = 1
+toCome askedChange = 1
+toCome (loading kind session) = 1
+toCome (stopped number values) = 0
+
+-- a stop's number is document 01's
+abbrev pub isStop : ℕ → Bool
+isStop k = (leb 2 k && leb k 8) || (leb 12 k && leb k 19)
+
+abbrev pub stopsRightly : Stage → Bool
+stopsRightly idle = true
+stopsRightly mustReset = true
+stopsRightly askedFull = true
+stopsRightly askedChange = true
+stopsRightly (loading kind session) = true
+stopsRightly (stopped number values) = isStop number
+
+-- what a deed keeps of the receiver before it
+pub record Keeps (r : Receiver) (d : Deed) : Type 0 where
+  pub version : d .then .version ≡ r .version
+  pub held : r .held ≡ [] → d .then .held ≡ []
+  pub spends : d .updates + toCome (d .then .stage) ≤ toCome (r .stage)
+  pub rightly : stopsRightly (r .stage) ≡ true → stopsRightly (d .then .stage) ≡ true
+
+stop-keeps : (k : ℕ) (x : List ℕ) (r : Receiver) → isStop k ≡ true → Keeps r (noUpdate (stop k x r))
+stop-keeps k x r e = record { version = refl; held = λ _. refl; spends = omega arith; rightly = λ _. e }
+
+-- a deed that leaves phase, version and hold
+same-keeps : (r r′ : Receiver) → r′ .version ≡ r .version → r′ .held ≡ r .held → r′ .stage ≡ r .stage → Keeps r (noUpdate r′)
+same-keeps r r′ v h s =
+    let c : toCome (r′ .stage) ≡ toCome (r .stage) = ap toCome s in
+    record { version = v; held = λ e. h ∙ e; spends = omega arith; rightly = λ e. ap stopsRightly s ∙ e }
+
+response-keeps : (session : ℕ) (r : Receiver) (stage : Stage) → r .stage ≡ stage → Keeps r (noUpdate (onCacheResponse stage session r))
+response-keeps session r askedFull e =
+    let c : toCome (r .stage) ≡ 1 = ap toCome e in
+    record { version = refl; held = λ h. h; spends = omega arith; rightly = λ _. refl }
+response-keeps session r askedChange e = table (r .table)
+  where
+    go : (b : Bool) → Keeps r (noUpdate (cond b (record { version = r .version; stage = loading LoadKind.Change session; table = r .table; note = r .note; live = r .live; working = r .live; held = r .held }) (stop 15 [] r)))
+    go true =
+        let c : toCome (r .stage) ≡ 1 = ap toCome e in
+        record { version = refl; held = λ h. h; spends = omega arith; rightly = λ _. refl }
+    go false = stop-keeps 15 [] r refl
+
+    table : (t : LiveTable) → Keeps r (noUpdate (onChangeResponse t session r))
+    table LiveTable.NoTable = stop-keeps 15 [] r refl
+    table (LiveTable.Known t) = go (eqb session (t .session))
+response-keeps session r idle e = stop-keeps 13 [] r refl
+response-keeps session r mustReset e = stop-keeps 13 [] r refl
+response-keeps session r (loading kind id) e = stop-keeps 13 [] r refl
+response-keeps session r (stopped k x) e = stop-keeps 13 [] r refl
+
+module _ (limit : ℕ) where
+  changed-keeps : (c : Change) (r : Receiver) → ((n : ℕ) → c ≡ Change.refused n → isStop n ≡ true) → Keeps r (noUpdate (changedTo c r))
+  changed-keeps (Change.changed t) r f = same-keeps r _ refl refl refl
+  changed-keeps (Change.refused n) r f = stop-keeps n [] r (f n refl)
+
+  entering : (record₀ : Record) (t : List Record) (n : ℕ) → enter limit record₀ t ≡ Change.refused n → isStop n ≡ true
+  entering record₀ t n e = go (enter-refuses limit n record₀ t e)
+    where
+      go : (n ≡ 17) ⊎ (n ≡ 18) → isStop n ≡ true
+      go (inl q) = ap isStop q
+      go (inr q) = ap isStop q
+
+  record-keeps : (announced : Bool) (record₀ : Record) (r : Receiver) (stage : Stage) → Keeps r (noUpdate (onRecord limit stage announced record₀ r))
+  record-keeps true record₀ r (loading kind id) = changed-keeps (enter limit record₀ (r .working)) r (entering record₀ (r .working))
+  record-keeps false record₀ r (loading kind id) = changed-keeps (leave record₀ (r .working)) r (λ n e. ap isStop (leave-refuses n record₀ (r .working) e))
+  record-keeps announced record₀ r idle = stop-keeps 13 [] r refl
+  record-keeps announced record₀ r mustReset = stop-keeps 13 [] r refl
+  record-keeps announced record₀ r askedFull = stop-keeps 13 [] r refl
+  record-keeps announced record₀ r askedChange = stop-keeps 13 [] r refl
+  record-keeps announced record₀ r (stopped k x) = stop-keeps 13 [] r refl
+
+  key-keeps : (r : Receiver) (stage : Stage) → Keeps r (noUpdate (onRouterKey stage r))
+  key-keeps r (loading kind id) = same-keeps r r refl refl refl
+  key-keeps r idle = stop-keeps 13 [] r refl
+  key-keeps r mustReset = stop-keeps 13 [] r refl
+  key-keeps r askedFull = stop-keeps 13 [] r refl
+  key-keeps r askedChange = stop-keeps 13 [] r refl
+  key-keeps r (stopped k x) = stop-keeps 13 [] r refl
+
+  reset-keeps : (r : Receiver) (stage : Stage) → Keeps r (noUpdate (onCacheReset stage r))
+  reset-keeps r askedChange = record { version = refl; held = λ h. h; spends = omega arith; rightly = λ _. refl }
+  reset-keeps r idle = stop-keeps 13 [] r refl
+  reset-keeps r mustReset = stop-keeps 13 [] r refl
+  reset-keeps r askedFull = stop-keeps 13 [] r refl
+  reset-keeps r (loading kind id) = stop-keeps 13 [] r refl
+  reset-keeps r (stopped k x) = stop-keeps 13 [] r refl
+
+  end-keeps : (p : RtrEndOfData) (r : Receiver) (stage : Stage) → r .stage ≡ stage → Keeps r (onEndOfData stage p r)
+  end-keeps p r (loading kind id) e = go (eqb (p .«session_id») id)
+    where
+      go : (b : Bool) → Keeps r (cond b (record { then = finish p r; updates = 1 }) (noUpdate (stop 15 [] r)))
+      go true =
+          let c : toCome (r .stage) ≡ 1 = ap toCome e in
+          record { version = refl; held = λ h. h; spends = omega arith; rightly = λ _. refl }
+      go false = stop-keeps 15 [] r refl
+  end-keeps p r idle e = stop-keeps 13 [] r refl
+  end-keeps p r mustReset e = stop-keeps 13 [] r refl
+  end-keeps p r askedFull e = stop-keeps 13 [] r refl
+  end-keeps p r askedChange e = stop-keeps 13 [] r refl
+  end-keeps p r (stopped k x) e = stop-keeps 13 [] r refl
+
+  kind-keeps : (pdu : RtrPdu) (r : Receiver) → Keeps r (onKind limit pdu r)
+  unfolding onKind
+  kind-keeps (SerialNotify p) r = same-keeps r _ refl refl refl
+  kind-keeps (SerialQuery p) r = stop-keeps 13 [] r refl
+  kind-keeps (ResetQuery p) r = stop-keeps 13 [] r refl
+  kind-keeps (CacheResponse p) r = response-keeps (p .«session_id») r (r .stage) refl
+  kind-keeps (IPv4Prefix p) r = record-keeps (announces (p .flags)) _ r (r .stage)
+  kind-keeps (IPv6Prefix p) r = record-keeps (announces (p .flags)) _ r (r .stage)
+  kind-keeps (EndOfData p) r = end-keeps p r (r .stage) refl
+  kind-keeps (CacheReset p) r = reset-keeps r (r .stage)
+  kind-keeps (RouterKey p) r = key-keeps r (r .stage)
+  kind-keeps (ErrorReport p) r = stop-keeps 13 [] r refl
+
+  version-keeps : (b : Bool) (d : Deed) (r : Receiver) → Keeps r d → Keeps r (cond b d (noUpdate (stop 14 [] r)))
+  version-keeps true d r k = k
+  version-keeps false d r k = stop-keeps 14 [] r refl
+
+  pub pdu-keeps : (pdu : RtrPdu) (r : Receiver) → Keeps r (onPdu limit pdu r)
+  unfolding onPdu
+  pdu-keeps (ErrorReport p) r = stop-keeps 19 _ r refl
+  pdu-keeps (SerialNotify p) r = version-keeps (eqb (versionNumber (p .version)) (versionNumber (r .version))) _ r (kind-keeps (SerialNotify p) r)
+  pdu-keeps (SerialQuery p) r = version-keeps (eqb (versionNumber (p .version)) (versionNumber (r .version))) _ r (kind-keeps (SerialQuery p) r)
+  pdu-keeps (ResetQuery p) r = version-keeps (eqb (versionNumber (p .version)) (versionNumber (r .version))) _ r (kind-keeps (ResetQuery p) r)
+  pdu-keeps (CacheResponse p) r = version-keeps (eqb (versionNumber (p .version)) (versionNumber (r .version))) _ r (kind-keeps (CacheResponse p) r)
+  pdu-keeps (IPv4Prefix p) r = version-keeps (eqb (versionNumber (p .version)) (versionNumber (r .version))) _ r (kind-keeps (IPv4Prefix p) r)
+  pdu-keeps (IPv6Prefix p) r = version-keeps (eqb (versionNumber (p .version)) (versionNumber (r .version))) _ r (kind-keeps (IPv6Prefix p) r)
+  pdu-keeps (EndOfData p) r = version-keeps (eqb (versionNumber (p .version)) (versionNumber (r .version))) _ r (kind-keeps (EndOfData p) r)
+  pdu-keeps (CacheReset p) r = version-keeps (eqb (versionNumber (p .version)) (versionNumber (r .version))) _ r (kind-keeps (CacheReset p) r)
+  pdu-keeps (RouterKey p) r = version-keeps (eqb (versionNumber (p .version)) (versionNumber (r .version))) _ r (kind-keeps (RouterKey p) r)
+
+  -- a PDU leaves nothing held
+  pub told-drops : (pdu : RtrPdu) (r : Receiver) → onPdu limit pdu (holding [] r) .then .held ≡ []
+  told-drops pdu r = pdu-keeps pdu (holding [] r) .held refl
+
+  -- ---- what a byte keeps, and a piece
+
+  -- version and stops' numbers; and updates finished with those to come do not grow
+  pub record Keeping (f f′ : Feed) : Type 0 where
+    pub version : f′ .receiver .version ≡ f .receiver .version
+    pub spends : f′ .updates + toCome (f′ .receiver .stage) ≤ f .updates + toCome (f .receiver .stage)
+    pub rightly : stopsRightly (f .receiver .stage) ≡ true → stopsRightly (f′ .receiver .stage) ≡ true
+
+  module _ (H : ℕ) where
+    by-heard : (f : Feed) (s : List ℕ) (h : Heard) → judge crate H s ≡ h → Keeping f (heard limit (f .taken + 1) (f .updates) (f .receiver) s h)
+    by-heard f s Heard.waits j = record { version = refl; spends = omega arith; rightly = λ e. e }
+    by-heard f s (Heard.whole pdu) j =
+        let k = pdu-keeps pdu (holding [] (f .receiver)) in
+        record { version = k .version; spends = omega (arith, k .spends); rightly = k .rightly }
+    by-heard f s (Heard.refused number values) j = record { version = refl; spends = omega arith; rightly = λ _. go (stop-numbers crate H s number values j) }
+      where
+        go : ((2 ≤ number) × (number ≤ 8)) ⊎ (number ≡ 12) → isStop number ≡ true
+        go (inl range) = simp (le-leb 2 number (range .0), le-leb number 8 (range .1))
+        go (inr twelve) = ap isStop twelve
+
+    byte-keeps : (f : Feed) (b : ℕ) → Keeping f (onByte limit H f b)
+    unfolding onByte
+    byte-keeps f b = go (listens (f .receiver .stage))
+      where
+        s : List ℕ
+        s = f .receiver .held ++ b ∷ []
+
+        go : (t : Bool) → Keeping f (cond t (heard limit (f .taken + 1) (f .updates) (f .receiver) s (judge crate H s)) f)
+        go true = by-heard f s (judge crate H s) refl
+        go false = record { version = refl; spends = omega arith; rightly = λ e. e }
+
+    pub piece-keeps : (piece : List ℕ) (f : Feed) → Keeping f (onPiece limit H f piece)
+    unfolding onPiece
+    piece-keeps [] f = record { version = refl; spends = omega arith; rightly = λ e. e }
+    piece-keeps (b ∷ piece) f =
+        let one = byte-keeps f b in
+        let rest = piece-keeps piece (onByte limit H f b) in
+        record { version = rest .version ∙ one .version; spends = omega (arith, one .spends, rest .spends); rightly = λ e. rest .rightly (one .rightly e) }
+
+    -- ---- where a piece stops
+
+    -- a receiver that listens takes a byte
+    byte-taken : (f : Feed) (b : ℕ) → listens (f .receiver .stage) ≡ true → onByte limit H f b .taken ≡ f .taken + 1
+    unfolding onByte
+    byte-taken f b on = ap (λ (t : Bool). cond t (heard limit (f .taken + 1) (f .updates) (f .receiver) s (judge crate H s)) f .taken) on ∙ go (judge crate H s)
+      where
+        s : List ℕ
+        s = f .receiver .held ++ b ∷ []
+
+        go : (h : Heard) → heard limit (f .taken + 1) (f .updates) (f .receiver) s h .taken ≡ f .taken + 1
+        go Heard.waits = refl
+        go (Heard.whole pdu) = refl
+        go (Heard.refused number values) = refl
+
+    -- a piece is listened to whole, or up to the byte that makes the stop: before it the receiver listens, behind it nothing is taken
+    pub data Through (f : Feed) (piece : List ℕ) : Type 0 where
+      whole : listens (onPiece limit H f piece .receiver .stage) ≡ true → onPiece limit H f piece .taken ≡ f .taken + length piece → Through f piece
+      stops : (k : ℕ) →
+          k < length piece →
+          listens (onPiece limit H f (take k piece) .receiver .stage) ≡ true →
+          onPiece limit H f (take (suc k) piece) ≡ onPiece limit H f piece →
+          onPiece limit H f piece .taken ≡ f .taken + suc k →
+          listens (onPiece limit H f piece .receiver .stage) ≡ false →
+          Through f piece
+
+    pub through : (piece : List ℕ) (f : Feed) → listens (f .receiver .stage) ≡ true → Through f piece
+    unfolding onPiece
+    through [] f on = whole on (omega arith)
+    through (b ∷ piece) f on = go (listens (onByte limit H f b .receiver .stage)) refl (through piece (onByte limit H f b))
+      where
+        f′ : Feed
+        f′ = onByte limit H f b
+
+        later : Through f′ piece → Through f (b ∷ piece)
+        later (Through.whole e t) = whole e (omega (arith, byte-taken f b on, t))
+        later (Through.stops k less before same t off) = stops (suc k) (omega arith) before same (omega (arith, byte-taken f b on, t)) off
+
+        go : (t : Bool) → listens (f′ .receiver .stage) ≡ t → (listens (f′ .receiver .stage) ≡ true → Through f′ piece) → Through f (b ∷ piece)
+        go true e rest = later (rest e)
+        go false e rest =
+            let stays : onPiece limit H f′ piece ≡ f′ = stopped-takes-none limit H piece f′ e in
+            stops 0 (omega arith) on (sym stays) (ap (λ (x : Feed). x .taken) stays ∙ byte-taken f b on) (ap (λ (x : Feed). listens (x .receiver .stage)) stays ∙ e)
