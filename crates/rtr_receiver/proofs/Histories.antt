@@ -59,7 +59,7 @@ module _ (limit H : ℕ) where
   stopped-lost : (number : ℕ) (values : List ℕ) (r : Receiver) → Follows r (stop number values r) (goes Place.lost)
   stopped-lost number values r = onward (at-lost refl) refl (refl, inr refl)
 
-  never : (r : Receiver) {A : Type 0} → listens (r .stage) ≡ true → listens (r .stage) ≡ false → A
+  pub never : (r : Receiver) {A : Type 0} → listens (r .stage) ≡ true → listens (r .stage) ≡ false → A
   never r on off = absurd (let z : true ≡ false = sym on ∙ off in let o : _≡_ {A = ℕ} 0 1 = cc in omega arith)
 
   -- ---- PDUs, by what they are
@@ -139,7 +139,7 @@ module _ (limit H : ℕ) where
   end-follows q r Place.lost on (at-lost e) = never r on e
 
   -- a receiver that keeps its phase and tables stays where it is
-  stays : (r r′ : Receiver) (p : Place) → r′ .stage ≡ r .stage → r′ .working ≡ r .working → r′ .live ≡ r .live → At r p → At r′ p
+  pub stays : (r r′ : Receiver) (p : Place) → r′ .stage ≡ r .stage → r′ .working ≡ r .working → r′ .live ≡ r .live → At r p → At r′ p
   stays r r′ Place.idle s w l (at-idle e) = at-idle (s ∙ e)
   stays r r′ Place.mustReset s w l (at-reset e) = at-reset (s ∙ e)
   stays r r′ (Place.asked LoadKind.Full) s w l (at-full e) = at-full (s ∙ e)
@@ -183,7 +183,7 @@ module _ (limit H : ℕ) where
   told-follows (RouterKey q) r p on a = version-follows (ofVersion (r .version) (RouterKey q)) (onKind limit (RouterKey q) r) _ r (kind-follows (RouterKey q) r p on a)
 
   -- where a receiver listens the connection is not lost
-  listening : (r : Receiver) (p : Place) → listens (r .stage) ≡ true → At r p → (pdu : RtrPdu) → onPduAt limit (r .version) (liveOf r) p pdu ≡ cond (ofVersion (r .version) pdu) (onTold limit (liveOf r) p pdu) (goes Place.lost)
+  pub listening : (r : Receiver) (p : Place) → listens (r .stage) ≡ true → At r p → (pdu : RtrPdu) → onPduAt limit (r .version) (liveOf r) p pdu ≡ cond (ofVersion (r .version) pdu) (onTold limit (liveOf r) p pdu) (goes Place.lost)
   listening r Place.idle on a pdu = refl
   listening r Place.mustReset on a pdu = refl
   listening r (Place.asked kind) on a pdu = refl
@@ -226,7 +226,7 @@ module _ (limit H : ℕ) where
       go (Heard.whole pdu) = lost-forgets v live es [] s
       go (Heard.refused number values) = lost-forgets v live es [] s
 
-  deaf-lost : (r : Receiver) (p : Place) → listens (r .stage) ≡ false → At r p → p ≡ Place.lost
+  pub deaf-lost : (r : Receiver) (p : Place) → listens (r .stage) ≡ false → At r p → p ≡ Place.lost
   deaf-lost r Place.idle off (at-idle e) = never r (ap listens e) off
   deaf-lost r Place.mustReset off (at-reset e) = never r (ap listens e) off
   deaf-lost r (Place.asked LoadKind.Full) off (at-full e) = never r (ap listens e) off
@@ -245,19 +245,9 @@ module _ (limit H : ℕ) where
   follow-on r r′ (goes p) (onward a e k) = (p, a, λ is. ap (λ (l : Live). tableFromOn limit l (updates limit (r .version) l p is)) (sym e))
   follow-on r r′ (finishes u) (done st e k) = (Place.idle, at-idle st, λ is. ap (λ (l : Live). tableFromOn limit l (updates limit (r .version) l Place.idle is)) (sym e))
 
-  kept-of : (r r′ : Receiver) (n : Next) → Follows r r′ n → Kept r r′
+  pub kept-of : (r r′ : Receiver) (n : Next) → Follows r r′ n → Kept r r′
   kept-of r r′ (goes p) (onward a e k) = k
   kept-of r r′ (finishes u) (done st e k) = k
-
-  -- a PDU leaves nothing held
-  pub told-drops : (pdu : RtrPdu) (r : Receiver) (p : Place) → listens (r .stage) ≡ true → At r p → onPdu limit pdu (holding [] r) .then .held ≡ []
-  told-drops pdu r p on a =
-      let here : Receiver = holding [] r in
-      go (kept-of here _ _ (pdu-follows pdu here p on (stays r here p refl refl refl a)) .1)
-    where
-      go : (onPdu limit pdu (holding [] r) .then .held ≡ []) ⊎ (onPdu limit pdu (holding [] r) .then .held ≡ []) → onPdu limit pdu (holding [] r) .then .held ≡ []
-      go (inl e) = e
-      go (inr e) = e
 
   -- a byte
   pub byte-follows

@@ -48,32 +48,41 @@ stopsRightly askedChange = true
 stopsRightly (loading kind session) = true
 stopsRightly (stopped number values) = isStop number
 
+-- a stop clears the held bytes and the working table; it keeps the live table with its session, serial and intervals, and the note
+abbrev pub Cleared : Receiver → Receiver → Type 0
+Cleared r r′ = (r′ .held ≡ []) × (r′ .working ≡ []) × (r′ .live ≡ r .live) × (r′ .table ≡ r .table) × (r′ .note ≡ r .note)
+
+-- a receiver that listens has not stopped
+listens-still : {A : Type 0} (stage stage′ : Stage) → stage′ ≡ stage → listens stage ≡ true → listens stage′ ≡ false → A
+listens-still stage stage′ s on off = absurd (let z : true ≡ false = sym on ∙ sym (ap listens s) ∙ off in let o : _≡_ {A = ℕ} 0 1 = cc in omega arith)
+
 -- what a deed keeps of the receiver before it
 pub record Keeps (r : Receiver) (d : Deed) : Type 0 where
   pub version : d .then .version ≡ r .version
   pub held : r .held ≡ [] → d .then .held ≡ []
   pub spends : d .updates + toCome (d .then .stage) ≤ toCome (r .stage)
   pub rightly : stopsRightly (r .stage) ≡ true → stopsRightly (d .then .stage) ≡ true
+  pub clears : listens (r .stage) ≡ true → listens (d .then .stage) ≡ false → Cleared r (d .then)
 
 stop-keeps : (k : ℕ) (x : List ℕ) (r : Receiver) → isStop k ≡ true → Keeps r (noUpdate (stop k x r))
-stop-keeps k x r e = record { version = refl; held = λ _. refl; spends = omega arith; rightly = λ _. e }
+stop-keeps k x r e = record { version = refl; held = λ _. refl; spends = omega arith; rightly = λ _. e; clears = λ _ _. (refl, refl, refl, refl, refl) }
 
 -- a deed that leaves phase, version and hold
 same-keeps : (r r′ : Receiver) → r′ .version ≡ r .version → r′ .held ≡ r .held → r′ .stage ≡ r .stage → Keeps r (noUpdate r′)
 same-keeps r r′ v h s =
     let c : toCome (r′ .stage) ≡ toCome (r .stage) = ap toCome s in
-    record { version = v; held = λ e. h ∙ e; spends = omega arith; rightly = λ e. ap stopsRightly s ∙ e }
+    record { version = v; held = λ e. h ∙ e; spends = omega arith; rightly = λ e. ap stopsRightly s ∙ e; clears = λ on off. listens-still (r .stage) (r′ .stage) s on off }
 
 response-keeps : (session : ℕ) (r : Receiver) (stage : Stage) → r .stage ≡ stage → Keeps r (noUpdate (onCacheResponse stage session r))
 response-keeps session r askedFull e =
     let c : toCome (r .stage) ≡ 1 = ap toCome e in
-    record { version = refl; held = λ h. h; spends = omega arith; rightly = λ _. refl }
+    record { version = refl; held = λ h. h; spends = omega arith; rightly = λ _. refl; clears = λ on off. absurd (let z : _≡_ {A = ℕ} 0 1 = cc in omega arith) }
 response-keeps session r askedChange e = table (r .table)
   where
     go : (b : Bool) → Keeps r (noUpdate (cond b (record { version = r .version; stage = loading LoadKind.Change session; table = r .table; note = r .note; live = r .live; working = r .live; held = r .held }) (stop 15 [] r)))
     go true =
         let c : toCome (r .stage) ≡ 1 = ap toCome e in
-        record { version = refl; held = λ h. h; spends = omega arith; rightly = λ _. refl }
+        record { version = refl; held = λ h. h; spends = omega arith; rightly = λ _. refl; clears = λ on off. absurd (let z : _≡_ {A = ℕ} 0 1 = cc in omega arith) }
     go false = stop-keeps 15 [] r refl
 
     table : (t : LiveTable) → Keeps r (noUpdate (onChangeResponse t session r))
@@ -114,7 +123,7 @@ module _ (limit : ℕ) where
   key-keeps r (stopped k x) = stop-keeps 13 [] r refl
 
   reset-keeps : (r : Receiver) (stage : Stage) → Keeps r (noUpdate (onCacheReset stage r))
-  reset-keeps r askedChange = record { version = refl; held = λ h. h; spends = omega arith; rightly = λ _. refl }
+  reset-keeps r askedChange = record { version = refl; held = λ h. h; spends = omega arith; rightly = λ _. refl; clears = λ on off. absurd (let z : _≡_ {A = ℕ} 0 1 = cc in omega arith) }
   reset-keeps r idle = stop-keeps 13 [] r refl
   reset-keeps r mustReset = stop-keeps 13 [] r refl
   reset-keeps r askedFull = stop-keeps 13 [] r refl
@@ -127,7 +136,7 @@ module _ (limit : ℕ) where
       go : (b : Bool) → Keeps r (cond b (record { then = finish p r; updates = 1 }) (noUpdate (stop 15 [] r)))
       go true =
           let c : toCome (r .stage) ≡ 1 = ap toCome e in
-          record { version = refl; held = λ h. h; spends = omega arith; rightly = λ _. refl }
+          record { version = refl; held = λ h. h; spends = omega arith; rightly = λ _. refl; clears = λ on off. absurd (let z : _≡_ {A = ℕ} 0 1 = cc in omega arith) }
       go false = stop-keeps 15 [] r refl
   end-keeps p r idle e = stop-keeps 13 [] r refl
   end-keeps p r mustReset e = stop-keeps 13 [] r refl
@@ -223,6 +232,26 @@ module _ (limit : ℕ) where
         go (Heard.whole pdu) = refl
         go (Heard.refused number values) = refl
 
+    -- the byte that stops clears
+    byte-clears : (f : Feed) (b : ℕ) → listens (f .receiver .stage) ≡ true → listens (onByte limit H f b .receiver .stage) ≡ false → Cleared (f .receiver) (onByte limit H f b .receiver)
+    unfolding onByte
+    byte-clears f b on off = go (listens (f .receiver .stage)) on off
+      where
+        s : List ℕ
+        s = f .receiver .held ++ b ∷ []
+
+        by : (h : Heard) → listens (heard limit (f .taken + 1) (f .updates) (f .receiver) s h .receiver .stage) ≡ false → Cleared (f .receiver) (heard limit (f .taken + 1) (f .updates) (f .receiver) s h .receiver)
+        by Heard.waits off = listens-still (f .receiver .stage) (f .receiver .stage) refl on off
+        by (Heard.whole pdu) off = pdu-keeps pdu (holding [] (f .receiver)) .clears on off
+        by (Heard.refused number values) off = (refl, refl, refl, refl, refl)
+
+        go : (t : Bool) →
+            t ≡ true →
+            listens (cond t (heard limit (f .taken + 1) (f .updates) (f .receiver) s (judge crate H s)) f .receiver .stage) ≡ false →
+            Cleared (f .receiver) (cond t (heard limit (f .taken + 1) (f .updates) (f .receiver) s (judge crate H s)) f .receiver)
+        go true e off = by (judge crate H s) off
+        go false e off = absurd (let z : _≡_ {A = ℕ} 0 1 = cc in omega arith)
+
     -- a piece is listened to whole, or up to the byte that makes the stop: before it the receiver listens, behind it nothing is taken
     pub data Through (f : Feed) (piece : List ℕ) : Type 0 where
       whole : listens (onPiece limit H f piece .receiver .stage) ≡ true → onPiece limit H f piece .taken ≡ f .taken + length piece → Through f piece
@@ -232,6 +261,7 @@ module _ (limit : ℕ) where
           onPiece limit H f (take (suc k) piece) ≡ onPiece limit H f piece →
           onPiece limit H f piece .taken ≡ f .taken + suc k →
           listens (onPiece limit H f piece .receiver .stage) ≡ false →
+          Cleared (onPiece limit H f (take k piece) .receiver) (onPiece limit H f piece .receiver) →
           Through f piece
 
     pub through : (piece : List ℕ) (f : Feed) → listens (f .receiver .stage) ≡ true → Through f piece
@@ -244,10 +274,11 @@ module _ (limit : ℕ) where
 
         later : Through f′ piece → Through f (b ∷ piece)
         later (Through.whole e t) = whole e (omega (arith, byte-taken f b on, t))
-        later (Through.stops k less before same t off) = stops (suc k) (omega arith) before same (omega (arith, byte-taken f b on, t)) off
+        later (Through.stops k less before same t off clear) = stops (suc k) (omega arith) before same (omega (arith, byte-taken f b on, t)) off clear
 
         go : (t : Bool) → listens (f′ .receiver .stage) ≡ t → (listens (f′ .receiver .stage) ≡ true → Through f′ piece) → Through f (b ∷ piece)
         go true e rest = later (rest e)
         go false e rest =
             let stays : onPiece limit H f′ piece ≡ f′ = stopped-takes-none limit H piece f′ e in
             stops 0 (omega arith) on (sym stays) (ap (λ (x : Feed). x .taken) stays ∙ byte-taken f b on) (ap (λ (x : Feed). listens (x .receiver .stage)) stays ∙ e)
+            (subst (λ (x : Feed). Cleared (f .receiver) (x .receiver)) (sym stays) (byte-clears f b on e))

@@ -1,30 +1,51 @@
--- The laws that higher crates and readers cite of the receiver's calls, over every limit: a refused call changes nothing, a stop clears and repeats, every call
--- keeps receiver shape. Assumes nothing.
-use Prim.Native.Nat.{ℕ}
-use mathlib.Core.Bool.{true, false}
+-- The laws that higher crates and readers cite of the receiver's calls, over every limit: a refused call changes nothing; every call keeps receiver shape; what a feed takes and counts;
+-- a stop clears and repeats. Each is about the promises of specs/Promises.antt. Assumes nothing.
+use Prim.Native.Nat.{ℕ, suc, _+_, _*_, _≤_, _<_}
+use mathlib.Core.Bool.{Bool, true, false, cond, _&&_}
 use mathlib.Core.List.{List, []}
-use mathlib.Core.Path.{_≡_, refl}
+use mathlib.Core.Path.{_≡_, refl, sym, ap, _∙_, subst}
 use native.Mathlib.Omega.{arith}
+use lib.Dec.{eqb, leb}
+use lib.ListN.{length, take}
 use Rattle.rtr_models.specs.declared.RtrProtocolVersion.{RtrProtocolVersion}
 use Rattle.rtr_encode.specs.Encode.{Writing, encode}
 use Rattle.rtr_encode.proofs.Laws.{refused-keeps-output}
 use Rattle.rtr_codec.specs.Reading.{crate}
-use Rattle.rtr_receiver.specs.Receiver.{Receiver, Query, feed, stop, listens, askedBy, ask}
-use Rattle.rtr_receiver.specs.Promises.{FeedSays, isReceiver, leaves, feedSays}
-use Rattle.rtr_receiver.specs.Runs.{Call, Memory, Run}
+use Rattle.rtr_stream.proofs.Laws.{stream-has}
+use Rattle.rtr_receiver.specs.Receiver.{Stage, Receiver, Feed, Query, fresh, feed, fullQuery, changeQuery, listens, onPiece, askedBy, ask, reconnected}
+use Rattle.rtr_receiver.specs.Receiver.Stage.{idle, mustReset, askedFull, askedChange, loading, stopped}
+use Rattle.rtr_receiver.specs.Promises.{Left, Ending, FeedSays, StartSays, AskSays, ReconnectSays, isReceiver, receiverOf, stageOf, leaves, inMemory, endingOf, fedTo, feedSays, startSays, askedTo, askSays, fullAskSays, changeAskSays, reconnectSays}
+use Rattle.rtr_receiver.specs.History.{Place, items, updates}
+use Rattle.rtr_receiver.specs.Runs.{Call, Memory, Step, Run, bytes, liveIn}
 use Rattle.rtr_receiver.specs.declared.Session.{Session}
 use Rattle.rtr_receiver.proofs.Feeds.{from, stopped-takes-none}
-use Rattle.rtr_receiver.proofs.Runs.{run-along, in-shape}
+use Rattle.rtr_receiver.proofs.Memory.{standing}
+use Rattle.rtr_receiver.proofs.Steps.{Shape, shape-of, good-of, stands-for}
+use Rattle.rtr_receiver.proofs.Kept.{toCome, stopsRightly, isStop, Cleared, Keeping, piece-keeps, Through, through}
+use Rattle.rtr_receiver.proofs.Histories.{At}
+use Rattle.rtr_receiver.proofs.Counts.{piece-counts}
+use Rattle.rtr_receiver.proofs.Runs.{Stands, run-along, in-shape, step-stands}
+
+-- ---- A refused call changes nothing
 
 -- 22: a feed takes and counts 0 and leaves everything, the whole hold too
 pub refused-keeps-feed : (limit : ℕ) (s : Session) (live working hold piece : List ℕ) → isReceiver limit s live working hold ≡ false → feedSays limit s live working hold piece ≡ FeedSays.refusedFeed 22 0 0 (leaves s live working hold) hold
 unfolding feedSays
 refused-keeps-feed limit s live working hold piece e = simp e
 
+-- a start that is refused leaves both rooms, and is refused by 22
+pub refused-keeps-start : (limit : ℕ) (v : RtrProtocolVersion) (live working hold live′ working′ : List ℕ) (k : ℕ) → startSays limit v live working hold ≡ StartSays.refusedStart k live′ working′ → (live′ ≡ live) × (working′ ≡ working) × (k ≡ 22)
+unfolding startSays
+refused-keeps-start limit v live working hold live′ working′ k e = go (eqb (length live) (6 * limit) && (eqb (length working) (6 * limit) && leb 8 (length hold))) e
+  where
+    go : (b : Bool) → cond b (StartSays.started (inMemory limit (fresh v))) (StartSays.refusedStart 22 live working) ≡ StartSays.refusedStart k live′ working′ → (live′ ≡ live) × (working′ ≡ working) × (k ≡ 22)
+    go true q = absurd (let z : _≡_ {A = ℕ} 0 1 = cc in omega arith)
+    go false q = let a : live′ ≡ live = cc in let b : working′ ≡ working = cc in let c : k ≡ 22 = cc in (a, b, c)
+
 -- a refused ask changes neither receiver nor output
-pub refused-keeps-ask : (q : Query) (r : Receiver) (out : List ℕ) (k : ℕ) (x : List ℕ) → ask q r out .says ≡ Writing.refused k x → (ask q r out .receiver ≡ r) × (ask q r out .out ≡ out)
-refused-keeps-ask (Query.refused number) r out k x e = (refl, refl)
-refused-keeps-ask (Query.query pdu stage) r out k x e = go (encode crate pdu [] out .says) refl e
+refused-query : (q : Query) (r : Receiver) (out : List ℕ) (k : ℕ) (x : List ℕ) → ask q r out .says ≡ Writing.refused k x → (ask q r out .receiver ≡ r) × (ask q r out .out ≡ out)
+refused-query (Query.refused number) r out k x e = (refl, refl)
+refused-query (Query.query pdu stage) r out k x e = go (encode crate pdu [] out .says) refl e
   where
     go : (w : Writing) →
         encode crate pdu [] out .says ≡ w →
@@ -33,15 +54,213 @@ refused-keeps-ask (Query.query pdu stage) r out k x e = go (encode crate pdu [] 
     go (Writing.written n) q e = absurd (let z : _≡_ {A = ℕ} 0 1 = cc in omega arith)
     go (Writing.refused k′ x′) q e = (refl, refused-keeps-output crate pdu [] out k′ x′ q)
 
--- a stop clears the held bytes and the working table, and keeps the live table and the note
-pub stop-clears : (k : ℕ) (x : List ℕ) (r : Receiver) → (stop k x r .held ≡ []) × (stop k x r .working ≡ []) × (stop k x r .live ≡ r .live) × (stop k x r .table ≡ r .table) × (stop k x r .note ≡ r .note)
-stop-clears k x r = (refl, refl, refl, refl, refl)
+module _ (limit : ℕ) (s : Session) (live working hold : List ℕ) where
+  abbrev Keeps : AskSays → List ℕ → Type 0
+  Keeps a out = (a .out ≡ out) × (a .left ≡ leaves s live working hold)
 
--- fed again, a receiver that stopped takes nothing and stays as it is
-pub stop-repeats : (limit H : ℕ) (r : Receiver) (piece : List ℕ) → listens (r .stage) ≡ false → feed limit H r piece ≡ record { receiver = r; taken = 0; updates = 0 }
+  refused-keeps : (queryOf : Receiver → Query) (out : List ℕ) (k : ℕ) (x : List ℕ) → askSays limit queryOf s live working hold out .says ≡ Writing.refused k x → Keeps (askSays limit queryOf s live working hold out) out
+  refused-keeps queryOf out k x e = go (isReceiver limit s live working hold) refl e
+    where
+      r : Receiver
+      r = receiverOf s live working hold
+
+      given : Bool → AskSays
+      given b = cond b (askedTo limit (ask (queryOf r) r out)) (record { says = Writing.refused 22 []; out = out; left = leaves s live working hold })
+
+      go : (b : Bool) → isReceiver limit s live working hold ≡ b → given b .says ≡ Writing.refused k x → Keeps (given b) out
+      go true t q =
+          let kept = refused-query (queryOf r) r out k x q in
+          (kept .1, ap (inMemory limit) (kept .0) ∙ sym (standing limit s live working hold t))
+      go false t q = (refl, refl)
+
+  -- by 22, 20 or 9
+  pub refused-keeps-full : (out : List ℕ) (k : ℕ) (x : List ℕ) → fullAskSays limit s live working hold out .says ≡ Writing.refused k x → Keeps (fullAskSays limit s live working hold out) out
+  unfolding fullAskSays
+  refused-keeps-full out k x e = refused-keeps (λ r. fullQuery (r .stage) r) out k x e
+
+  -- by 22, 20, 21 or 9
+  pub refused-keeps-change : (out : List ℕ) (k : ℕ) (x : List ℕ) → changeAskSays limit s live working hold out .says ≡ Writing.refused k x → Keeps (changeAskSays limit s live working hold out) out
+  unfolding changeAskSays
+  refused-keeps-change out k x e = refused-keeps (λ r. changeQuery (r .stage) r) out k x e
+
+  pub refused-keeps-reconnect : reconnectSays limit s live working hold .number ≡ 22 → reconnectSays limit s live working hold .left ≡ leaves s live working hold
+  unfolding reconnectSays
+  refused-keeps-reconnect e = go (isReceiver limit s live working hold) e
+    where
+      given : Bool → ReconnectSays
+      given b = cond b (record { number = 0; left = inMemory limit (reconnected (receiverOf s live working hold)) }) (record { number = 22; left = leaves s live working hold })
+
+      go : (b : Bool) → given b .number ≡ 22 → given b .left ≡ leaves s live working hold
+      go true q = absurd (omega arith)
+      go false q = refl
+
+  -- ---- What a feed takes and counts
+
+  -- a feed that is not refused is the receiver's
+  pub record Means (piece : List ℕ) (taken updates : ℕ) (ending : Ending) (left : Left) : Type 0 where
+    pub shape : isReceiver limit s live working hold ≡ true
+    pub taken-is : feed limit (length hold) (receiverOf s live working hold) piece .taken ≡ taken
+    pub updates-is : feed limit (length hold) (receiverOf s live working hold) piece .updates ≡ updates
+    pub ending-is : endingOf (feed limit (length hold) (receiverOf s live working hold) piece .receiver .stage) ≡ ending
+    pub left-is : inMemory limit (feed limit (length hold) (receiverOf s live working hold) piece .receiver) ≡ left
+
+  pub fed-means : (piece : List ℕ) (taken updates : ℕ) (ending : Ending) (left : Left) → feedSays limit s live working hold piece ≡ FeedSays.fed taken updates ending left → Means piece taken updates ending left
+  unfolding feedSays
+  fed-means piece taken updates ending left e = go (isReceiver limit s live working hold) refl e
+    where
+      f : Feed
+      f = feed limit (length hold) (receiverOf s live working hold) piece
+
+      go : (b : Bool) → isReceiver limit s live working hold ≡ b → cond b (fedTo limit f) (FeedSays.refusedFeed 22 0 0 (leaves s live working hold) hold) ≡ FeedSays.fed taken updates ending left → Means piece taken updates ending left
+      go true t q = record { shape = t; taken-is = cc; updates-is = cc; ending-is = cc; left-is = cc }
+      go false t q = absurd (let z : _≡_ {A = ℕ} 0 1 = cc in omega arith)
+
+  listens-on : (stage : Stage) → endingOf stage ≡ Ending.goesOn → listens stage ≡ true
+  listens-on idle e = refl
+  listens-on mustReset e = refl
+  listens-on askedFull e = refl
+  listens-on askedChange e = refl
+  listens-on (loading kind session) e = refl
+  listens-on (stopped n x) e = absurd (let z : _≡_ {A = ℕ} 0 1 = cc in omega arith)
+
+  -- "Without a stop all bytes are taken"
+  pub goes-on-takes-all : (piece : List ℕ) (taken updates : ℕ) (left : Left) → feedSays limit s live working hold piece ≡ FeedSays.fed taken updates Ending.goesOn left → taken ≡ length piece
+  unfolding feed
+  goes-on-takes-all piece taken updates left e = go (listens (r .stage)) refl
+    where
+      r : Receiver
+      r = receiverOf s live working hold
+
+      m : Means piece taken updates Ending.goesOn left
+      m = fed-means piece taken updates Ending.goesOn left e
+
+      on : listens (onPiece limit (length hold) (from r 0 0) piece .receiver .stage) ≡ true
+      on = listens-on (onPiece limit (length hold) (from r 0 0) piece .receiver .stage) (m .ending-is)
+
+      by : Through limit (length hold) (from r 0 0) piece → taken ≡ length piece
+      by (Through.whole t n) = sym (m .taken-is) ∙ n ∙ omega arith
+      by (Through.stops k less before same n off clear) = absurd (let z : true ≡ false = sym on ∙ off in let o : _≡_ {A = ℕ} 0 1 = cc in omega arith)
+
+      go : (b : Bool) → listens (r .stage) ≡ b → taken ≡ length piece
+      go true t = by (through limit (length hold) piece (from r 0 0) t)
+      go false t =
+          let stays = stopped-takes-none limit (length hold) piece (from r 0 0) t in
+          absurd (let z : true ≡ false = sym on ∙ ap (λ (x : Feed). listens (x .receiver .stage)) stays ∙ t in let o : _≡_ {A = ℕ} 0 1 = cc in omega arith)
+
+  few : (stage : Stage) → toCome stage ≤ 1
+  few idle = omega arith
+  few mustReset = omega arith
+  few askedFull = omega arith
+  few askedChange = omega arith
+  few (loading kind session) = omega arith
+  few (stopped n x) = omega arith
+
+  -- an update cannot finish twice in a feed
+  pub one-update : (piece : List ℕ) (taken updates : ℕ) (ending : Ending) (left : Left) → feedSays limit s live working hold piece ≡ FeedSays.fed taken updates ending left → updates ≤ 1
+  unfolding feed
+  one-update piece taken updates ending left e =
+      let m = fed-means piece taken updates ending left e in
+      let k = piece-keeps limit (length hold) piece (from (receiverOf s live working hold) 0 0) in
+      omega (arith, k .spends, few (stageOf (s .phase)), m .updates-is)
+
+  -- "A receiver has one version .. for its life"
+  pub version-stays : (piece : List ℕ) (taken updates : ℕ) (ending : Ending) (left : Left) → feedSays limit s live working hold piece ≡ FeedSays.fed taken updates ending left → left .version ≡ s .version
+  unfolding feed
+  version-stays piece taken updates ending left e =
+      let m = fed-means piece taken updates ending left e in
+      sym (ap (λ (l : Left). l .version) (m .left-is)) ∙ piece-keeps limit (length hold) piece (from (receiverOf s live working hold) 0 0) .version
+
+  -- ---- Stops
+
+  numbered : (stage : Stage) (n : ℕ) (x : List ℕ) → endingOf stage ≡ Ending.stops n x → stopsRightly stage ≡ true → isStop n ≡ true
+  numbered idle n x e t = absurd (let z : _≡_ {A = ℕ} 0 1 = cc in omega arith)
+  numbered mustReset n x e t = absurd (let z : _≡_ {A = ℕ} 0 1 = cc in omega arith)
+  numbered askedFull n x e t = absurd (let z : _≡_ {A = ℕ} 0 1 = cc in omega arith)
+  numbered askedChange n x e t = absurd (let z : _≡_ {A = ℕ} 0 1 = cc in omega arith)
+  numbered (loading kind session) n x e t = absurd (let z : _≡_ {A = ℕ} 0 1 = cc in omega arith)
+  numbered (stopped m y) n x e t = let same : m ≡ n = cc in sym (ap isStop same) ∙ t
+
+  -- "2 to 8 and 12 to 19 in the stream are stops; 1 never arises there"
+  pub stops-are : (piece : List ℕ) (taken updates n : ℕ) (x : List ℕ) (left : Left) → stopsRightly (stageOf (s .phase)) ≡ true → feedSays limit s live working hold piece ≡ FeedSays.fed taken updates (Ending.stops n x) left → isStop n ≡ true
+  unfolding feed
+  stops-are piece taken updates n x left t e =
+      let m = fed-means piece taken updates (Ending.stops n x) left e in
+      numbered (onPiece limit (length hold) (from (receiverOf s live working hold) 0 0) piece .receiver .stage) n x (m .ending-is) (piece-keeps limit (length hold) piece (from (receiverOf s live working hold) 0 0) .rightly t)
+
+  -- "in Stopped it takes none and gives the same stop"
+  pub stop-repeats : (piece : List ℕ) (n : ℕ) (x : List ℕ) → isReceiver limit s live working hold ≡ true → stageOf (s .phase) ≡ stopped n x → feedSays limit s live working hold piece ≡ FeedSays.fed 0 0 (Ending.stops n x) (leaves s live working hold)
+  unfolding feedSays feed
+  stop-repeats piece n x shape e =
+      let r : Receiver = receiverOf s live working hold in
+      let none : onPiece limit (length hold) (from r 0 0) piece ≡ from r 0 0 = stopped-takes-none limit (length hold) piece (from r 0 0) (ap listens e) in
+      ap (λ (b : Bool). cond b (fedTo limit (onPiece limit (length hold) (from r 0 0) piece)) (FeedSays.refusedFeed 22 0 0 (leaves s live working hold) hold)) shape
+      ∙ ap (fedTo limit) none
+      ∙ ap (λ (t : Stage). FeedSays.fed 0 0 (endingOf t) (inMemory limit r)) e
+      ∙ ap (λ (l : Left). FeedSays.fed 0 0 (Ending.stops n x) l) (sym (standing limit s live working hold shape))
+
+-- "A stop takes bytes up to the one that completed the refused header or PDU", and clears: fed up to the byte before, the receiver listens; that byte stops it, and what follows is not taken. The held
+-- bytes and the working table are gone; the live table, its session, serial and intervals, and the note are those before the byte.
+pub stop-clears : (limit H : ℕ) (r : Receiver) (piece : List ℕ) →
+    listens (r .stage) ≡ true →
+    listens (feed limit H r piece .receiver .stage) ≡ false →
+    (k : ℕ)
+    × (k < length piece)
+    × (feed limit H r piece .taken ≡ suc k)
+    × (listens (feed limit H r (take k piece) .receiver .stage) ≡ true)
+    × (feed limit H r (take (suc k) piece) ≡ feed limit H r piece)
+    × Cleared (feed limit H r (take k piece) .receiver) (feed limit H r piece .receiver)
 unfolding feed
-stop-repeats limit H r piece e = stopped-takes-none limit H piece (from r 0 0) e
+stop-clears limit H r piece on off = go (through limit H piece (from r 0 0) on)
+  where
+    go : Through limit H (from r 0 0) piece →
+        (k : ℕ)
+        × (k < length piece)
+        × (onPiece limit H (from r 0 0) piece .taken ≡ suc k)
+        × (listens (onPiece limit H (from r 0 0) (take k piece) .receiver .stage) ≡ true)
+        × (onPiece limit H (from r 0 0) (take (suc k) piece) ≡ onPiece limit H (from r 0 0) piece)
+        × Cleared (onPiece limit H (from r 0 0) (take k piece) .receiver) (onPiece limit H (from r 0 0) piece .receiver)
+    go (Through.whole t n) = absurd (let z : true ≡ false = sym t ∙ off in let o : _≡_ {A = ℕ} 0 1 = cc in omega arith)
+    go (Through.stops k less before same n gone clear) = (k, less, n ∙ omega arith, before, same, clear)
 
--- every call keeps receiver shape: along a run 22 never comes
+-- ---- Every call keeps receiver shape
+
+-- from any memory that has it
+pub keeps-shape : (limit : ℕ) (call : Call) (m m′ : Memory) → isReceiver limit (m .session) (m .live) (m .working) (m .hold) ≡ true → Step limit m call m′ → isReceiver limit (m′ .session) (m′ .live) (m′ .working) (m′ .hold) ≡ true
+keeps-shape limit call m m′ e step =
+    let shape = shape-of limit (m .session) (m .live) (m .working) (m .hold) e in
+    let stream = stream-has (m .hold) (m .session .held) (shape .stream) in
+    let st : Stands limit (length (m .hold)) m (receiverOf (m .session) (m .live) (m .working) (m .hold)) =
+    record {
+      size = refl;
+      least = stream .0;
+      left = standing limit (m .session) (m .live) (m .working) (m .hold) e;
+      sound = record { good = good-of limit (m .session) (m .live) (m .working) (m .hold) shape; waits = stream .2 };
+    } in
+    in-shape limit (length (m .hold)) (step-stands limit (length (m .hold)) call m m′ _ st step)
+
+-- so along a run 22 never comes
 pub shape-kept : (limit H : ℕ) (v : RtrProtocolVersion) (calls : List Call) (m : Memory) → Run limit v H calls m → isReceiver limit (m .session) (m .live) (m .working) (m .hold) ≡ true
 shape-kept limit H v calls m run = in-shape limit H (run-along limit H v calls m run .stands)
+
+-- ---- What a feed counts is what the history's page counts: the updates that finish in its bytes, from the place where the connection stands
+
+pub feed-counts : (limit H : ℕ) (v : RtrProtocolVersion) (calls : List Call) (m : Memory) (piece : List ℕ) (taken counted : ℕ) (ending : Ending) (left : Left) →
+    Run limit v H calls m →
+    feedSays limit (m .session) (m .live) (m .working) (m .hold) piece ≡ FeedSays.fed taken counted ending left →
+    (p : Place)
+    × At limit H (receiverOf (m .session) (m .live) (m .working) (m .hold)) p
+    × (counted ≡ length (updates limit (m .session .version) (liveIn m) p (items H (take (m .session .held) (m .hold)) (bytes piece))))
+unfolding feed
+feed-counts limit H v calls m piece taken counted ending left run e =
+    let along = run-along limit H v calls m run in
+    let r : Receiver = receiverOf (m .session) (m .live) (m .working) (m .hold) in
+    let same : r ≡ along .receiver = stands-for limit (m .session) (m .live) (m .working) (m .hold) (along .receiver) (along .stands .left) in
+    let at : At limit H r (along .place) = subst (λ (x : Receiver). At limit H x (along .place)) (sym same) (along .at) in
+    let means = fed-means limit (m .session) (m .live) (m .working) (m .hold) piece taken counted ending left e in (
+      along .place,
+      at,
+      sym (means .updates-is)
+          ∙ ap (λ (h : ℕ). onPiece limit h (from r 0 0) piece .updates) (along .stands .size)
+          ∙ piece-counts limit H piece r (along .place) 0 0 at
+          ∙ omega arith,
+    )

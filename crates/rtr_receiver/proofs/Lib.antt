@@ -1,4 +1,4 @@
--- `Laws`, `Shape`, `Unique`, `Runs` (demand 3) and `Examples` are for readers and other crates; the others are the argument.
+-- `Laws`, `Shape`, `Unique`, `Runs` (demand 3), `Coded` and `Examples` are for readers and other crates; the others are the argument.
 pub mod Memory
 pub mod Shape
 mod Calls
@@ -12,5 +12,7 @@ mod Stepping
 pub mod Laws
 pub mod Unique
 pub mod Histories
+pub mod Counts
 pub mod Runs
+pub mod Coded
 pub mod Examples

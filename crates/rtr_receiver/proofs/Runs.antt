@@ -29,7 +29,8 @@ use Rattle.rtr_receiver.specs.declared.StartAnswer.{StartAnswer}
 use Rattle.rtr_receiver.proofs.Feeds.{from}
 use Rattle.rtr_receiver.proofs.Good.{Good, fresh-good, stop-good, pdu-good, changeIn, loadingIn, stoppedIn}
 use Rattle.rtr_receiver.proofs.Steps.{shape-is, shape-of-good, stands-for}
-use Rattle.rtr_receiver.proofs.Histories.{At, liveOf, outcome, told-drops, byte-follows, piece-follows, full-follows, change-follows, reconnect-follows}
+use Rattle.rtr_receiver.proofs.Kept.{told-drops}
+use Rattle.rtr_receiver.proofs.Histories.{At, liveOf, outcome, piece-follows, full-follows, change-follows, reconnect-follows}
 
 module _ (limit H : ℕ) where
   -- ---- every call keeps the shape
@@ -63,9 +64,9 @@ module _ (limit H : ℕ) where
       calm (Stage.loading kind session) e = refl
       calm (Stage.stopped k x) e = absurd (let z : _≡_ {A = ℕ} 0 1 = cc in omega arith)
 
-  byte-sound : (f : Feed) (p : Place) (b : ℕ) → At limit H (f .receiver) p → Sound (f .receiver) → Sound (onByte limit H f b .receiver)
+  byte-sound : (f : Feed) (b : ℕ) → Sound (f .receiver) → Sound (onByte limit H f b .receiver)
   unfolding onByte
-  byte-sound f p b a sound = go (listens (f .receiver .stage)) refl
+  byte-sound f b sound = go (listens (f .receiver .stage)) refl
     where
       by : (h : Heard) → listens (f .receiver .stage) ≡ true → judge crate H (f .receiver .held ++ b ∷ []) ≡ h → Sound (heard limit (f .taken + 1) (f .updates) (f .receiver) (f .receiver .held ++ b ∷ []) h .receiver)
       by Heard.waits on j = holding-sound (f .receiver) (f .receiver .held ++ b ∷ []) on j (sound .good)
@@ -86,7 +87,7 @@ module _ (limit H : ℕ) where
                   quiet = inr refl;
                 })
                 rule .0;
-            waits = ap (judge crate H) (told-drops limit H pdu (f .receiver) p on a) ∙ nothing-waits crate H;
+            waits = ap (judge crate H) (told-drops limit pdu (f .receiver)) ∙ nothing-waits crate H;
           }
       by (Heard.refused number values) on j = record { good = stop-good limit number values (f .receiver) (sound .good); waits = nothing-waits crate H }
 
@@ -94,12 +95,10 @@ module _ (limit H : ℕ) where
       go true e = by (judge crate H (f .receiver .held ++ b ∷ [])) e refl
       go false e = sound
 
-  pub piece-sound : (piece : List ℕ) (f : Feed) (p : Place) → At limit H (f .receiver) p → Sound (f .receiver) → Sound (onPiece limit H f piece .receiver)
+  pub piece-sound : (piece : List ℕ) (f : Feed) → Sound (f .receiver) → Sound (onPiece limit H f piece .receiver)
   unfolding onPiece
-  piece-sound [] f p a sound = sound
-  piece-sound (b ∷ piece) f p a sound =
-      let one = byte-follows limit H (f .receiver) p b (f .taken) (f .updates) a in
-      piece-sound piece (onByte limit H f b) (one .0) (one .1) (byte-sound f p b a sound)
+  piece-sound [] f sound = sound
+  piece-sound (b ∷ piece) f sound = piece-sound piece (onByte limit H f b) (byte-sound f b sound)
 
   -- another phase that is no load, no change and no stop
   asked-sound : (r : Receiver) (stage : Stage) → Sound r → loadingIn (r .stage) ≡ false → ((hasTable (r .table) ≡ true) ⊎ (changeIn stage ≡ false)) → stoppedIn stage ≡ false → Sound (inStage stage r)
@@ -220,6 +219,57 @@ module _ (limit H : ℕ) where
   unfolding reconnectSays
   reconnect-said m e = simp e
 
+  -- the receiver that memory stands for
+  is-receiver : {m : Memory} {r : Receiver} → Stands m r → receiverOf (m .session) (m .live) (m .working) (m .hold) ≡ r
+  is-receiver {m} {r} s = stands-for limit (m .session) (m .live) (m .working) (m .hold) r (s .left)
+
+  -- the receiver after a call
+  abbrev pub after : Call → Receiver → Receiver
+  after (Call.feed piece) r = onPiece limit H (from r 0 0) piece .receiver
+  after (Call.ask LoadKind.Full out) r = ask (fullQuery (r .stage) r) r out .receiver
+  after (Call.ask LoadKind.Change out) r = ask (changeQuery (r .stage) r) r out .receiver
+  after Call.reconnect r = reconnected r
+
+  -- memory that stands for a receiver stands, after a call, for the receiver after it
+  pub step-stands : (call : Call) (m m′ : Memory) (r : Receiver) → Stands m r → Step limit m call m′ → Stands m′ (after call r)
+  unfolding feed
+  step-stands (Call.feed piece) m m′ r st (Step.fed s done live working hold size e) =
+      let said = e ∙ feed-said m piece (in-shape st) in
+      let left = fed-left done (leaves s live working hold) hold (feed limit (length (m .hold)) (receiverOf (m .session) (m .live) (m .working) (m .hold)) piece) said in
+      record {
+        size = size ∙ st .size;
+        least = st .least;
+        left =
+            left
+            ∙ ap (λ (h : ℕ). inMemory limit (onPiece limit h (from (receiverOf (m .session) (m .live) (m .working) (m .hold)) 0 0) piece .receiver)) (st .size)
+            ∙ ap (λ (x : Receiver). inMemory limit (onPiece limit H (from x 0 0) piece .receiver)) (is-receiver st);
+        sound = piece-sound piece (from r 0 0) (st .sound);
+      }
+  step-stands (Call.ask LoadKind.Full out) m m′ r st (Step.askedFull s answer out′ e) =
+      let said = e ∙ full-said m out (in-shape st) in
+      record {
+        size = st .size;
+        least = st .least;
+        left = ap (λ (x : AskSays). x .left) said ∙ ap (λ (x : Receiver). inMemory limit (ask (fullQuery (x .stage) x) x out .receiver)) (is-receiver st);
+        sound = full-sound r out (st .sound) (r .stage) refl;
+      }
+  step-stands (Call.ask LoadKind.Change out) m m′ r st (Step.askedChange s answer out′ e) =
+      let said = e ∙ change-said m out (in-shape st) in
+      record {
+        size = st .size;
+        least = st .least;
+        left = ap (λ (x : AskSays). x .left) said ∙ ap (λ (x : Receiver). inMemory limit (ask (changeQuery (x .stage) x) x out .receiver)) (is-receiver st);
+        sound = change-sound r out (st .sound) (r .stage) refl;
+      }
+  step-stands Call.reconnect m m′ r st (Step.connected s answer working e) =
+      let said = e ∙ reconnect-said m (in-shape st) in
+      record {
+        size = st .size;
+        least = st .least;
+        left = ap (λ (x : ReconnectSays). x .left) said ∙ ap (λ (x : Receiver). inMemory limit (reconnected x)) (is-receiver st);
+        sound = reconnect-sound r (st .sound);
+      }
+
   -- a run so far: memory stands for a receiver at a place, and whatever comes makes of the history what it makes of the receiver
   pub record Along (v : RtrProtocolVersion) (calls : List Call) (m : Memory) : Type 0 where
     pub receiver : Receiver
@@ -227,10 +277,6 @@ module _ (limit H : ℕ) where
     pub stands : Stands m receiver
     pub at : At limit H receiver place
     pub to-come : (es : List Event) → tableOf limit (finished limit H v (historyOf calls ++ es)) ≡ outcome limit H receiver place es
-
-  -- the receiver that memory stands for
-  is-receiver : {m : Memory} {r : Receiver} → Stands m r → receiverOf (m .session) (m .live) (m .working) (m .hold) ≡ r
-  is-receiver {m} {r} s = stands-for limit (m .session) (m .live) (m .working) (m .hold) r (s .left)
 
   history-snoc : (calls : List Call) (call : Call) (es : List Event) → historyOf (calls ++ call ∷ []) ++ es ≡ historyOf calls ++ (historyOf (call ∷ []) ++ es)
   unfolding historyOf
@@ -268,27 +314,14 @@ module _ (limit H : ℕ) where
 
   -- one call more
   step-along : (v : RtrProtocolVersion) (calls : List Call) (call : Call) (m m′ : Memory) → Along v calls m → Step limit m call m′ → Along v (calls ++ call ∷ []) m′
-  unfolding historyOf feed
-  step-along v calls (Call.feed piece) m m′ along (Step.fed s done live working hold size e) =
+  unfolding historyOf
+  step-along v calls (Call.feed piece) m m′ along step =
       let r : Receiver = along .receiver in
-      let st = along .stands in
       let f = piece-follows limit H piece r (along .place) 0 0 (along .at) in
-      let there : Receiver = onPiece limit H (from r 0 0) piece .receiver in
-      let said = e ∙ feed-said m piece (in-shape st) in
-      let left = fed-left done (leaves s live working hold) hold (feed limit (length (m .hold)) (receiverOf (m .session) (m .live) (m .working) (m .hold)) piece) said in
       record {
-        receiver = there;
+        receiver = after (Call.feed piece) r;
         place = f .0;
-        stands =
-            record {
-              size = size ∙ st .size;
-              least = st .least;
-              left =
-                  left
-                  ∙ ap (λ (h : ℕ). inMemory limit (onPiece limit h (from (receiverOf (m .session) (m .live) (m .working) (m .hold)) 0 0) piece .receiver)) (st .size)
-                  ∙ ap (λ (x : Receiver). inMemory limit (onPiece limit H (from x 0 0) piece .receiver)) (is-receiver st);
-              sound = piece-sound piece (from r 0 0) (along .place) (along .at) (st .sound);
-            };
+        stands = step-stands (Call.feed piece) m m′ r (along .stands) step;
         at = f .1;
         to-come = λ es.
             ap (λ (h : List Event). tableOf limit (finished limit H v h)) (history-snoc calls (Call.feed piece) es)
@@ -296,62 +329,38 @@ module _ (limit H : ℕ) where
             ∙ ap (λ (x : List Event). outcome limit H r (along .place) (x ++ es)) (append-nil (bytes piece))
             ∙ f .2 es;
       }
-  step-along v calls (Call.ask LoadKind.Full out) m m′ along (Step.askedFull s answer out′ e) =
+  step-along v calls (Call.ask LoadKind.Full out) m m′ along step =
       let r : Receiver = along .receiver in
-      let st = along .stands in
       let f = full-follows limit H r (along .place) out (along .at) in
-      let said = e ∙ full-said m out (in-shape st) in
       record {
-        receiver = ask (fullQuery (r .stage) r) r out .receiver;
+        receiver = after (Call.ask LoadKind.Full out) r;
         place = f .0;
-        stands =
-            record {
-              size = st .size;
-              least = st .least;
-              left = ap (λ (x : AskSays). x .left) said ∙ ap (λ (x : Receiver). inMemory limit (ask (fullQuery (x .stage) x) x out .receiver)) (is-receiver st);
-              sound = full-sound r out (st .sound) (r .stage) refl;
-            };
+        stands = step-stands (Call.ask LoadKind.Full out) m m′ r (along .stands) step;
         at = f .1;
         to-come = λ es.
             ap (λ (h : List Event). tableOf limit (finished limit H v h)) (history-snoc calls (Call.ask LoadKind.Full out) es)
             ∙ along .to-come (Event.ask LoadKind.Full (length out) ∷ es)
             ∙ f .2 es;
       }
-  step-along v calls (Call.ask LoadKind.Change out) m m′ along (Step.askedChange s answer out′ e) =
+  step-along v calls (Call.ask LoadKind.Change out) m m′ along step =
       let r : Receiver = along .receiver in
-      let st = along .stands in
       let f = change-follows limit H r (along .place) out (along .at) in
-      let said = e ∙ change-said m out (in-shape st) in
       record {
-        receiver = ask (changeQuery (r .stage) r) r out .receiver;
+        receiver = after (Call.ask LoadKind.Change out) r;
         place = f .0;
-        stands =
-            record {
-              size = st .size;
-              least = st .least;
-              left = ap (λ (x : AskSays). x .left) said ∙ ap (λ (x : Receiver). inMemory limit (ask (changeQuery (x .stage) x) x out .receiver)) (is-receiver st);
-              sound = change-sound r out (st .sound) (r .stage) refl;
-            };
+        stands = step-stands (Call.ask LoadKind.Change out) m m′ r (along .stands) step;
         at = f .1;
         to-come = λ es.
             ap (λ (h : List Event). tableOf limit (finished limit H v h)) (history-snoc calls (Call.ask LoadKind.Change out) es)
             ∙ along .to-come (Event.ask LoadKind.Change (length out) ∷ es)
             ∙ f .2 es;
       }
-  step-along v calls Call.reconnect m m′ along (Step.connected s answer working e) =
+  step-along v calls Call.reconnect m m′ along step =
       let r : Receiver = along .receiver in
-      let st = along .stands in
-      let said = e ∙ reconnect-said m (in-shape st) in
       record {
         receiver = reconnected r;
         place = Place.idle;
-        stands =
-            record {
-              size = st .size;
-              least = st .least;
-              left = ap (λ (x : ReconnectSays). x .left) said ∙ ap (λ (x : Receiver). inMemory limit (reconnected x)) (is-receiver st);
-              sound = reconnect-sound r (st .sound);
-            };
+        stands = step-stands Call.reconnect m m′ r (along .stands) step;
         at = At.at-idle refl;
         to-come = λ es.
             ap (λ (h : List Event). tableOf limit (finished limit H v h)) (history-snoc calls Call.reconnect es)
