@@ -18,7 +18,8 @@ use Rattle.rtr_encode.specs.declared.EncodeError.{EncodeError}
 use Rattle.rtr_encode.specs.declared.EncodeAnswer.{EncodeAnswer}
 use Rattle.rtr_room.proofs.Laws.{empty-is}
 use Rattle.rtr_receiver.specs.Receiver.{Stage, Receiver, Query, Notified, fullQuery, changeQuery, askedBy, ask, reconnected, notified, compared, fresh}
-use Rattle.rtr_receiver.specs.Promises.{Left, StartSays, NotifySays, hasTable, changeUnderWay, isLoading, isStopped, stageOf, receiverOf, isReceiver, leaves, inMemory, startSays, askedTo, askSays, askSaid, reconnectSays, notifySays}
+use Rattle.rtr_receiver.specs.History.{hasTable}
+use Rattle.rtr_receiver.specs.Promises.{Left, StartSays, NotifySays, changeUnderWay, isLoading, isStopped, stageOf, receiverOf, isReceiver, leaves, inMemory, startSays, askedTo, askSays, askSaid, reconnectSays, notifySays}
 use Rattle.rtr_receiver.specs.Private.{tabled, askedFor}
 use Rattle.rtr_receiver.specs.declared.Stop.{Stop}
 use Rattle.rtr_receiver.specs.declared.Phase.{Phase}

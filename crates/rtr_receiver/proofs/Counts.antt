@@ -16,7 +16,7 @@ use Rattle.rtr_models.specs.declared.RtrPdu.the-variants.{SerialNotify, SerialQ
 use Rattle.rtr_codec.specs.Reading.{crate}
 use Rattle.rtr_stream.specs.Stream.{Heard, judge}
 use Rattle.rtr_receiver.specs.Receiver.{Stage, Receiver, Deed, Feed, holding, stop, noUpdate, finish, onEndOfData, onKind, onPdu, heard, listens, onByte, onPiece}
-use Rattle.rtr_receiver.specs.History.{Event, Update, Live, Item, Place, Next, tableFrom, updated, itemsBy, items, onEnd, onTold, ofVersion, onPduAt, onItem, orFinished, updates}
+use Rattle.rtr_receiver.specs.History.{Event, Update, Live, Item, Place, Next, endSays, updated, itemsBy, items, onEnd, onTold, ofVersion, onPduAt, onItem, orFinished, updates}
 use Rattle.rtr_receiver.specs.History.Next.{goes, finishes}
 use Rattle.rtr_receiver.specs.Runs.{bytes}
 use Rattle.rtr_receiver.specs.declared.LoadKind.{LoadKind}
@@ -32,7 +32,7 @@ ends (goes p) = 0
 ends (finishes u) = 1
 
 module _ (limit H : ℕ) where
-  end-counts : (q : RtrEndOfData) (r : Receiver) (p : Place) → listens (r .stage) ≡ true → At limit H r p → onEndOfData (r .stage) q r .updates ≡ ends (onEnd p (q .«session_id») (tableFrom q))
+  end-counts : (q : RtrEndOfData) (r : Receiver) (p : Place) → listens (r .stage) ≡ true → At limit H r p → onEndOfData (r .stage) q r .updates ≡ ends (onEnd p (q .«session_id») (endSays q))
   end-counts q r Place.idle on (at-idle e) = ap (λ (s : Stage). onEndOfData s q r .updates) e
   end-counts q r Place.mustReset on (at-reset e) = ap (λ (s : Stage). onEndOfData s q r .updates) e
   end-counts q r (Place.asked LoadKind.Full) on (at-full e) = ap (λ (s : Stage). onEndOfData s q r .updates) e
@@ -41,7 +41,7 @@ module _ (limit H : ℕ) where
     where
       go : (b : Bool) →
           cond {A = Deed} b (record { then = finish q r; updates = 1 }) (record { then = stop 15 [] r; updates = 0 }) .updates
-          ≡ ends (cond b (finishes (record { kind = kind; records = cs; end = tableFrom q })) (goes Place.lost))
+          ≡ ends (cond b (finishes (record { kind = kind; records = cs; end = endSays q })) (goes Place.lost))
       go true = refl
       go false = refl
   end-counts q r Place.lost on (at-lost e) = never limit H r on e

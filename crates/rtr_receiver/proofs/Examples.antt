@@ -16,7 +16,7 @@ use Rattle.rtr_stream.proofs.Laws.{pdu-is-heard, front-waits}
 use Rattle.rtr_room.specs.Table.{Change, ipv4Record, leave}
 use Rattle.rtr_room.specs.declared.Record.{Record}
 use Rattle.rtr_room.proofs.Laws.{enter-first, leave-first, leave-empty}
-use Rattle.rtr_receiver.specs.History.{Event, Update, Live, Item, Place, noTable, kept, withAll, tableFromOn, tableOf, itemsBy, items, takenIn, updates, finished}
+use Rattle.rtr_receiver.specs.History.{Event, Update, Live, Item, Place, noTable, kept, withAll, withUpdates, tableOf, itemsBy, items, takenIn, updates, finished}
 use Rattle.rtr_receiver.specs.Runs.{bytes}
 use Rattle.rtr_receiver.specs.declared.LoadKind.{LoadKind}
 use Rattle.rtr_receiver.specs.declared.Table.{Table}
@@ -133,12 +133,12 @@ module _ (limit H : ℕ) (some : 1 ≤ limit) (size : 24 ≤ H) where
   abbrev first : Live
   first = record { info = LiveTable.Known (said 7); records = prefix ∷ [] }
 
-  loaded-is : tableFromOn limit noTable (loaded ∷ []) ≡ first
-  unfolding tableFromOn withAll
+  loaded-is : withUpdates limit noTable (loaded ∷ []) ≡ first
+  unfolding withUpdates withAll
   loaded-is = ap (λ (c : Change). record { info = LiveTable.Known (said 7); records = kept [] c }) (enter-first limit prefix some)
 
   after-load : (es : List Event) → finished limit H V1 (load es) ≡ loaded ∷ updates limit V1 first Place.idle (items H [] es)
-  unfolding updates tableFromOn
+  unfolding updates withUpdates
   after-load es =
       began (ended 7 es)
       ∙ ap (updates limit V1 noTable (Place.loading LoadKind.Full 4660 (record { announced = true; what = prefix } ∷ []))) (ended-items es)
@@ -190,10 +190,10 @@ module _ (limit H : ℕ) (some : 1 ≤ limit) (size : 24 ≤ H) where
       ∙ ap (λ (is : List Item). loaded ∷ updates limit V1 first (Place.loading LoadKind.Change 4660 (record { announced = false; what = prefix } ∷ [])) is) (later-ended-items [])
 
   pub change-table : tableOf limit (finished limit H V1 (load (changeAsk (response (withdrawn (ended 8 [])))))) ≡ record { info = LiveTable.Known (said 8); records = [] }
-  unfolding tableFromOn withAll
+  unfolding withUpdates withAll
   change-table =
       ap (tableOf limit) change
-      ∙ ap (λ (l : Live). tableFromOn limit l (emptied ∷ [])) loaded-is
+      ∙ ap (λ (l : Live). withUpdates limit l (emptied ∷ [])) loaded-is
       ∙ ap (λ (c : Change). record { info = LiveTable.Known (said 8); records = kept (prefix ∷ []) c }) (leave-first prefix [])
 
   -- 5. a change that is refused half-way (the prefix withdrawn twice): the table stays the load's, though an End of Data follows

@@ -19,7 +19,7 @@ use Rattle.rtr_stream.specs.Stream.{Heard, judge}
 use Rattle.rtr_room.specs.Table.{Change, enter, leave}
 use Rattle.rtr_room.specs.declared.Record.{Record}
 use Rattle.rtr_receiver.specs.Receiver.{Stage, Receiver, Deed, holding, stop, startLoad, onChangeResponse, onCacheResponse, changedTo, onRecord, onRouterKey, onCacheReset, finish, onEndOfData, onKind, onPdu, heard, listens, onByte, onPiece, inStage, Query, resetQuery, fullQuery, serialQuery, changeQuery, askedBy, ask, reconnected}
-use Rattle.rtr_receiver.specs.History.{Event, Changed, Update, Live, Item, Place, Next, applied, kept, withAll, base, updated, tableFromOn, itemsBy, items, isKnown, ofSession, onResponse, takenIn, onPrefix, onKey, onReset, tableFrom, onEnd, onTold, ofVersion, onPduAt, onItem, orFinished, updates}
+use Rattle.rtr_receiver.specs.History.{Event, Changed, Update, Live, Item, Place, Next, applied, kept, withAll, base, updated, withUpdates, itemsBy, items, hasTable, ofSession, onResponse, takenIn, onPrefix, onKey, onReset, endSays, onEnd, onTold, ofVersion, onPduAt, onItem, orFinished, updates}
 use Rattle.rtr_receiver.specs.History.Next.{goes, finishes}
 use Rattle.rtr_receiver.specs.Runs.{bytes}
 use Rattle.rtr_receiver.specs.declared.LoadKind.{LoadKind}
@@ -123,18 +123,18 @@ module _ (limit H : ℕ) where
   reset-follows r (Place.loading kind session cs) on (at-load e w) = subst (λ (s : Stage). Follows r (onCacheReset s r) (goes Place.lost)) (sym e) (stopped-lost 13 [] r)
   reset-follows r Place.lost on (at-lost e) = never r on e
 
-  end-follows : (q : RtrEndOfData) (r : Receiver) (p : Place) → listens (r .stage) ≡ true → At r p → Follows r (onEndOfData (r .stage) q r .then) (onEnd p (q .«session_id») (tableFrom q))
+  end-follows : (q : RtrEndOfData) (r : Receiver) (p : Place) → listens (r .stage) ≡ true → At r p → Follows r (onEndOfData (r .stage) q r .then) (onEnd p (q .«session_id») (endSays q))
   end-follows q r Place.idle on (at-idle e) = subst (λ (s : Stage). Follows r (onEndOfData s q r .then) (goes Place.lost)) (sym e) (stopped-lost 13 [] r)
   end-follows q r Place.mustReset on (at-reset e) = subst (λ (s : Stage). Follows r (onEndOfData s q r .then) (goes Place.lost)) (sym e) (stopped-lost 13 [] r)
   end-follows q r (Place.asked LoadKind.Full) on (at-full e) = subst (λ (s : Stage). Follows r (onEndOfData s q r .then) (goes Place.lost)) (sym e) (stopped-lost 13 [] r)
   end-follows q r (Place.asked LoadKind.Change) on (at-change e) = subst (λ (s : Stage). Follows r (onEndOfData s q r .then) (goes Place.lost)) (sym e) (stopped-lost 13 [] r)
   end-follows q r (Place.loading kind session cs) on (at-load e w) =
-      subst (λ (s : Stage). Follows r (onEndOfData s q r .then) (onEnd (Place.loading kind session cs) (q .«session_id») (tableFrom q))) (sym e) (go (eqb (q .«session_id») session))
+      subst (λ (s : Stage). Follows r (onEndOfData s q r .then) (onEnd (Place.loading kind session cs) (q .«session_id») (endSays q))) (sym e) (go (eqb (q .«session_id») session))
     where
       go : (b : Bool) →
           Follows r (cond {A = Deed} b (record { then = finish q r; updates = 1 }) (record { then = stop 15 [] r; updates = 0 }) .then)
-          (cond b (finishes (record { kind = kind; records = cs; end = tableFrom q })) (goes Place.lost))
-      go true = done refl (λ i. record { info = LiveTable.Known (tableFrom q); records = w i }) (refl, inl refl)
+          (cond b (finishes (record { kind = kind; records = cs; end = endSays q })) (goes Place.lost))
+      go true = done refl (λ i. record { info = LiveTable.Known (endSays q); records = w i }) (refl, inl refl)
       go false = stopped-lost 15 [] r
   end-follows q r Place.lost on (at-lost e) = never r on e
 
@@ -197,7 +197,7 @@ module _ (limit H : ℕ) where
 
   -- the table that a receiver's future makes of its table, by the page
   abbrev pub outcome : Receiver → Place → List Event → Live
-  outcome r p es = tableFromOn limit (liveOf r) (updates limit (r .version) (liveOf r) p (items H (r .held) es))
+  outcome r p es = withUpdates limit (liveOf r) (updates limit (r .version) (liveOf r) p (items H (r .held) es))
 
   -- a lost connection does not listen, whatever it holds
   lost-forgets : (v : RtrProtocolVersion) (live : Live) (es : List Event) (s s′ : List ℕ) → updates limit v live Place.lost (items H s es) ≡ updates limit v live Place.lost (items H s′ es)
@@ -240,10 +240,10 @@ module _ (limit H : ℕ) where
       Follows r r′ n →
       (p′ : Place)
       × At r′ p′
-      × ((is : List Item) → tableFromOn limit (liveOf r) (orFinished limit (liveOf r) n (λ l p. updates limit (r .version) l p is)) ≡ tableFromOn limit (liveOf r′) (updates limit (r .version) (liveOf r′) p′ is))
-  unfolding tableFromOn
-  follow-on r r′ (goes p) (onward a e k) = (p, a, λ is. ap (λ (l : Live). tableFromOn limit l (updates limit (r .version) l p is)) (sym e))
-  follow-on r r′ (finishes u) (done st e k) = (Place.idle, at-idle st, λ is. ap (λ (l : Live). tableFromOn limit l (updates limit (r .version) l Place.idle is)) (sym e))
+      × ((is : List Item) → withUpdates limit (liveOf r) (orFinished limit (liveOf r) n (λ l p. updates limit (r .version) l p is)) ≡ withUpdates limit (liveOf r′) (updates limit (r .version) (liveOf r′) p′ is))
+  unfolding withUpdates
+  follow-on r r′ (goes p) (onward a e k) = (p, a, λ is. ap (λ (l : Live). withUpdates limit l (updates limit (r .version) l p is)) (sym e))
+  follow-on r r′ (finishes u) (done st e k) = (Place.idle, at-idle st, λ is. ap (λ (l : Live). withUpdates limit l (updates limit (r .version) l Place.idle is)) (sym e))
 
   pub kept-of : (r r′ : Receiver) (n : Next) → Follows r r′ n → Kept r r′
   kept-of r r′ (goes p) (onward a e k) = k
@@ -281,23 +281,23 @@ module _ (limit H : ℕ) where
             g .0,
             g .1,
             λ es.
-                ap (λ (h : Heard). tableFromOn limit (liveOf r) (updates limit (r .version) (liveOf r) p (itemsBy s h (λ held. items H held es)))) j
+                ap (λ (h : Heard). withUpdates limit (liveOf r) (updates limit (r .version) (liveOf r) p (itemsBy s h (λ held. items H held es)))) j
                 ∙ g .2 (items H [] es)
-                ∙ ap (λ (v : RtrProtocolVersion). tableFromOn limit (liveOf there) (updates limit v (liveOf there) (g .0) (items H [] es))) (sym (k .0))
-                ∙ ap (λ (x : List ℕ). tableFromOn limit (liveOf there) (updates limit (there .version) (liveOf there) (g .0) (items H x es))) (sym none),
+                ∙ ap (λ (v : RtrProtocolVersion). withUpdates limit (liveOf there) (updates limit v (liveOf there) (g .0) (items H [] es))) (sym (k .0))
+                ∙ ap (λ (x : List ℕ). withUpdates limit (liveOf there) (updates limit (there .version) (liveOf there) (g .0) (items H x es))) (sym none),
           )
 
       by : (h : Heard) → listens (r .stage) ≡ true → judge crate H s ≡ h → Goal (heard limit (k + 1) u r s h .receiver)
       by Heard.waits on j = (
         p,
         stays r (holding s r) p refl refl refl a,
-        λ es. ap (λ (h : Heard). tableFromOn limit (liveOf r) (updates limit (r .version) (liveOf r) p (itemsBy s h (λ held. items H held es)))) j,
+        λ es. ap (λ (h : Heard). withUpdates limit (liveOf r) (updates limit (r .version) (liveOf r) p (itemsBy s h (λ held. items H held es)))) j,
       )
       by (Heard.whole pdu) on j = told pdu on j
       by (Heard.refused number values) on j = (
         Place.lost,
         at-lost refl,
-        λ es. ap (λ (h : Heard). tableFromOn limit (liveOf r) (updates limit (r .version) (liveOf r) p (itemsBy s h (λ held. items H held es)))) j,
+        λ es. ap (λ (h : Heard). withUpdates limit (liveOf r) (updates limit (r .version) (liveOf r) p (itemsBy s h (λ held. items H held es)))) j,
       )
 
       go : (t : Bool) → listens (r .stage) ≡ t → Goal (cond t (heard limit (k + 1) u r s (judge crate H s)) (from r k u) .receiver)
@@ -305,7 +305,7 @@ module _ (limit H : ℕ) where
       go false e = (
         p,
         a,
-        λ es. ap (λ (us : List Update). tableFromOn limit (liveOf r) us)
+        λ es. ap (λ (us : List Update). withUpdates limit (liveOf r) us)
             (subst (λ (q : Place). updates limit (r .version) (liveOf r) q (items H (r .held) (Event.byte b ∷ es)) ≡ updates limit (r .version) (liveOf r) q (items H (r .held) es))
             (sym (deaf-lost r p e a)) (lost-byte (r .version) (liveOf r) (r .held) b es)),
       )
@@ -371,7 +371,7 @@ module _ (limit H : ℕ) where
       (subst (Asks r Place.idle LoadKind.Full (length out)) (sym (full-is r out)) (go (leb 8 (length out)) refl))
     where
       future : List Event → Bool → Live
-      future es b = tableFromOn limit (liveOf r) (updates limit (r .version) (liveOf r) (cond b (Place.asked LoadKind.Full) Place.idle) (items H (r .held) es))
+      future es b = withUpdates limit (liveOf r) (updates limit (r .version) (liveOf r) (cond b (Place.asked LoadKind.Full) Place.idle) (items H (r .held) es))
 
       go : (b : Bool) → leb 8 (length out) ≡ b → Asks r Place.idle LoadKind.Full (length out) (cond b (inStage Stage.askedFull r) r)
       go true q = (Place.asked LoadKind.Full, at-full refl, λ es. ap (future es) q)
@@ -381,7 +381,7 @@ module _ (limit H : ℕ) where
       (subst (Asks r Place.mustReset LoadKind.Full (length out)) (sym (full-is r out)) (go (leb 8 (length out)) refl))
     where
       future : List Event → Bool → Live
-      future es b = tableFromOn limit (liveOf r) (updates limit (r .version) (liveOf r) (cond b (Place.asked LoadKind.Full) Place.mustReset) (items H (r .held) es))
+      future es b = withUpdates limit (liveOf r) (updates limit (r .version) (liveOf r) (cond b (Place.asked LoadKind.Full) Place.mustReset) (items H (r .held) es))
 
       go : (b : Bool) → leb 8 (length out) ≡ b → Asks r Place.mustReset LoadKind.Full (length out) (cond b (inStage Stage.askedFull r) r)
       go true q = (Place.asked LoadKind.Full, at-full refl, λ es. ap (future es) q)
@@ -401,16 +401,16 @@ module _ (limit H : ℕ) where
       subst (λ (q : Query). Asks r Place.idle LoadKind.Change (length out) (ask q r out .receiver)) (sym (ap (λ (s : Stage). changeQuery s r) e)) (table (r .table) refl)
     where
       future : List Event → Bool → Live
-      future es b = tableFromOn limit (liveOf r) (updates limit (r .version) (liveOf r) (cond b (Place.asked LoadKind.Change) Place.idle) (items H (r .held) es))
+      future es b = withUpdates limit (liveOf r) (updates limit (r .version) (liveOf r) (cond b (Place.asked LoadKind.Change) Place.idle) (items H (r .held) es))
 
-      go : (b : Bool) → isKnown (r .table) && leb 12 (length out) ≡ b → Asks r Place.idle LoadKind.Change (length out) (cond b (inStage Stage.askedChange r) r)
+      go : (b : Bool) → hasTable (r .table) && leb 12 (length out) ≡ b → Asks r Place.idle LoadKind.Change (length out) (cond b (inStage Stage.askedChange r) r)
       go true q = (Place.asked LoadKind.Change, at-change refl, λ es. ap (future es) q)
       go false q = (Place.idle, at-idle e, λ es. ap (future es) q)
 
       table : (t : LiveTable) → r .table ≡ t → Asks r Place.idle LoadKind.Change (length out) (ask (serialQuery t r) r out .receiver)
-      table LiveTable.NoTable q = go false (ap (λ (x : LiveTable). isKnown x && leb 12 (length out)) q)
+      table LiveTable.NoTable q = go false (ap (λ (x : LiveTable). hasTable x && leb 12 (length out)) q)
       table (LiveTable.Known t) q =
-          subst (Asks r Place.idle LoadKind.Change (length out)) (sym (change-is r t out)) (go (leb 12 (length out)) (ap (λ (x : LiveTable). isKnown x && leb 12 (length out)) q))
+          subst (Asks r Place.idle LoadKind.Change (length out)) (sym (change-is r t out)) (go (leb 12 (length out)) (ap (λ (x : LiveTable). hasTable x && leb 12 (length out)) q))
   change-follows r Place.mustReset out (at-reset e) =
       subst (λ (q : Query). Asks r Place.mustReset LoadKind.Change (length out) (ask q r out .receiver)) (sym (ap (λ (s : Stage). changeQuery s r) e)) (Place.mustReset, at-reset e, λ es. refl)
   change-follows r (Place.asked LoadKind.Full) out (at-full e) =

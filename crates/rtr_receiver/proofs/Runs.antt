@@ -18,8 +18,8 @@ use Rattle.rtr_stream.specs.Stream.{Heard, judge}
 use Rattle.rtr_stream.proofs.Laws.{nothing-waits, whole-is-read, stream-exactly, waits-fits}
 use Rattle.rtr_room.proofs.Laws.{empty-table}
 use Rattle.rtr_receiver.specs.Receiver.{Stage, Receiver, Feed, fresh, holding, inStage, heard, listens, onByte, onPiece, feed, fullQuery, changeQuery, serialQuery, askedBy, ask, reconnected}
-use Rattle.rtr_receiver.specs.History.{Event, Update, Live, Place, noTable, tableFromOn, tableOf, updated, items, updates, finished}
-use Rattle.rtr_receiver.specs.Promises.{Left, StartSays, AskSays, ReconnectSays, receiverOf, isReceiver, leaves, inMemory, fedTo, feedSays, fedSaidBy, startSays, startSaid, askedTo, fullAskSays, changeAskSays, reconnectSays, hasTable}
+use Rattle.rtr_receiver.specs.History.{Event, Update, Live, Place, noTable, withUpdates, tableOf, updated, items, updates, finished, hasTable}
+use Rattle.rtr_receiver.specs.Promises.{Left, StartSays, AskSays, ReconnectSays, receiverOf, isReceiver, leaves, inMemory, fedTo, feedSays, fedSaidBy, startSays, startSaid, askedTo, fullAskSays, changeAskSays, reconnectSays}
 use Rattle.rtr_receiver.specs.Runs.{Call, Memory, Step, Run, bytes, historyOf, liveIn}
 use Rattle.rtr_receiver.specs.declared.LoadKind.{LoadKind}
 use Rattle.rtr_receiver.specs.declared.LiveTable.{LiveTable}
@@ -287,7 +287,7 @@ module _ (limit H : ℕ) where
   history-snoc (Call.reconnect ∷ calls) call es = ap (λ (x : List Event). Event.reconnect ∷ x) (history-snoc calls call es)
 
   start-along : (v : RtrProtocolVersion) (m : Memory) (live working : List ℕ) → length (m .hold) ≡ H → startSaid (StartAnswer.Started (m .session)) (m .live) (m .working) (m .hold) ≡ startSays limit v live working (m .hold) → Along v [] m
-  unfolding startSays historyOf tableFromOn
+  unfolding startSays historyOf withUpdates
   start-along v m live working size e = go (eqb (length live) (6 * limit)) (eqb (length working) (6 * limit)) (leb 8 (length (m .hold))) refl e
     where
       go : (a b c : Bool) →
@@ -377,7 +377,7 @@ module _ (limit H : ℕ) where
 -- In every run, over every version, hold size, list of calls and cut, the live table with its session, serial and intervals is what the updates make that
 -- finished in the history.
 pub history : (limit H : ℕ) (v : RtrProtocolVersion) (calls : List Call) (m : Memory) → Run limit v H calls m → liveIn m ≡ tableOf limit (finished limit H v (historyOf calls))
-unfolding items updates tableFromOn
+unfolding items updates withUpdates
 history limit H v calls m run =
     let along = run-along limit H v calls m run in
     ap liveOf (is-receiver limit H (along .stands))
@@ -390,14 +390,14 @@ cut-anywhere limit H v calls calls′ m m′ run run′ e =
     history limit H v calls m run ∙ ap (λ (h : List Event). tableOf limit (finished limit H v h)) e ∙ sym (history limit H v calls′ m′ run′)
 
 -- a table stays a table
-known-stays : (limit : ℕ) (us : List Update) (live : Live) → hasTable (live .info) ≡ true → hasTable (tableFromOn limit live us .info) ≡ true
-unfolding tableFromOn
+known-stays : (limit : ℕ) (us : List Update) (live : Live) → hasTable (live .info) ≡ true → hasTable (withUpdates limit live us .info) ≡ true
+unfolding withUpdates
 known-stays limit [] live e = e
 known-stays limit (u ∷ us) live e = known-stays limit us (updated limit live u) refl
 
 -- there is no table exactly where no update has finished
 pub no-table : (limit H : ℕ) (v : RtrProtocolVersion) (calls : List Call) (m : Memory) → Run limit v H calls m → (liveIn m .info ≡ LiveTable.NoTable) ↔ (finished limit H v (historyOf calls) ≡ [])
-unfolding tableFromOn
+unfolding withUpdates
 no-table limit H v calls m run = (λ e. go (finished limit H v (historyOf calls)) (sym (ap (λ (l : Live). l .info) (history limit H v calls m run)) ∙ e), λ e. ap (λ (l : Live). l .info) (history limit H v calls m run) ∙ ap (λ (us : List Update). tableOf limit us .info) e)
   where
     go : (us : List Update) → tableOf limit us .info ≡ LiveTable.NoTable → us ≡ []

@@ -15,7 +15,8 @@ use Rattle.rtr_stream.proofs.Laws.{stream-has, stream-exactly}
 use Rattle.rtr_room.specs.Room.{isRoom}
 use Rattle.rtr_room.proofs.Laws.{rules-exactly}
 use Rattle.rtr_room.proofs.Laws.Tests.{first-of, second-of, both, not-both, unless}
-use Rattle.rtr_receiver.specs.Promises.{hasTable, changeUnderWay, isLoading, isStopped, inOrder, isReceiver, BreaksRules, Reason}
+use Rattle.rtr_receiver.specs.History.{hasTable}
+use Rattle.rtr_receiver.specs.Promises.{changeUnderWay, isLoading, isStopped, inOrder, isReceiver, BreaksRules, Reason}
 use Rattle.rtr_receiver.specs.Promises.Reason.{liveSize, workingSize, holdSize, liveOver, workingOver, heldOver, liveRules, workingRules, recordsWithoutTable, changeWithoutTable, workingOutsideLoading, heldInStopped, heldPdu, heldRefusal}
 use Rattle.rtr_receiver.specs.declared.LiveTable.{LiveTable}
 use Rattle.rtr_receiver.specs.declared.Session.{Session}

@@ -14,7 +14,8 @@ use Rattle.rtr_room.specs.Room.{records, isRoom}
 use Rattle.rtr_room.proofs.Laws.{rules-exactly, records-of-room}
 use Rattle.rtr_receiver.specs.Receiver.{Receiver}
 use Rattle.rtr_receiver.specs.Receiver.Stage.{stopped}
-use Rattle.rtr_receiver.specs.Promises.{stoppedBy, stageOf, receiverOf, hasTable, changeUnderWay, isLoading, isStopped, inOrder, isReceiver, Left, leaves, inMemory}
+use Rattle.rtr_receiver.specs.History.{hasTable}
+use Rattle.rtr_receiver.specs.Promises.{stoppedBy, stageOf, receiverOf, changeUnderWay, isLoading, isStopped, inOrder, isReceiver, Left, leaves, inMemory}
 use Rattle.rtr_receiver.specs.declared.LoadKind.{LoadKind}
 use Rattle.rtr_receiver.specs.declared.Stop.{Stop}
 use Rattle.rtr_receiver.specs.declared.Phase.{Phase}

@@ -1,9 +1,20 @@
--- Demand 3, the page to read first: which updates have FINISHED in a history, and the table that they make. Document 01, "Stream and receiver". Nothing here
--- knows of a session record, of rooms, of a hold buffer or of what the receiver does with a byte.
+-- Demand 3, the page to read first: which updates have FINISHED in a history, and the table that they make. Document 01, "Stream and receiver". Nothing here knows of a
+-- session record, of a room's numbers, of a buffer or of what the receiver does with a byte; of the hold it knows the size H (a longer PDU is refused, 12), of a room the record
+-- limit (18).
 --
--- An example. In version 1, with no table yet, this history (a full ask; a Cache Response of session 4660; one announced prefix; an End of Data of session
--- 4660 with serial 7) has one finished update, and the table holds that prefix under session 4660 and serial 7. Cut off before its last byte it has none, and
--- there is no table; with another session in the End of Data it has none either. proofs/Examples.antt has these computed, and a change that is refused half-way.
+-- Read from the end upward: `finished` is the updates of a history; `items` makes of its bytes PDUs and refusals; `onItem` says where each leads, with one function for each PDU above
+-- it; `tableOf` is the table that updates make.
+--
+-- An example, in version 1, with no table yet. The history: a full ask, and the bytes of a Cache Response of session 4660, of an announced prefix, of an End of Data of session 4660 and serial 7.
+-- Its items and places:
+--
+--     asks Full         idle -> asked Full
+--     told response     asked Full -> loading Full 4660, no record
+--     told prefix       loading Full 4660, no record -> loading Full 4660, that record announced
+--     told end          finishes an update (Full, that record announced, session 4660, serial 7), and the connection is idle
+--
+-- One update has finished, and the table holds that prefix under session 4660 and serial 7. Cut off before its last byte the history has no fourth item and no update, and there is no
+-- table; with another session in the End of Data there is none either. proofs/Examples.antt has these computed, and a change that is refused half-way.
 use Prim.Native.Nat.{ℕ}
 use mathlib.Core.Bool.{Bool, true, false, cond, _&&_}
 use mathlib.Core.List.{List, [], _∷_, _++_}
@@ -22,7 +33,7 @@ use Rattle.rtr_receiver.specs.declared.LoadKind.{LoadKind}
 use Rattle.rtr_receiver.specs.declared.Table.{Table}
 use Rattle.rtr_receiver.specs.declared.LiveTable.{LiveTable}
 
--- what happened, in order: a byte came, an ask was made with so much room for its query, a new connection began. Where pieces were cut is forgotten.
+-- what happened, in order: a byte came, an ask was made with so much space for its query, a new connection began. Where pieces were cut is forgotten.
 pub data Event : Type 0 where
   byte : ℕ → Event
   ask : LoadKind → ℕ → Event
@@ -46,6 +57,7 @@ pub record Live : Type 0 where
   pub info : LiveTable
   pub records : List Record
 
+-- before an update has finished
 abbrev pub noTable : Live
 noTable = record { info = LiveTable.NoTable; records = [] }
 
@@ -54,10 +66,12 @@ abbrev pub applied : ℕ → List Record → Bool → Record → Change
 applied limit t true r = enter limit r t
 applied limit t false r = leave r t
 
+-- a record that does not apply leaves the table; no finished update has one
 abbrev pub kept : List Record → Change → List Record
 kept t (Change.changed t′) = t′
 kept t (Change.refused number) = t
 
+-- a load's table so far: what it began from with its records, in order
 unfoldable pub withAll : ℕ → List Record → List Changed → List Record
 withAll limit t [] = t
 withAll limit t (c ∷ cs) = withAll limit (kept t (applied limit t (c .announced) (c .what))) cs
@@ -67,19 +81,22 @@ abbrev pub base : LoadKind → List Record → List Record
 base LoadKind.Full t = []
 base LoadKind.Change t = t
 
+-- the table after one more update: what its End of Data said, and its records
 abbrev pub updated : ℕ → Live → Update → Live
 updated limit live u = record { info = LiveTable.Known (u .end); records = withAll limit (base (u .kind) (live .records)) (u .records) }
 
-unfoldable pub tableFromOn : ℕ → Live → List Update → Live
-tableFromOn limit live [] = live
-tableFromOn limit live (u ∷ us) = tableFromOn limit (updated limit live u) us
+-- the table after some more
+unfoldable pub withUpdates : ℕ → Live → List Update → Live
+withUpdates limit live [] = live
+withUpdates limit live (u ∷ us) = withUpdates limit (updated limit live u) us
 
 -- the table that updates make, one after another
 abbrev pub tableOf : ℕ → List Update → Live
-tableOf limit us = tableFromOn limit noTable us
+tableOf limit us = withUpdates limit noTable us
 
--- ---- Bytes become items: an ask, a PDU that was read, bytes that are refused, a new connection
+-- ---- Bytes become items
 
+-- an ask, a PDU that was read, bytes that are refused, a new connection
 pub data Item : Type 0 where
   asks : LoadKind → ℕ → Item
   told : RtrPdu → Item
@@ -92,10 +109,11 @@ itemsBy s Heard.waits rest = rest s
 itemsBy s (Heard.whole pdu) rest = told pdu ∷ rest []
 itemsBy s (Heard.refused number values) rest = refusal ∷ rest []
 
+-- a history's items, with the bytes s in hand; each byte is judged together with those in hand
 unfoldable pub items : ℕ → List ℕ → List Event → List Item
 items H s [] = []
-items H s (byte b ∷ es) = itemsBy (s ++ b ∷ []) (judge crate H (s ++ b ∷ [])) (λ held. items H held es)
-items H s (ask kind room ∷ es) = asks kind room ∷ items H s es
+items H s (byte b ∷ es) = itemsBy (s ++ b ∷ []) (judge crate H (s ++ b ∷ [])) (λ hand. items H hand es)
+items H s (ask kind space ∷ es) = asks kind space ∷ items H s es
 items H s (reconnect ∷ es) = anew ∷ items H [] es
 
 -- ---- The grammar of a connection
@@ -113,20 +131,21 @@ pub data Next : Type 0 where
   goes : Place → Next
   finishes : Update → Next
 
-abbrev pub isKnown : LiveTable → Bool
-isKnown LiveTable.NoTable = false
-isKnown (LiveTable.Known t) = true
+-- an update has finished
+abbrev pub hasTable : LiveTable → Bool
+hasTable LiveTable.NoTable = false
+hasTable (LiveTable.Known t) = true
 
--- a full ask from idle or after a Cache Reset, a change ask from idle with a table, each where there is room for its query (8 bytes, or 12); others are refused and
+-- a full ask from idle or after a Cache Reset, a change ask from idle with a table, each where there is space for its query (8 bytes, or 12); others are refused and
 -- change nothing
 abbrev pub onAsk : LiveTable → Place → LoadKind → ℕ → Place
-onAsk info idle LoadKind.Full room = cond (leb 8 room) (asked LoadKind.Full) idle
-onAsk info idle LoadKind.Change room = cond (isKnown info && leb 12 room) (asked LoadKind.Change) idle
-onAsk info mustReset LoadKind.Full room = cond (leb 8 room) (asked LoadKind.Full) mustReset
-onAsk info mustReset LoadKind.Change room = mustReset
-onAsk info (asked k) kind room = asked k
-onAsk info (loading k session cs) kind room = loading k session cs
-onAsk info lost kind room = lost
+onAsk info idle LoadKind.Full space = cond (leb 8 space) (asked LoadKind.Full) idle
+onAsk info idle LoadKind.Change space = cond (hasTable info && leb 12 space) (asked LoadKind.Change) idle
+onAsk info mustReset LoadKind.Full space = cond (leb 8 space) (asked LoadKind.Full) mustReset
+onAsk info mustReset LoadKind.Change space = mustReset
+onAsk info (asked k) kind space = asked k
+onAsk info (loading k session cs) kind space = loading k session cs
+onAsk info lost kind space = lost
 
 -- a change's answer is of the table's session
 abbrev pub ofSession : LiveTable → ℕ → Bool
@@ -147,6 +166,7 @@ abbrev pub takenIn : LoadKind → ℕ → List Changed → Bool → Record → C
 takenIn kind session cs announced r (Change.changed t) = loading kind session (cs ++ record { announced = announced; what = r } ∷ [])
 takenIn kind session cs announced r (Change.refused number) = lost
 
+-- it applies to the load's table so far: 16, 17 and 18 lose the connection
 abbrev pub onPrefix : ℕ → List Record → Place → Bool → Record → Place
 onPrefix limit t (loading kind session cs) announced r = takenIn kind session cs announced r (applied limit (withAll limit (base kind t) cs) announced r)
 onPrefix limit t idle announced r = lost
@@ -172,8 +192,8 @@ onReset (loading kind session cs) = lost
 onReset lost = lost
 
 -- what an End of Data says of the table; version 0 has no intervals, the defaults stand
-abbrev pub tableFrom : RtrEndOfData → Table
-tableFrom p =
+abbrev pub endSays : RtrEndOfData → Table
+endSays p =
     record {
       session = p .«session_id»;
       serial = p .«serial_number»;
@@ -202,11 +222,12 @@ onTold limit live place (IPv6Prefix p) =
     goes
     (onPrefix limit (live .records) place (announces (p .flags))
     (ipv6Record (p .«prefix_length») (p .«max_length») (p .prefix .w0) (p .prefix .w1) (p .prefix .w2) (p .prefix .w3) (p .asn)))
-onTold limit live place (EndOfData p) = onEnd place (p .«session_id») (tableFrom p)
+onTold limit live place (EndOfData p) = onEnd place (p .«session_id») (endSays p)
 onTold limit live place (CacheReset p) = goes (onReset place)
 onTold limit live place (RouterKey p) = goes (onKey place)
 onTold limit live place (ErrorReport p) = goes lost
 
+-- "a PDU of the other is 14"
 abbrev pub ofVersion : RtrProtocolVersion → RtrPdu → Bool
 ofVersion v pdu = eqb (versionNumber (versionOf pdu)) (versionNumber v)
 
@@ -218,17 +239,19 @@ onPduAt limit v live mustReset pdu = cond (ofVersion v pdu) (onTold limit live m
 onPduAt limit v live (asked kind) pdu = cond (ofVersion v pdu) (onTold limit live (asked kind) pdu) (goes lost)
 onPduAt limit v live (loading kind session cs) pdu = cond (ofVersion v pdu) (onTold limit live (loading kind session cs) pdu) (goes lost)
 
+-- any item; bytes that are refused lose the connection, a new connection begins idle
 abbrev pub onItem : ℕ → RtrProtocolVersion → Live → Place → Item → Next
-onItem limit v live place (asks kind room) = goes (onAsk (live .info) place kind room)
+onItem limit v live place (asks kind space) = goes (onAsk (live .info) place kind space)
 onItem limit v live place (told pdu) = onPduAt limit v live place pdu
 onItem limit v live place refusal = goes lost
 onItem limit v live place anew = goes idle
 
--- the updates that items finish, from a place and the table so far; after one the connection is idle
+-- what an item leads to, and the rest from there; after an update the connection is idle and the table the new one
 abbrev pub orFinished : ℕ → Live → Next → (Live → Place → List Update) → List Update
 orFinished limit live (goes place) rest = rest live place
 orFinished limit live (finishes u) rest = u ∷ rest (updated limit live u) idle
 
+-- the updates that items finish
 unfoldable pub updates : ℕ → RtrProtocolVersion → Live → Place → List Item → List Update
 updates limit v live place [] = []
 updates limit v live place (i ∷ is) = orFinished limit live (onItem limit v live place i) (λ live′ place′. updates limit v live′ place′ is)

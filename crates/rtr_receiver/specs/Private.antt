@@ -7,7 +7,8 @@ use lib.Dec.{eqb}
 use lib.ListN.{length, drop}
 use Rattle.rtr_room.specs.Room.{isRoom}
 use Rattle.rtr_receiver.specs.Receiver.{Receiver, Deed, Feed, listens, onPiece}
-use Rattle.rtr_receiver.specs.Promises.{hasTable, changeUnderWay, isLoading, isStopped, stageOf, receiverOf, isReceiver, leaves, inMemory, fedTo, fedSaidBy}
+use Rattle.rtr_receiver.specs.History.{hasTable}
+use Rattle.rtr_receiver.specs.Promises.{changeUnderWay, isLoading, isStopped, stageOf, receiverOf, isReceiver, leaves, inMemory, fedTo, fedSaidBy}
 use Rattle.rtr_encode.specs.declared.EncodeAnswer.{EncodeAnswer}
 use Rattle.rtr_receiver.specs.declared.Stop.{Stop}
 use Rattle.rtr_receiver.specs.declared.Phase.{Phase}

@@ -18,6 +18,7 @@ use Rattle.rtr_stream.specs.Search.{isStream, streamRefusal}
 use Rattle.rtr_room.specs.Table.{isTable}
 use Rattle.rtr_room.specs.Room.{room, records, isRoom}
 use Rattle.rtr_room.specs.declared.Record.{Record}
+use Rattle.rtr_receiver.specs.History.{hasTable}
 use Rattle.rtr_receiver.specs.Receiver.{Stage, Receiver, Feed, Query, Asked, Notified, fresh, feed, fullQuery, changeQuery, ask, reconnected, notified}
 use Rattle.rtr_receiver.specs.Receiver.Stage.{idle, mustReset, askedFull, askedChange, loading, stopped}
 use Rattle.rtr_receiver.specs.declared.LoadKind.{LoadKind}
@@ -72,10 +73,6 @@ receiverOf s live working hold =
       working = records (s .working) working;
       held = take (s .held) hold;
     }
-
-abbrev pub hasTable : LiveTable → Bool
-hasTable LiveTable.NoTable = false
-hasTable (LiveTable.Known t) = true
 
 -- a change is under way in AskedChange and in a load that a change began
 abbrev pub changeUnderWay : Phase → Bool

@@ -14,7 +14,7 @@ use Rattle.rtr_encode.specs.Encode.{Writing, encode}
 use Rattle.rtr_stream.specs.Stream.{Heard, judge}
 use Rattle.rtr_room.specs.Table.{Change, ipv4Record, ipv6Record, enter, leave}
 use Rattle.rtr_room.specs.declared.Record.{Record}
-use Rattle.rtr_receiver.specs.History.{tableFrom}
+use Rattle.rtr_receiver.specs.History.{endSays}
 use Rattle.rtr_receiver.specs.declared.LoadKind.{LoadKind}
 use Rattle.rtr_receiver.specs.declared.LiveTable.{LiveTable}
 use Rattle.rtr_receiver.specs.declared.Note.{Note}
@@ -128,7 +128,7 @@ finish p r =
     record {
       version = r .version;
       stage = idle;
-      table = LiveTable.Known (tableFrom p);
+      table = LiveTable.Known (endSays p);
       note = r .note;
       live = r .working;
       working = [];

@@ -1,5 +1,5 @@
--- Demand 3's other side: calls made one after another, each meeting its promise, from a fresh start (document 01, demand 3: "with the bytes cut anywhere between the
--- same asks and reconnects"). What a call leaves of the hold past the held count is anything.
+-- Demand 3's other side (the design, section 5): calls one after another, each meeting its promise, from a fresh start. `notify` changes nothing, a refused start begins no run, a second start
+-- begins a new one; H is the same throughout. What a call leaves of the hold past the held count is anything. proofs/Coded.antt: the code's calls are these steps.
 use Prim.Native.Nat.{ℕ}
 use mathlib.Core.List.{List, [], _∷_, _++_}
 use mathlib.Core.Path.{_≡_}
