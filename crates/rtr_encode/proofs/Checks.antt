@@ -19,7 +19,7 @@ use Rattle.rtr_models.specs.declared.RtrErrorReport.{RtrErrorReport}
 use Rattle.rtr_models.specs.declared.RtrPdu.{RtrPdu}
 use Rattle.rtr_models.specs.declared.RtrPdu.the-variants.{RouterKey, ErrorReport}
 use Rattle.rtr_codec.specs.Reading.{Reading, crate}
-use Rattle.rtr_encode.specs.Over.{over}
+use Rattle.rtr_base.specs.Over.{over}
 use Rattle.rtr_encode.specs.Encode.{bytesOf, at, placesInside, textIn, encodedLength, encoding, encodeSays, encode, keyBytes, reportBytes, lastChecks}
 use Rattle.rtr_encode.specs.Encode.Writing.{written, refused}
 use Rattle.rtr_encode.proofs.Payloads.{length-bytes, part-long}

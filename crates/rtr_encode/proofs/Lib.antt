@@ -3,7 +3,7 @@ pub mod Laws
 pub mod Departs
 pub mod Unique
 pub mod Samples
-mod Overs
+mod Numbers
 mod Written
 mod Payloads
 mod Checks

@@ -13,7 +13,7 @@ use Rattle.rtr_models.specs.declared.RtrEndOfData.{RtrEndOfData}
 use Rattle.rtr_models.specs.declared.RtrPdu.{RtrPdu}
 use Rattle.rtr_models.specs.declared.RtrPdu.the-variants.{EndOfData}
 use Rattle.rtr_codec.specs.Reading.{Reading}
-use Rattle.rtr_encode.specs.Over.{over}
+use Rattle.rtr_base.specs.Over.{over}
 use Rattle.rtr_encode.specs.Encode.{placesInside, textIn, encodedLength, encoding, encodeSays, encode, withVersion, endOfData}
 use Rattle.rtr_encode.specs.Encode.Writing.{written, refused}
 

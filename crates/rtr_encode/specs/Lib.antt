@@ -1,4 +1,3 @@
 -- What people must believe of this crate: the bytes of a PDU and what a call leaves (Encode), and document 01's numbers (Answers).
 pub mod Encode
 pub mod Answers
-pub mod Over

@@ -9,7 +9,7 @@ ghost use Rattle.rtr_models.specs.Codes.{versionNumber};
 ghost use Rattle.rtr_codec.specs.Reading.{crate};
 ghost use Rattle.rtr_encode.specs.Encode.{bytesOf, encode, withVersion, endOfData, keyBytes, reportBytes, lastChecks};
 ghost use Rattle.rtr_encode.specs.Answers.{leaves, encodeRefusal, numberOf};
-ghost use Rattle.rtr_encode.specs.Over.{over};
+ghost use Rattle.rtr_base.specs.Over.{over};
 
 // Why nothing is written.
 pub enum EncodeError {

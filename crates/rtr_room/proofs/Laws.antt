@@ -9,19 +9,20 @@ pub mod Rooms
 pub mod Places
 pub mod Moves
 pub mod Kept
-use Prim.Native.Nat.{ℕ, suc, _*_, _<_, _≤_}
+use Prim.Native.Nat.{ℕ, suc, _+_, _*_, _<_, _≤_}
 use mathlib.Core.Bool.{true, false, cond, not, _&&_, _||_}
-use mathlib.Core.List.{List, [], _∷_}
+use mathlib.Core.List.{List, [], _∷_, _++_}
 use mathlib.Core.Logic.{_↔_, _⊎_}
 use mathlib.Core.Path.{_≡_, refl}
 use lib.Dec.{leb}
 use lib.ListN.{length, getD, replicate}
 use Rattle.rtr_room.specs.Table.{Change, packed, ipv4Record, ipv6Record, familyOf, prefixOf, maxOf, before, same, inRule, ordered, allInRule, isTable, isIn, rank, insert, remove, enter, leave}
 use Rattle.rtr_room.specs.Table.Change.{changed}
-use Rattle.rtr_room.specs.Room.{room, recordAt, records, isRoom, limitOf, place, stands, lookUp, keeps, entered, gone, outcomeOf, copied, copySays}
+use Rattle.rtr_room.specs.Room.{room, recordAt, recordFound, records, isRoom, limitOf, place, stands, lookUp, keeps, entered, gone, outcomeOf, copied, copySays}
 use Rattle.rtr_room.specs.Room.Found.{standsAt, missingAt}
 use Rattle.rtr_room.specs.Room.Said.{counted, refusedBy}
 use Rattle.rtr_room.specs.declared.Record.{Record}
+use Rattle.rtr_room.specs.declared.RecordFound.{RecordFound}
 use Rattle.rtr_room.proofs.Laws.Records as made
 use Rattle.rtr_room.proofs.Laws.Order as order
 use Rattle.rtr_room.proofs.Laws.Tables as tables
@@ -127,6 +128,25 @@ records-of-room = rooms.records-of-room
 pub record-of-room : (limit : ℕ) (t : List Record) (i : ℕ) (d : Record) → i < length t → recordAt (room limit t) i ≡ getD t i d
 record-of-room = rooms.record-of-room
 
+-- the first records of some numbers, and one more
+pub records-none : (s : List ℕ) → records 0 s ≡ []
+unfolding records
+records-none s = refl
+
+pub records-next : (i : ℕ) (s : List ℕ) → records (suc i) s ≡ records i s ++ recordAt s i ∷ []
+records-next = rooms.records-next
+
+-- there are as many as were asked for
+pub records-length : (n : ℕ) (s : List ℕ) → length (records n s) ≡ n
+records-length = rooms.records-length
+
+-- record i is found where its six numbers are all there, and nowhere else
+pub found-inside : (s : List ℕ) (i : ℕ) → 6 * i + 6 ≤ length s → recordFound s i ≡ RecordFound.Found (recordAt s i)
+found-inside = rooms.found-inside
+
+pub found-outside : (s : List ℕ) (i : ℕ) → length s < 6 * i + 6 → recordFound s i ≡ RecordFound.Outside
+found-outside = rooms.found-outside
+
 -- no two tables have one room
 pub room-determines : (limit : ℕ) (t u : List Record) → isTable t ≡ true → isTable u ≡ true → room limit t ≡ room limit u → t ≡ u
 room-determines = rooms.room-determines
@@ -134,6 +154,10 @@ room-determines = rooms.room-determines
 -- numbers keep the room rules exactly where they are the room of a table of that count, within the limit
 pub rules-exactly : (limit count : ℕ) (s : List ℕ) → isRoom limit count s ≡ true ↔ ((t : List Record) × (isTable t ≡ true) × (length t ≡ count) × (count ≤ limit) × (s ≡ room limit t))
 rules-exactly = rooms.rules-exactly
+
+-- what keeps them has six numbers for each record of its limit, and no more records than the limit
+pub rules-size : (limit count : ℕ) (s : List ℕ) → isRoom limit count s ≡ true → (length s ≡ 6 * limit) × (count ≤ limit)
+rules-size = rooms.rules-size
 
 -- bisection finds how many records of an ordered table are before r
 pub place-is-rank : (limit : ℕ) (t : List Record) → ordered t ≡ true → (r : Record) → place (room limit t) (length t) r ≡ rank r t

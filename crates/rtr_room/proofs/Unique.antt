@@ -19,6 +19,7 @@ use Rattle.rtr_room.proofs.Record.ipv6.Reads as ipv6
 use Rattle.rtr_room.proofs.Record.family.Reads as family
 use Rattle.rtr_room.proofs.Record.prefix_length.Reads as prefix-length
 use Rattle.rtr_room.proofs.Record.max_length.Reads as max-length
+use Rattle.rtr_room.proofs.get.Reads as get
 use Rattle.rtr_room.proofs.rules.Reads as rules
 use Rattle.rtr_room.proofs.look_up.Reads as look-up
 use Rattle.rtr_room.proofs.enter.Reads as enter
@@ -88,6 +89,9 @@ prefix-length-unique κs a r r′ s s′ p q = only-this r r′ _ p q
 
 pub max-length-unique : (κs : _) (a : _) (r r′ : _) (s s′ : _) → max-length.Post κs a r s → max-length.Post κs a r′ s′ → r ≡ r′
 max-length-unique κs a r r′ s s′ p q = only-this r r′ _ p q
+
+pub get-unique : (κs : _) (a : _) (r r′ : _) (s s′ : _) → get.Post κs a r s → get.Post κs a r′ s′ → r ≡ r′
+get-unique κs a r r′ s s′ p q = only-this r r′ _ p q
 
 pub rules-unique : (κs : _) (a : _) (r r′ : _) (s s′ : _) → rules.Post κs a r s → rules.Post κs a r′ s′ → r ≡ r′
 rules-unique κs a r r′ s s′ p q = only-this r r′ _ p q

@@ -8,6 +8,7 @@ use lib.Dec.{leb, ltb, eqb}
 use Rattle.rtr_room.specs.Table.{before, same, isTable, Change}
 use Rattle.rtr_room.specs.Table.Change.{changed}
 use Rattle.rtr_room.specs.declared.Record.{Record}
+use Rattle.rtr_room.specs.declared.RecordFound.{RecordFound}
 use Rattle.rtr_room.specs.declared.LookUp.{LookUp}
 use Rattle.rtr_room.specs.declared.EnterAnswer.{EnterAnswer}
 use Rattle.rtr_room.specs.declared.LeaveAnswer.{LeaveAnswer}
@@ -36,6 +37,10 @@ recordFrom s at =
 -- record i of some numbers
 unfoldable pub recordAt : List ℕ → ℕ → Record
 recordAt s i = recordFrom s (6 * i)
+
+-- record i where its six numbers are all there
+unfoldable pub recordFound : List ℕ → ℕ → RecordFound
+recordFound s i = cond (leb (6 * i + 6) (length s)) (RecordFound.Found (recordAt s i)) RecordFound.Outside
 
 -- the first so many records of some numbers
 unfoldable pub records : ℕ → List ℕ → List Record

@@ -5,7 +5,7 @@ ghost use Prim.Native.Nat.{_+_, _-_, _*_, _≤_, _<_};
 ghost use mathlib.Core.List.{_++_};
 ghost use lib.ListN.{length, take, drop, replicate};
 ghost use Rattle.rtr_room.specs.Table.{packed, ipv4Record, ipv6Record, familyOf, prefixOf, maxOf, before, same, inRule, isTable};
-ghost use Rattle.rtr_room.specs.Room.{numbers, recordAt, records, allZero, isRoom, bisect, lookUp, found, entered, enterSaid, gone, leaveSaid, copied, copySays, copySaid};
+ghost use Rattle.rtr_room.specs.Room.{numbers, recordAt, recordFound, records, allZero, isRoom, bisect, lookUp, found, entered, enterSaid, gone, leaveSaid, copied, copySays, copySaid};
 
 // Which network may announce which prefix, as a room's six numbers: the first is family x 65,536 + prefix length x 256 + max.
 pub struct Record {
@@ -15,6 +15,12 @@ pub struct Record {
     pub w2: u32,
     pub w3: u32,
     pub asn: u32,
+}
+
+// Record i, where a room has its six numbers.
+pub enum RecordFound {
+    Found(Record),
+    Outside,
 }
 
 // Where a record stands, or would stand.
@@ -206,6 +212,16 @@ fn record_at(room: &[u32], i: usize) -> Record
         w3: room[at + 4],
         asn: room[at + 5],
     }
+}
+
+// Record i of any numbers, or Outside where its six are not all there.
+pub fn get(room: &[u32], i: usize) -> RecordFound
+    ensures { λ r. ⌜ r ≡ recordFound (now (room .entry)) i ⌝ }
+{
+    if i >= room.len() / 6 {
+        return RecordFound::Outside;
+    }
+    RecordFound::Found(record_at(room, i))
 }
 
 // The six numbers of a record, from a place on.

@@ -6,7 +6,7 @@ use denote.Ref.{now}
 use Rattle.rtr_models.specs.declared.RtrPdu.the-variants.{IPv4Prefix}
 use Rattle.rtr_codec.specs.Reading.{crate}
 use Rattle.rtr_encode.specs.Encode.{bytesOf, encodedLength, encoding}
-use Rattle.rtr_encode.proofs.Overs.{next}
+use Rattle.rtr_base.proofs.Overs.{next}
 use Rattle.rtr_encode.proofs.Written.{too-short, wrote}
 use borrow.Author.Needs.{needs}
 use Rattle.rtr_encode.proofs.encode_ipv4_prefix.Statement.{statement}

@@ -3,8 +3,9 @@ use mathlib.Core.Path.{_∙_, ap}
 use denote.Ref.{now}
 use native.Mathlib.Omega.{arith}
 use lib.ListN.{length-set}
-use Rattle.rtr_encode.specs.Over.{over}
-use Rattle.rtr_encode.proofs.Overs.{stored-2, bytes-of-16}
+use Rattle.rtr_base.specs.Over.{over}
+use Rattle.rtr_base.proofs.Overs.{stored-2}
+use Rattle.rtr_encode.proofs.Numbers.{bytes-of-16}
 use borrow.Author.Needs.{needs}
 use Rattle.rtr_encode.proofs.put16.Statement.{statement}
 use Rattle.rtr_encode.proofs.put16.Tie as tie

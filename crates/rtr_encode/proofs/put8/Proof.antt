@@ -1,5 +1,5 @@
 -- `put8` is one store. Assumes nothing.
-use Rattle.rtr_encode.proofs.Overs.{set-over}
+use Rattle.rtr_base.proofs.Overs.{set-over}
 use borrow.Author.Needs.{needs}
 use Rattle.rtr_encode.proofs.put8.Statement.{statement}
 use Rattle.rtr_encode.proofs.put8.Tie as tie

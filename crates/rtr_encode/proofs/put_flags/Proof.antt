@@ -2,8 +2,8 @@
 use mathlib.Core.Path.{ap, _∙_}
 use native.Mathlib.Omega.{arith}
 use denote.Ref.{now}
-use Rattle.rtr_encode.specs.Over.{over}
-use Rattle.rtr_encode.proofs.Overs.{stored-2}
+use Rattle.rtr_base.specs.Over.{over}
+use Rattle.rtr_base.proofs.Overs.{stored-2}
 use Rattle.rtr_encode.proofs.Payloads.{flags-and-zero}
 use borrow.Author.Needs.{needs}
 use Rattle.rtr_encode.proofs.put_flags.Statement.{statement}

@@ -1,10 +1,10 @@
 use Rattle.rtr_encode.specs.Encode.{bytesOf}
-use Rattle.rtr_encode.specs.Over.{over}
+use Rattle.rtr_base.specs.Over.{over}
 use Prim.Native.Nat.{ℕ}
 use mathlib.Core.List.{[], _∷_}
 use mathlib.Core.Path.{refl, ap, _∙_}
 use denote.Ref.{now}
-use Rattle.rtr_encode.proofs.Overs.{next}
+use Rattle.rtr_base.proofs.Overs.{next}
 -- `put_header` writes from the front, one part behind the other. Assumes nothing.
 
 use borrow.Author.Needs.{needs}

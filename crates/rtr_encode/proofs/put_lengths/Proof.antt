@@ -3,8 +3,9 @@ use mathlib.Core.Path.{ap, _∙_}
 use native.Mathlib.Omega.{arith}
 use denote.Ref.{now}
 use lib.ListN.{length-set}
-use Rattle.rtr_encode.specs.Over.{over}
-use Rattle.rtr_encode.proofs.Overs.{stored-4, bytes-of-8}
+use Rattle.rtr_base.specs.Over.{over}
+use Rattle.rtr_base.proofs.Overs.{stored-4}
+use Rattle.rtr_encode.proofs.Numbers.{bytes-of-8}
 use borrow.Author.Needs.{needs}
 use Rattle.rtr_encode.proofs.put_lengths.Statement.{statement}
 use Rattle.rtr_encode.proofs.put_lengths.Tie as tie

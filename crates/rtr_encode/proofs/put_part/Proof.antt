@@ -7,7 +7,7 @@ use denote.Ref.{now}
 use lib.ListN.{length, length-set}
 use lib.Seq.{paste, paste-zero}
 use Rattle.rtr_base.proofs.Copies.{copied-one-more}
-use Rattle.rtr_encode.proofs.Overs.{copied-whole}
+use Rattle.rtr_base.proofs.Overs.{copied-whole}
 use Rattle.rtr_encode.proofs.put_part.Statement.{statement}
 use Rattle.rtr_encode.proofs.put_part.Tie as tie
 

@@ -1,20 +1,21 @@
 -- A room as numbers: six for each record, so the first 6 n numbers are the first n records, and the spare ones are 0. A record in rule has a
 -- first number that is not 0, so the zeros behind tell how many records a room has; and numbers that keep the room rules are the room
 -- of the records that are read from them. Assumes nothing.
-use Prim.Native.Nat.{ℕ, zero, suc, _-_, _*_, _<_, _≤_}
+use Prim.Native.Nat.{ℕ, zero, suc, _+_, _-_, _*_, _<_, _≤_}
 use mathlib.Core.Bool.{true, false≢true}
 use mathlib.Core.List.{List, [], _∷_, _++_, append-assoc}
 use mathlib.Core.Logic.{_↔_}
 use mathlib.Core.Path.{_≡_, refl, sym, ap, _∙_}
 use native.Mathlib.Omega.{arith}
 use native.Mathlib.Nat.{mul-div-cancel-left}
-use borrow.Author.Tests.{leb-true, eqb-true, le-leb, eq-eqb}
+use borrow.Author.Tests.{leb-true, eqb-true, le-leb, lt-leb, eq-eqb}
 use lib.Dec.{leb, eqb}
 use lib.ListN.{length, getD, take, drop, replicate, length-append, length-drop, length-replicate, take-append-drop}
-use lib.Seq.{take-at, drop-at, drop-cons, getD-drop, length-take-le}
+use lib.Seq.{take-at, drop-at, drop-cons, drop-drop, getD-drop, length-take-le}
 use Rattle.rtr_room.specs.Table.{inRule, allInRule, isTable}
-use Rattle.rtr_room.specs.Room.{numbers, flat, room, recordFrom, recordAt, records, allZero, isRoom, limitOf, copied, copySays}
+use Rattle.rtr_room.specs.Room.{numbers, flat, room, recordFrom, recordAt, recordFound, records, allZero, isRoom, limitOf, copied, copySays}
 use Rattle.rtr_room.specs.declared.Record.{Record}
+use Rattle.rtr_room.specs.declared.RecordFound.the-variants.{Found, Outside}
 use Rattle.rtr_room.proofs.Laws.Tests.{first-of, second-of, both}
 use Rattle.rtr_room.proofs.Laws.Records.{record-is}
 use Rattle.rtr_room.proofs.Laws.Tables.{empty-table}
@@ -86,6 +87,30 @@ record-of-room limit t i d h =
     from-drop (room limit t) (6 * i)
     ∙ ap (λ (s : List ℕ). recordFrom s 0) (drop-flat i t _ (omega arith))
     ∙ ap (λ (u : List Record). recordFrom (flat u ++ replicate (6 * limit - 6 * length t) 0) 0) (drop-cons t i d h)
+
+-- record i + 1 is record i of what stands behind the first
+record-later : (s : List ℕ) (i : ℕ) → recordAt (drop 6 s) i ≡ recordAt s (suc i)
+unfolding recordAt
+record-later s i =
+    let six : 6 + 6 * i ≡ 6 * suc i = omega arith in
+    from-drop (drop 6 s) (6 * i)
+    ∙ ap (λ (l : List ℕ). recordFrom l 0) (drop-drop (6 * i) 6 s ∙ ap (λ (n : ℕ). drop n s) six)
+    ∙ sym (from-drop s (6 * suc i))
+
+pub records-next : (i : ℕ) (s : List ℕ) → records (suc i) s ≡ records i s ++ recordAt s i ∷ []
+unfolding records recordAt
+records-next zero s = refl
+records-next (suc i) s =
+    ap (λ (t : List Record). recordFrom s 0 ∷ t)
+    (records-next i (drop 6 s) ∙ ap (λ (r : Record). records i (drop 6 s) ++ r ∷ []) (record-later s i))
+
+pub found-inside : (s : List ℕ) (i : ℕ) → 6 * i + 6 ≤ length s → recordFound s i ≡ Found (recordAt s i)
+unfolding recordFound
+found-inside s i h = simp (le-leb (6 * i + 6) (length s) h)
+
+pub found-outside : (s : List ℕ) (i : ℕ) → length s < 6 * i + 6 → recordFound s i ≡ Outside
+unfolding recordFound
+found-outside s i h = simp (lt-leb (6 * i + 6) (length s) h)
 
 -- numbers that begin with n records begin with their numbers
 flat-records : (n : ℕ) (s : List ℕ) → 6 * n ≤ length s → flat (records n s) ≡ take (6 * n) s
@@ -163,6 +188,11 @@ rules-read limit count s h =
     let back : drop (6 * count) s ≡ replicate (length (drop (6 * count) s)) 0 = zeros-only _ spare in
     let many : length (drop (6 * count) s) ≡ 6 * limit - 6 * length (records count s) = omega (arith, length-drop (6 * count) s, records-length count s) in
     (records count s, table, records-length count s, few, sym (take-append-drop (6 * count) s) ∙ cc)
+
+-- what keeps the rules has six numbers for each record of its limit, and no more records than the limit
+pub rules-size : (limit count : ℕ) (s : List ℕ) → isRoom limit count s ≡ true → (length s ≡ 6 * limit) × (count ≤ limit)
+unfolding isRoom
+rules-size limit count s h = (eqb-true _ _ (first-of _ _ h), leb-true _ _ (first-of _ _ (second-of (eqb (length s) (6 * limit)) _ h)))
 
 room-spare : (limit : ℕ) (t : List Record) → allZero (drop (6 * length t) (room limit t)) ≡ true
 unfolding room

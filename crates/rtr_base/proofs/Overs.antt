@@ -1,15 +1,14 @@
--- Stores one behind the other are one store of all their bytes: `over-over`. From there a run of stores from the front is
--- `over out 0 bytes`, which is the bytes and then what stood behind them. Assumes nothing.
-use Prim.Native.Nat.{ℕ, _+_, _≤_, _<_, _/_, _%_}
-use mathlib.Core.List.{List, [], _∷_, _++_, append-assoc}
+-- Stores one behind the other are one store of all their elements: `over-over`. From there a run of stores from the front is
+-- `over out 0 elements`, which is the elements and then what stood behind them. Assumes nothing.
+use Prim.Native.Nat.{ℕ, _+_, _≤_, _<_}
+use mathlib.Core.List.{List, [], _∷_, _++_, append-assoc, append-nil}
 use mathlib.Core.Path.{_≡_, refl, sym, ap, _∙_}
-use native.Mathlib.Nat.{add-assoc}
+use native.Mathlib.Nat.{add-assoc, add-zero, zero-add}
 use native.Mathlib.Numerals.{add-one}
 use native.Mathlib.Omega.{arith}
-use lib.ListN.{length, take, drop, set, getD, length-append, length-drop, length-set}
-use lib.Seq.{length-take-le, take-at, take-length, drop-append-add, drop-drop, set-split, append-snoc, paste, paste-suc}
-use Rattle.rtr_encode.specs.Over.{over}
-use Rattle.rtr_encode.specs.Encode.{bytesOf}
+use lib.ListN.{length, take, drop, set, length-append, length-drop, length-set, take-append-drop}
+use lib.Seq.{length-take-le, take-at, take-take, take-length, take-append-le, drop-at, drop-append-add, drop-drop, set-split, append-snoc, paste}
+use Rattle.rtr_base.specs.Over.{over}
 
 pub length-over : (l : List ℕ) (at : ℕ) (b : List ℕ) → at + length b ≤ length l → length (over l at b) ≡ length l
 unfolding over
@@ -39,18 +38,6 @@ over-over l at k a b h e =
 pub front : (l : List ℕ) (k : ℕ) (a b : List ℕ) → length a ≡ k → over (over l 0 a) k b ≡ over l 0 (a ++ b)
 front l k a b e = over-over l 0 k a b (omega arith) (omega (arith, e))
 
--- the bytes of a number of 16 and of 32 bits, as the code divides them out
-pub bytes-of-16 : (n : ℕ) → n < 65536 → n / 256 ∷ n % 256 ∷ [] ≡ bytesOf 2 n
-unfolding bytesOf
-bytes-of-16 n h = let e : n / 256 ≡ n / 256 % 256 = omega arith in cc
-
-pub bytes-of-32 : (n : ℕ) → n < 4294967296 → n / 16777216 ∷ n / 65536 % 256 ∷ n / 256 % 256 ∷ n % 256 ∷ [] ≡ bytesOf 4 n
-unfolding bytesOf
-bytes-of-32 n h =
-    let a : n / 16777216 ≡ n / 256 / 256 / 256 % 256 = omega arith in
-    let b : n / 65536 % 256 ≡ n / 256 / 256 % 256 = omega arith in
-    cc
-
 pub stored-2 : (l : List ℕ) (i a b : ℕ) → i + 2 ≤ length l → set (set l i a) (i + 1) b ≡ over l i (a ∷ b ∷ [])
 stored-2 l i a b h =
     set-over (set l i a) (i + 1) b (simp length-set (omega arith))
@@ -70,17 +57,39 @@ stored-4 l i a b c d h =
 pub next : (o cur out a b : List ℕ) (k : ℕ) → cur ≡ over o 0 a → length a ≡ k → out ≡ over cur k b → out ≡ over o 0 (a ++ b)
 next o cur out a b k p e q = q ∙ ap (λ (x : List ℕ). over x k b) p ∙ front o k a b e
 
--- the four bytes of a prefix's flags and lengths
-pub bytes-of-8 : (a b c : ℕ) → a < 256 → b < 256 → c < 256 → a ∷ b ∷ c ∷ 0 ∷ [] ≡ bytesOf 1 a ++ bytesOf 1 b ++ bytesOf 1 c ++ (0 ∷ [])
-unfolding bytesOf
-bytes-of-8 a b c p q r =
-    let x : a ≡ a % 256 = omega arith in
-    let y : b ≡ b % 256 = omega arith in
-    let z : c ≡ c % 256 = omega arith in
-    cc
-
--- a turn of the loop that copies, and its end
+-- a loop that copied all of s from `at` on stored s there
 pub copied-whole : (d : List ℕ) (at : ℕ) (s : List ℕ) (j : ℕ) (cur : List ℕ) → cur ≡ paste d at s j → j ≡ length s → cur ≡ over d at s
 unfolding over
 copied-whole d at s j cur e q =
     e ∙ ap (paste d at s) q ∙ ap (λ (x : List ℕ). take at d ++ x ++ drop (at + length s) d) (take-length s)
+
+-- a store of nothing leaves the list
+pub over-nothing : (l : List ℕ) (at : ℕ) → over l at [] ≡ l
+unfolding over
+over-nothing l at = simp (append-nil, add-zero) (take-append-drop at l)
+
+-- from the front: the elements, and then what stood behind them
+pub over-front : (l b : List ℕ) → over l 0 b ≡ b ++ drop (length b) l
+unfolding over
+over-front l b = ap (λ (k : ℕ). b ++ drop k l) (zero-add (length b))
+
+-- one store more, right behind another
+pub behind : (o cur out a b : List ℕ) (at k : ℕ) → at ≤ length o → cur ≡ over o at a → at + length a ≡ k → out ≡ over cur k b → out ≡ over o at (a ++ b)
+behind o cur out a b at k h p e q = q ∙ ap (λ (x : List ℕ). over x k b) p ∙ over-over o at k a b h e
+
+-- and one right before another
+pub over-before : (l : List ℕ) (at k : ℕ) (a b : List ℕ) → k + length b ≤ length l → at + length a ≡ k → over (over l k b) at a ≡ over l at (a ++ b)
+unfolding over
+over-before l at k a b h e =
+    let rest : List ℕ = b ++ drop (k + length b) l in
+    let long : length (take k l) ≡ k = length-take-le k l (omega arith) in
+    let whole : take k l ++ b ++ drop (k + length b) l ≡ take k l ++ rest = append-assoc (take k l) b (drop (k + length b) l) in
+    let first : take at (take k l ++ rest) ≡ take at l = take-append-le at (take k l) rest (omega arith) ∙ take-take at k l (omega arith) in
+    let last : drop (at + length a) (take k l ++ rest) ≡ rest = ap (λ (n : ℕ). drop n (take k l ++ rest)) e ∙ drop-at (take k l) rest k long in
+    let far : k + length b ≡ at + length (a ++ b) = omega (arith, length-append a b) in
+    ap (λ (x : List ℕ). take at x ++ a ++ drop (at + length a) x) whole
+    ∙ ap (λ (x : List ℕ). x ++ a ++ drop (at + length a) (take k l ++ rest)) first
+    ∙ ap (λ (x : List ℕ). take at l ++ a ++ x) last
+    ∙ sym (append-assoc (take at l ++ a) b (drop (k + length b) l))
+    ∙ ap (λ (x : List ℕ). x ++ drop (k + length b) l) (append-assoc (take at l) a b)
+    ∙ ap (λ (n : ℕ). take at l ++ (a ++ b) ++ drop n l) far
