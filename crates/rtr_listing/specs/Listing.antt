@@ -1,0 +1,107 @@
+-- The bytes of a table's listing: document 01, "The listing".
+use Prim.Native.Nat.{ℕ, zero, suc, _+_, _/_, _%_}
+use Prim.Native.Char.{code}
+use Prim.Native.String.{String, [] as none, _∷_ as _then_}
+use mathlib.Core.Bool.{cond}
+use mathlib.Core.List.{List, [], _∷_, _++_}
+use lib.Dec.{ltb, eqb}
+use Rattle.rtr_codec.specs.Answers.{numberOf}
+use Rattle.rtr_room.specs.Table.{familyOf, prefixOf, maxOf}
+use Rattle.rtr_room.specs.declared.Record.{Record}
+use Rattle.rtr_receiver.specs.Promises.{stopSaid}
+use Rattle.rtr_receiver.specs.declared.Phase.{Phase}
+use Rattle.rtr_receiver.specs.declared.LiveTable.{LiveTable}
+use Rattle.rtr_receiver.specs.declared.Session.{Session}
+
+-- ---- texts and numbers
+
+-- the bytes of a text in ASCII
+abbrev pub text : String → List ℕ
+text none = []
+text (c then s) = code c ∷ text s
+
+-- the byte of a digit: `0` to `9`, then `a` to `f`
+abbrev pub glyph : ℕ → ℕ
+glyph d = cond (ltb d 10) (48 + d) (87 + d)
+
+-- the last k digits of a number in base b, the most significant first
+unfoldable pub digits : ℕ → ℕ → ℕ → List ℕ
+digits b zero n = []
+digits b (suc k) n = digits b k (n / b) ++ glyph (n % b) ∷ []
+
+-- how many decimal digits a number of 32 bits has
+unfoldable pub places : ℕ → ℕ
+places n =
+    cond (ltb n 10) 1
+    (cond (ltb n 100) 2
+    (cond (ltb n 1000) 3
+    (cond (ltb n 10000) 4
+    (cond (ltb n 100000) 5
+    (cond (ltb n 1000000) 6
+    (cond (ltb n 10000000) 7
+    (cond (ltb n 100000000) 8
+    (cond (ltb n 1000000000) 9 10))))))))
+
+-- "Numbers are decimal without leading zeros"
+abbrev pub decimal : ℕ → List ℕ
+decimal n = digits 10 (places n) n
+
+-- a line of a name's and a value's bytes: "Each line ends with a line feed"
+unfoldable pub lineOf : List ℕ → List ℕ → List ℕ
+lineOf name value = name ++ value ++ 10 ∷ []
+
+-- the same with the name as a text
+abbrev pub line : String → List ℕ → List ℕ
+line name value = lineOf (text name) value
+
+-- ---- the head: the stop, then "the table as it stands"
+
+-- the number of the stop, 0 without one
+abbrev pub stoppedAs : Phase → ℕ
+stoppedAs Phase.Idle = 0
+stoppedAs Phase.MustReset = 0
+stoppedAs Phase.AskedFull = 0
+stoppedAs Phase.AskedChange = 0
+stoppedAs (Phase.Loading kind session) = 0
+stoppedAs (Phase.Stopped stop) = numberOf (stopSaid stop)
+
+-- the table's numbers and its count of records, "but count has four digits"; or that there is none
+unfoldable pub tableLines : LiveTable → ℕ → List ℕ
+tableLines LiveTable.NoTable count = line "count=" (text "none")
+tableLines (LiveTable.Known t) count =
+    line "session=" (decimal (t .session))
+    ++ line "serial=" (decimal (t .serial))
+    ++ line "refresh=" (decimal (t .refresh))
+    ++ line "retry=" (decimal (t .retry))
+    ++ line "expire=" (decimal (t .expire))
+    ++ line "count=" (digits 10 4 count)
+
+-- the lines before the records
+unfoldable pub headLines : Session → List ℕ
+headLines s = line "stopped=" (decimal (stoppedAs (s .phase))) ++ tableLines (s .table) (s .live)
+
+-- ---- the records: "The five record lines repeat"
+
+-- "Addresses have 8 or 32 lower-case hex digits": family 4 has the one number, any other all four
+unfoldable pub addressOf : Record → List ℕ
+addressOf r =
+    cond (eqb (familyOf r) 4) (digits 16 8 (r .w0))
+    (digits 16 8 (r .w0) ++ digits 16 8 (r .w1) ++ digits 16 8 (r .w2) ++ digits 16 8 (r .w3))
+
+-- the five lines of a record
+unfoldable pub recordLines : Record → List ℕ
+recordLines r =
+    line "family=" (decimal (familyOf r))
+    ++ line "address=" (addressOf r)
+    ++ line "length=" (decimal (prefixOf r))
+    ++ line "max=" (decimal (maxOf r))
+    ++ line "asn=" (decimal (r .asn))
+
+-- the lines of some records, one after another
+unfoldable pub allLines : List Record → List ℕ
+allLines [] = []
+allLines (r ∷ t) = recordLines r ++ allLines t
+
+-- the whole listing
+abbrev pub listing : Session → List Record → List ℕ
+listing s table = headLines s ++ allLines table
