@@ -1,0 +1,81 @@
+-- `feed_all`: what is lent keeps its length over the turns, of which there are fewer and fewer. Assumes nothing.
+use Prim.Native.Nat.{_-_, _≤_}
+use mathlib.Core.Path.{_≡_}
+use native.Mathlib.Omega.{arith}
+use borrow.Author.Needs.{needs}
+use lib.ListN.{length}
+use Rattle.rtr_table.proofs.feed_all.Statement.{statement}
+use Rattle.rtr_table.proofs.feed_all.Tie as tie
+
+abbrev Inv-loop : tie.InvT-loop
+Inv-loop live₀ working₀ hold₀ piece₀ session₀ turns₀ live working hold piece session turns = (length live ≡ length live₀) × (length working ≡ length working₀) × (length hold ≡ length hold₀) × (65536 ≡ length piece)
+
+abbrev μ-loop : tie.MeasureT-loop
+μ-loop live₀ working₀ hold₀ piece₀ session₀ turns₀ live working hold piece session turns = turns
+
+large-buffer-requires : tie.Need-large-buffer-requires Inv-loop μ-loop
+large-buffer-requires c κs = search needs
+
+loop-holds : tie.Need-loop-holds Inv-loop μ-loop
+loop-holds c = omega arith
+
+slice-aggregate-hear-piece : tie.Need-slice-aggregate-hear-piece Inv-loop μ-loop
+slice-aggregate-hear-piece c = omega arith
+
+hear-piece-requires : tie.Need-hear-piece-requires Inv-loop μ-loop
+hear-piece-requires c κs = search needs
+
+same-length : tie.Need-same-length Inv-loop μ-loop
+same-length c = omega arith
+
+same-length-2 : tie.Need-same-length-2 Inv-loop μ-loop
+same-length-2 c = omega arith
+
+same-length-3 : tie.Need-same-length-3 Inv-loop μ-loop
+same-length-3 c = omega arith
+
+returns : tie.Need-returns Inv-loop μ-loop
+returns c = search needs
+
+sub-turns : tie.Need-sub-turns Inv-loop μ-loop
+sub-turns c = omega arith
+
+loop-less : tie.Need-loop-less Inv-loop μ-loop
+loop-less c = omega arith
+
+loop-again : tie.Need-loop-again Inv-loop μ-loop
+loop-again c = omega arith
+
+same-length-4 : tie.Need-same-length-4 Inv-loop μ-loop
+same-length-4 c = omega arith
+
+same-length-5 : tie.Need-same-length-5 Inv-loop μ-loop
+same-length-5 c = omega arith
+
+same-length-6 : tie.Need-same-length-6 Inv-loop μ-loop
+same-length-6 c = omega arith
+
+returns-2 : tie.Need-returns-2 Inv-loop μ-loop
+returns-2 c = search needs
+
+pub feed-all-spec : {M : Type 1} → statement M
+feed-all-spec =
+    tie.close
+    (tie.spec
+    Inv-loop
+    μ-loop
+    large-buffer-requires
+    loop-holds
+    slice-aggregate-hear-piece
+    hear-piece-requires
+    same-length
+    same-length-2
+    same-length-3
+    returns
+    sub-turns
+    loop-less
+    loop-again
+    same-length-4
+    same-length-5
+    same-length-6
+    returns-2)
