@@ -1,15 +1,18 @@
 -- The two loops of the rules' test. Over the records: the last record read and those behind it are a table exactly where the whole is, as long
--- as each record read was in rule and before the next; the first that is not decides. Over the spare numbers: the first that is not 0
--- decides. Assumes nothing.
-use Prim.Native.Nat.{ℕ, suc, _+_, _-_, _*_, _≤_, _<_}
-use mathlib.Core.Bool.{true, false, and-false}
+-- as each record read was in rule and before the next; the first that is not decides. Over the spare numbers: their bits are put together, and
+-- those are none exactly where each number is 0. Assumes nothing.
+use Prim.Native.Nat.{ℕ, zero, suc, _+_, _-_, _*_, _≤_, _<_}
+use mathlib.Core.Bool.{true, false, _&&_, and-false, and-true, and-assoc}
 use mathlib.Core.List.{List, [], _∷_}
-use mathlib.Core.Path.{_≡_, sym, ap, _∙_}
+use mathlib.Core.Path.{_≡_, refl, sym, ap, _∙_}
+use native.Mathlib.Nat.{suc-ne-zero}
 use native.Mathlib.Numerals.{add-one}
 use native.Mathlib.Omega.{arith}
+use lib.Bits.{bitOr, or-add-and, and-le-r}
+use lib.Dec.{eqb}
 use lib.ListN.{length, drop, getD, drop-of-length-le}
 use lib.Seq.{drop-cons, drop-drop}
-use borrow.Author.Tests.{eq-eqb, ne-eqb}
+use borrow.Author.Tests.{ne-eqb}
 use Rattle.rtr_room.specs.Table.{before, inRule, isTable, allInRule, ordered}
 use Rattle.rtr_room.specs.Room.{recordAt, records, allZero}
 use Rattle.rtr_room.specs.declared.Record.{Record}
@@ -96,15 +99,16 @@ module _ (s : List ℕ) (count : ℕ) where
 
 -- ---- zeros
 
-module _ (s : List ℕ) (i : ℕ) where
-  pub zero-next : i < length s → getD s i 0 ≡ 0 → allZero (drop i s) ≡ allZero (drop (i + 1) s)
-  unfolding allZero
-  zero-next h e = rw (drop-cons s i 0 h, eq-eqb (getD s i 0) 0 e, add-one i)
+-- the bits of two numbers together are none exactly where both are 0
+together : (a b : ℕ) → eqb (bitOr a b) 0 ≡ (eqb a 0 && eqb b 0)
+together zero b = refl
+together (suc a) b = rw (ne-eqb (suc a) 0 (suc-ne-zero a)) (ne-eqb (bitOr (suc a) b) 0 (λ e. omega (arith, or-add-and (suc a) b, and-le-r (suc a) b, e)))
 
-  pub zero-breaks : i < length s → (getD s i 0 ≡ 0 → ⊥) → allZero (drop i s) ≡ false
+module _ (s : List ℕ) (i bits : ℕ) where
+  pub zero-turn : i < length s → (eqb bits 0 && allZero (drop i s)) ≡ (eqb (bitOr bits (getD s i 0)) 0 && allZero (drop (i + 1) s))
   unfolding allZero
-  zero-breaks h e = rw (drop-cons s i 0 h, ne-eqb (getD s i 0) 0 e)
+  zero-turn h = rw (drop-cons s i 0 h, add-one i, together bits (getD s i 0)) (sym (and-assoc (eqb bits 0) (eqb (getD s i 0) 0) (allZero (drop (suc i) s))))
 
-  pub zero-end : length s ≤ i → allZero (drop i s) ≡ true
+  pub zero-end : length s ≤ i → (eqb bits 0 && allZero (drop i s)) ≡ eqb bits 0
   unfolding allZero
-  zero-end h = rw (drop-of-length-le s {i = i} h)
+  zero-end h = rw (drop-of-length-le s {i = i} h) (and-true (eqb bits 0))
