@@ -8,7 +8,7 @@ use lib.ListN.{length}
 use Rattle.rtr_encode.specs.Encode.{Writing, Encoded, unless, outAfter}
 use Rattle.rtr_encode.specs.Encode.Writing.{written, refused}
 use Rattle.rtr_room.specs.Room.{records, isRoom}
-use Rattle.rtr_receiver.specs.Promises.{hasTable}
+use Rattle.rtr_receiver.specs.History.{hasTable}
 use Rattle.rtr_receiver.specs.declared.Session.{Session}
 use Rattle.rtr_listing.specs.Listing.{listing}
 use Rattle.rtr_listing.specs.declared.ListError.{ListError}

@@ -7,6 +7,7 @@ use rtr_listing::ListAnswer;
 use rtr_listing::head_lines;
 use rtr_listing::record_lines;
 use rtr_models::RtrProtocolVersion;
+use rtr_receiver::FeedAnswer;
 use rtr_receiver::Session;
 use rtr_receiver::StartAnswer;
 use rtr_receiver::feed;
@@ -20,6 +21,13 @@ use rtr_room::get;
 struct Heard {
     session: Session,
     is_open: bool,
+}
+
+fn goes_on(answer: FeedAnswer) -> bool {
+    match answer {
+        FeedAnswer::GoesOn => true,
+        _ => false,
+    }
 }
 
 // What is there is fed, be it less than a piece holds. A read that fails ends the input too.
@@ -40,14 +48,16 @@ fn hear_piece(
     }
     let fed = feed(s, live, working, hold, &piece[..n]);
     let session = fed.session;
+    let done = fed.done;
+    let answer = done.answer;
     Heard {
         session,
-        is_open: true,
+        is_open: goes_on(answer),
     }
 }
 
-// All of the input: after a stop, feed takes none of it, and it is read on all the same, so that a writer on a pipe is not killed before it is
-// done. The loop counts down, since nothing says that the input ends.
+// The input to its end, or to a stop: nothing is read behind one, so that it is told at once on a connection that stays open. The loop counts
+// down, since nothing says that the input ends.
 fn feed_all(s: Session, live: &mut [u32], working: &mut [u32], hold: &mut [u8]) -> Session {
     let mut piece = io::large_buffer();
     let mut session = s;
