@@ -183,6 +183,22 @@ pub feed-unique : (κs : _) (a : _) (r r′ : _) (s s′ : _) → feed-reads.Pos
     → (r ≡ r′) × (now (s .1 .0) ≡ now (s′ .1 .0)) × (now (s .1 .1 .0) ≡ now (s′ .1 .1 .0)) × (take (r .session .held) (now (s .1 .1 .1 .0)) ≡ take (r′ .session .held) (now (s′ .1 .1 .1 .0)))
 feed-unique κs a r r′ s s′ p q = one-fed r r′ (now (s .1 .0)) (now (s′ .1 .0)) (now (s .1 .1 .0)) (now (s′ .1 .1 .0)) (now (s .1 .1 .1 .0)) (now (s′ .1 .1 .1 .0)) _ p q
 
+-- under 22 the whole hold is fixed
+holdIn : FeedSays → List ℕ
+holdIn (FeedSays.fed taken updates ending left) = []
+holdIn (FeedSays.refusedFeed number taken updates left hold) = hold
+
+hold-in : (a : FeedAnswer) (taken updates : ℕ) (left : Left) (hold : List ℕ) → a ≡ FeedAnswer.NotAReceiver → holdIn (fedSaidBy a taken updates left hold) ≡ hold
+unfolding holdIn
+hold-in a taken updates left hold e = ap (λ (x : FeedAnswer). holdIn (fedSaidBy x taken updates left hold)) e
+
+pub feed-unique-refused : (κs : _) (a : _) (r r′ : _) (s s′ : _) → feed-reads.Post κs a r s → feed-reads.Post κs a r′ s′ → r .done .answer ≡ FeedAnswer.NotAReceiver → now (s .1 .1 .1 .0) ≡ now (s′ .1 .1 .1 .0)
+feed-unique-refused κs a r r′ s s′ p q e =
+    let same : r ≡ r′ = feed-unique κs a r r′ s s′ p q .0 in
+    sym (hold-in (r .done .answer) (r .done .taken) (r .done .updates) (leaves (r .session) (now (s .1 .0)) (now (s .1 .1 .0)) (now (s .1 .1 .1 .0))) (now (s .1 .1 .1 .0)) e)
+    ∙ ap holdIn (p ∙ sym q)
+    ∙ hold-in (r′ .done .answer) (r′ .done .taken) (r′ .done .updates) (leaves (r′ .session) (now (s′ .1 .0)) (now (s′ .1 .1 .0)) (now (s′ .1 .1 .1 .0))) (now (s′ .1 .1 .1 .0)) (sym (ap (λ (x : Fed). x .done .answer) same) ∙ e)
+
 -- ---- start
 
 startOf : StartSays → StartAnswer
