@@ -63,6 +63,14 @@ module _ (limit : ℕ) (s : Session) (live : List ℕ) where
   unfolding listingSays
   listed-says out h = simp h
 
+pub written-is : (bytes out : List ℕ) → length bytes ≤ length out → puts bytes out ≡ record { says = written (length bytes); out = bytes ++ drop (length bytes) out }
+unfolding puts
+written-is bytes out h = simp (le-leb (length bytes) (length out) h)
+
+pub short-is : (bytes out : List ℕ) → length out < length bytes → puts bytes out ≡ record { says = refused 9 (length bytes ∷ []); out = out }
+unfolding puts
+short-is bytes out h = simp (lt-leb (length bytes) (length out) h)
+
 -- every phase but Stopped
 pub not-stopped : (p : Phase) → OneOf (0 ∷ 1 ∷ 2 ∷ 3 ∷ 4 ∷ []) (tagOf phase.the-type p) → stoppedAs p ≡ 0
 not-stopped Phase.Idle h = refl

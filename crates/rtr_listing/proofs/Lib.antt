@@ -1,8 +1,10 @@
--- `Laws`, `Samples` and `Unique` are for readers and other crates; the others are the argument.
+-- `Laws`, `Samples` and `Unique` are for readers and other crates, with `Numbers`' reading of digits; the others are the argument.
 pub mod Laws
 pub mod Samples
 pub mod Unique
+pub mod Numbers
 mod Puts
 mod Digits
 mod Lines
 mod Calls
+mod Shape

@@ -1,5 +1,4 @@
 -- `feed_all`: what is lent keeps its length over the turns, of which there are fewer and fewer. Assumes nothing.
-use Prim.Native.Nat.{_-_, _≤_}
 use mathlib.Core.Path.{_≡_}
 use native.Mathlib.Omega.{arith}
 use borrow.Author.Needs.{needs}
