@@ -1,6 +1,6 @@
 -- A PDU by what it is: what the definition makes of each kind, and what the code's answer to it stands for. By the cases of the PDU. Assumes nothing.
 use Prim.Native.Nat.{ℕ, _+_}
-use mathlib.Core.Bool.{Bool, cond}
+use mathlib.Core.Bool.{Bool, true, false, cond, false≢true}
 use mathlib.Core.List.{List, [], _∷_}
 use mathlib.Core.Path.{_≡_, refl, sym, ap, ap₂, _∙_}
 use denote.Enum.Declared.{tagOf}
@@ -22,9 +22,10 @@ use Rattle.rtr_models.specs.declared.RtrProtocolVersion.{RtrProtocolVersion}
 use Rattle.rtr_models.proofs.RtrPdu as pdu-enum
 use Rattle.rtr_room.specs.declared.Record.{Record}
 use Rattle.rtr_room.specs.Table.{ipv4Record, ipv6Record}
-use Rattle.rtr_receiver.specs.Receiver.{Stage, Receiver, stop, onSerialNotify, onCacheResponse, onRecord, onRouterKey, onCacheReset, noUpdate, onEndOfData, onKind, ofVersion, onPdu}
-use Rattle.rtr_receiver.specs.Promises.{receiverOf, leaves, inMemory}
-use Rattle.rtr_receiver.specs.Private.{BothRooms, Stands, goesOnIn, afterPdu}
+use Rattle.rtr_receiver.specs.Receiver.{Receiver, Deed, stop, onSerialNotify, onCacheResponse, onRecord, onRouterKey, onCacheReset, noUpdate, onEndOfData, onKind, ofVersion, onPdu}
+use Rattle.rtr_receiver.specs.Promises.{receiverOf, leaves}
+use Rattle.rtr_receiver.specs.Private.{BothRooms, Stands, carriedBy, goesOnIn, afterPdu}
+use Rattle.rtr_receiver.specs.declared.Carried.{Carried}
 use Rattle.rtr_receiver.specs.declared.Note.{Note}
 use Rattle.rtr_receiver.specs.declared.Phase.{Phase}
 use Rattle.rtr_receiver.specs.declared.Then.{Then}
@@ -41,11 +42,6 @@ notify-stands limit s live working b id serial q f =
     ap (λ (x : Session). leaves x live working []) f
     ∙ kept-stands limit s live working b (record { version = s .version; phase = s .phase; table = s .table; note = Note.Noted id serial; live = s .live; working = s .working; held = s .held }) refl refl refl
 
--- a record in other words
-pub record-stands : (limit : ℕ) (q : Session) (live w : List ℕ) (stage : Stage) (announced announced′ : Bool) (a b : Record) (r : Receiver) → announced ≡ announced′ → a ≡ b →
-    Stands limit q live w (onRecord limit stage announced a r) → Stands limit q live w (onRecord limit stage announced′ b r)
-record-stands limit q live w stage announced announced′ a b r p e h = h ∙ ap₂ (λ (x : Bool) (y : Record). inMemory limit (onRecord limit stage x y r)) p e
-
 -- what the definition makes of a PDU of each kind
 module _ (limit : ℕ) (r : Receiver) (pdu : RtrPdu) where
   pub kind-notify : (p : RtrSerialNotify) → pdu ≡ SerialNotify p → onKind limit pdu r ≡ noUpdate (onSerialNotify (p .«session_id») (p .«serial_number») r)
@@ -55,14 +51,6 @@ module _ (limit : ℕ) (r : Receiver) (pdu : RtrPdu) where
   pub kind-response : (p : RtrCacheResponse) → pdu ≡ CacheResponse p → onKind limit pdu r ≡ noUpdate (onCacheResponse (r .stage) (p .«session_id») r)
   unfolding onKind
   kind-response p e = ap (λ (x : RtrPdu). onKind limit x r) e
-
-  pub kind-ipv4 : (p : RtrIPv4Prefix) → pdu ≡ IPv4Prefix p → onKind limit pdu r ≡ noUpdate (onRecord limit (r .stage) (announces (p .flags)) (ipv4Record (p .«prefix_length») (p .«max_length») (p .prefix) (p .asn)) r)
-  unfolding onKind
-  kind-ipv4 p e = ap (λ (x : RtrPdu). onKind limit x r) e
-
-  pub kind-ipv6 : (p : RtrIPv6Prefix) → pdu ≡ IPv6Prefix p → onKind limit pdu r ≡ noUpdate (onRecord limit (r .stage) (announces (p .flags)) (ipv6Record (p .«prefix_length») (p .«max_length») (p .prefix .w0) (p .prefix .w1) (p .prefix .w2) (p .prefix .w3) (p .asn)) r)
-  unfolding onKind
-  kind-ipv6 p e = ap (λ (x : RtrPdu). onKind limit x r) e
 
   pub kind-end : (p : RtrEndOfData) → pdu ≡ EndOfData p → onKind limit pdu r ≡ onEndOfData (r .stage) p r
   unfolding onKind
@@ -80,19 +68,72 @@ module _ (limit : ℕ) (r : Receiver) (pdu : RtrPdu) where
   unfolding onPdu
   pdu-report p e = ap (λ (x : RtrPdu). onPdu limit x r) e
 
+-- what `carried_by` makes of a PDU
+module _ (pdu : RtrPdu) where
+  pub carried-ipv4 : (p : RtrIPv4Prefix) → pdu ≡ IPv4Prefix p → (announced : Bool) → announced ≡ announces (p .flags) →
+      (x : Record) → x ≡ ipv4Record (p .«prefix_length») (p .«max_length») (p .prefix) (p .asn) → Carried.Record announced x ≡ carriedBy pdu
+  unfolding carriedBy
+  carried-ipv4 p e announced f x g = ap₂ (λ (b : Bool) (y : Record). Carried.Record b y) f g ∙ ap carriedBy (sym e)
+
+  pub carried-ipv6 : (p : RtrIPv6Prefix) → pdu ≡ IPv6Prefix p → (announced : Bool) → announced ≡ announces (p .flags) →
+      (x : Record) → x ≡ ipv6Record (p .«prefix_length») (p .«max_length») (p .prefix .w0) (p .prefix .w1) (p .prefix .w2) (p .prefix .w3) (p .asn) → Carried.Record announced x ≡ carriedBy pdu
+  unfolding carriedBy
+  carried-ipv6 p e announced f x g = ap₂ (λ (b : Bool) (y : Record). Carried.Record b y) f g ∙ ap carriedBy (sym e)
+
+pub carried-none : (pdu : RtrPdu) → OneOf (0 ∷ 1 ∷ 2 ∷ 3 ∷ 6 ∷ 7 ∷ 8 ∷ 9 ∷ []) (tagOf pdu-enum.the-type pdu) → Carried.Nothing ≡ carriedBy pdu
+unfolding carriedBy
+carried-none (SerialNotify p) h = refl
+carried-none (SerialQuery p) h = refl
+carried-none (ResetQuery p) h = refl
+carried-none (CacheResponse p) h = refl
+carried-none (IPv4Prefix p) h = absurd (miss (0 ∷ 1 ∷ 2 ∷ 3 ∷ 6 ∷ 7 ∷ 8 ∷ 9 ∷ []) 4 tt h)
+carried-none (IPv6Prefix p) h = absurd (miss (0 ∷ 1 ∷ 2 ∷ 3 ∷ 6 ∷ 7 ∷ 8 ∷ 9 ∷ []) 5 tt h)
+carried-none (EndOfData p) h = refl
+carried-none (CacheReset p) h = refl
+carried-none (RouterKey p) h = refl
+carried-none (ErrorReport p) h = refl
+
+-- what the definition makes of a PDU that carries a record
+deed-of : ℕ → Receiver → Deed → Carried → Deed
+deed-of limit r deed (Carried.Record announced x) = noUpdate (onRecord limit (r .stage) announced x r)
+deed-of limit r deed Carried.Nothing = deed
+
+kind-carried : (limit : ℕ) (r : Receiver) (pdu : RtrPdu) → onKind limit pdu r ≡ deed-of limit r (onKind limit pdu r) (carriedBy pdu)
+unfolding onKind carriedBy deed-of
+kind-carried limit r (SerialNotify p) = refl
+kind-carried limit r (SerialQuery p) = refl
+kind-carried limit r (ResetQuery p) = refl
+kind-carried limit r (CacheResponse p) = refl
+kind-carried limit r (IPv4Prefix p) = refl
+kind-carried limit r (IPv6Prefix p) = refl
+kind-carried limit r (EndOfData p) = refl
+kind-carried limit r (CacheReset p) = refl
+kind-carried limit r (RouterKey p) = refl
+kind-carried limit r (ErrorReport p) = refl
+
+pub kind-record : (limit : ℕ) (r : Receiver) (pdu : RtrPdu) (announced : Bool) (x : Record) → carriedBy pdu ≡ Carried.Record announced x →
+    onKind limit pdu r ≡ noUpdate (onRecord limit (r .stage) announced x r)
+unfolding deed-of
+kind-record limit r pdu announced x e = kind-carried limit r pdu ∙ ap (deed-of limit r (onKind limit pdu r)) e
+
 -- what a cache never sends a router
-pub kind-out : (limit : ℕ) (r : Receiver) (pdu : RtrPdu) → OneOf (1 ∷ 2 ∷ 9 ∷ []) (tagOf pdu-enum.the-type pdu) → onKind limit pdu r ≡ noUpdate (stop 13 [] r)
-unfolding onKind
-kind-out limit r (SerialNotify p) h = absurd (miss (1 ∷ 2 ∷ 9 ∷ []) 0 tt h)
-kind-out limit r (SerialQuery p) h = refl
-kind-out limit r (ResetQuery p) h = refl
-kind-out limit r (CacheResponse p) h = absurd (miss (1 ∷ 2 ∷ 9 ∷ []) 3 tt h)
-kind-out limit r (IPv4Prefix p) h = absurd (miss (1 ∷ 2 ∷ 9 ∷ []) 4 tt h)
-kind-out limit r (IPv6Prefix p) h = absurd (miss (1 ∷ 2 ∷ 9 ∷ []) 5 tt h)
-kind-out limit r (EndOfData p) h = absurd (miss (1 ∷ 2 ∷ 9 ∷ []) 6 tt h)
-kind-out limit r (CacheReset p) h = absurd (miss (1 ∷ 2 ∷ 9 ∷ []) 7 tt h)
-kind-out limit r (RouterKey p) h = absurd (miss (1 ∷ 2 ∷ 9 ∷ []) 8 tt h)
-kind-out limit r (ErrorReport p) h = refl
+carries-none : Carried → Bool
+carries-none (Carried.Record announced x) = false
+carries-none Carried.Nothing = true
+
+pub kind-out : (limit : ℕ) (r : Receiver) (pdu : RtrPdu) → OneOf (1 ∷ 2 ∷ 4 ∷ 5 ∷ 9 ∷ []) (tagOf pdu-enum.the-type pdu) → carriedBy pdu ≡ Carried.Nothing →
+    onKind limit pdu r ≡ noUpdate (stop 13 [] r)
+unfolding onKind carriedBy carries-none
+kind-out limit r (SerialNotify p) h e = absurd (miss (1 ∷ 2 ∷ 4 ∷ 5 ∷ 9 ∷ []) 0 tt h)
+kind-out limit r (SerialQuery p) h e = refl
+kind-out limit r (ResetQuery p) h e = refl
+kind-out limit r (CacheResponse p) h e = absurd (miss (1 ∷ 2 ∷ 4 ∷ 5 ∷ 9 ∷ []) 3 tt h)
+kind-out limit r (IPv4Prefix p) h e = absurd (false≢true (ap carries-none e))
+kind-out limit r (IPv6Prefix p) h e = absurd (false≢true (ap carries-none e))
+kind-out limit r (EndOfData p) h e = absurd (miss (1 ∷ 2 ∷ 4 ∷ 5 ∷ 9 ∷ []) 6 tt h)
+kind-out limit r (CacheReset p) h e = absurd (miss (1 ∷ 2 ∷ 4 ∷ 5 ∷ 9 ∷ []) 7 tt h)
+kind-out limit r (RouterKey p) h e = absurd (miss (1 ∷ 2 ∷ 4 ∷ 5 ∷ 9 ∷ []) 8 tt h)
+kind-out limit r (ErrorReport p) h e = refl
 
 -- every PDU but an Error Report is judged by its version first
 by-version : (limit : ℕ) (r : Receiver) (pdu : RtrPdu) → OneOf (0 ∷ 1 ∷ 2 ∷ 3 ∷ 4 ∷ 5 ∷ 6 ∷ 7 ∷ 8 ∷ []) (tagOf pdu-enum.the-type pdu) → onPdu limit pdu r ≡ ofVersion (versionOf pdu) r (onKind limit pdu r)

@@ -5,7 +5,11 @@ use mathlib.Core.List.{List, []}
 use mathlib.Core.Path.{_≡_}
 use lib.Dec.{eqb}
 use lib.ListN.{length, drop}
+use Rattle.rtr_models.specs.Values.{announces}
+use Rattle.rtr_models.specs.declared.RtrPdu.{RtrPdu}
+use Rattle.rtr_models.specs.declared.RtrPdu.the-variants.{SerialNotify, SerialQuery, ResetQuery, CacheResponse, IPv4Prefix, IPv6Prefix, EndOfData, CacheReset, RouterKey, ErrorReport}
 use Rattle.rtr_room.specs.Room.{isRoom}
+use Rattle.rtr_room.specs.Table.{ipv4Record, ipv6Record}
 use Rattle.rtr_receiver.specs.Receiver.{Receiver, Deed, Feed, listens, onPiece}
 use Rattle.rtr_receiver.specs.History.{hasTable}
 use Rattle.rtr_receiver.specs.Promises.{changeUnderWay, isLoading, isStopped, stageOf, receiverOf, isReceiver, leaves, inMemory, fedTo, fedSaidBy}
@@ -16,6 +20,7 @@ use Rattle.rtr_receiver.specs.declared.Session.{Session}
 use Rattle.rtr_receiver.specs.declared.AskError.{AskError}
 use Rattle.rtr_receiver.specs.declared.AskAnswer.{AskAnswer}
 use Rattle.rtr_receiver.specs.declared.AskedSession.{AskedSession}
+use Rattle.rtr_receiver.specs.declared.Carried.{Carried}
 use Rattle.rtr_receiver.specs.declared.DeedDone.{DeedDone}
 use Rattle.rtr_receiver.specs.declared.FeedAnswer.{FeedAnswer}
 use Rattle.rtr_receiver.specs.declared.Then.{Then}
@@ -38,6 +43,20 @@ Stands limit s live working r = leaves s live working [] ≡ inMemory limit r
 
 abbrev pub Did : ℕ → DeedDone → List ℕ → List ℕ → Deed → Type 0
 Did limit d live working deed = Stands limit (d .session) live working (deed .then) × (d .updates ≡ deed .updates)
+
+-- the record that a PDU carries, and whether it is announced
+unfoldable pub carriedBy : RtrPdu → Carried
+carriedBy (SerialNotify p) = Carried.Nothing
+carriedBy (SerialQuery p) = Carried.Nothing
+carriedBy (ResetQuery p) = Carried.Nothing
+carriedBy (CacheResponse p) = Carried.Nothing
+carriedBy (IPv4Prefix p) = Carried.Record (announces (p .flags)) (ipv4Record (p .«prefix_length») (p .«max_length») (p .prefix) (p .asn))
+carriedBy (IPv6Prefix p) =
+    Carried.Record (announces (p .flags)) (ipv6Record (p .«prefix_length») (p .«max_length») (p .prefix .w0) (p .prefix .w1) (p .prefix .w2) (p .prefix .w3) (p .asn))
+carriedBy (EndOfData p) = Carried.Nothing
+carriedBy (CacheReset p) = Carried.Nothing
+carriedBy (RouterKey p) = Carried.Nothing
+carriedBy (ErrorReport p) = Carried.Nothing
 
 -- the feed from here: what the piece from a place on makes of it
 abbrev pub feedHere : ℕ → Session → List ℕ → List ℕ → List ℕ → List ℕ → ℕ → ℕ → Feed

@@ -31,7 +31,7 @@ ghost use Rattle.rtr_room.specs.Table.{enter, leave};
 ghost use Rattle.rtr_room.specs.Room.{records};
 ghost use Rattle.rtr_receiver.specs.Receiver.{onCacheResponse, onChangeResponse, changedTo, onRecord, onRouterKey, onCacheReset, finish, onEndOfData, onKind, onPdu, compared};
 ghost use Rattle.rtr_receiver.specs.Promises.{NotifySays, stopSaid, changeUnderWay, stageOf, receiverOf, inOrder, isReceiver, feedSays, fedSaid, startSays, startSaid, fullAskSays, changeAskSays, askSaid, reconnectSays, reconnectSaid, notifySays, notifySaid};
-ghost use Rattle.rtr_receiver.specs.Private.{tabled, cleared, BothRooms, Stands, Did, stoppedSession, askedFor, afterPdu, feedHere, StepAsks, Stepped};
+ghost use Rattle.rtr_receiver.specs.Private.{tabled, cleared, BothRooms, Stands, Did, stoppedSession, askedFor, afterPdu, feedHere, StepAsks, Stepped, carriedBy};
 
 // How many records a room has at the most.
 pub const RECORD_LIMIT: usize = 1024;
@@ -706,17 +706,19 @@ fn is_version(a: RtrProtocolVersion, b: RtrProtocolVersion) -> bool
     a.to_u8() == b.to_u8()
 }
 
-// A PDU of the receiver's version that is no Error Report: by what it is.
-fn on_kind(s: Session, live: &mut [u32], working: &mut [u32], pdu: RtrPdu) -> DeedDone
-    requires { ⌜ BothRooms 1024 s (now live) (now working) ⌝ }
-    ensures { λ d. ⌜ Did 1024 d (now (live .exit)) (now (working .exit)) (onKind 1024 pdu (receiverOf s (now (live .entry)) (now (working .entry)) [])) ⌝ }
+// The record that a PDU carries, and whether it is announced.
+enum Carried {
+    Record(bool, Record),
+    Nothing,
+}
+
+fn carried_by(pdu: RtrPdu) -> Carried
+    ensures { λ r. ⌜ r ≡ carriedBy pdu ⌝ }
 {
     match pdu {
-        RtrPdu::SerialNotify(p) => no_update(on_serial_notify(s, p.session_id, p.serial_number)),
-        RtrPdu::CacheResponse(p) => no_update(on_cache_response(s, live, working, p.session_id)),
         RtrPdu::IPv4Prefix(p) => {
             let record = Record::ipv4(p.prefix_length, p.max_length, p.prefix, p.asn);
-            no_update(on_record(s, live, working, p.is_announcement(), record))
+            Carried::Record(p.is_announcement(), record)
         }
         RtrPdu::IPv6Prefix(p) => {
             let prefix = p.prefix;
@@ -729,12 +731,39 @@ fn on_kind(s: Session, live: &mut [u32], working: &mut [u32], pdu: RtrPdu) -> De
                 prefix.w3,
                 p.asn,
             );
-            no_update(on_record(s, live, working, p.is_announcement(), record))
+            Carried::Record(p.is_announcement(), record)
         }
+        _ => Carried::Nothing,
+    }
+}
+
+// A PDU that carries no record: by what it is.
+fn on_other_kind(s: Session, live: &mut [u32], working: &mut [u32], pdu: RtrPdu) -> DeedDone
+    requires { ⌜ BothRooms 1024 s (now live) (now working) × (carriedBy pdu ≡ Carried.Nothing) ⌝ }
+    ensures { λ d. ⌜ Did 1024 d (now (live .exit)) (now (working .exit)) (onKind 1024 pdu (receiverOf s (now (live .entry)) (now (working .entry)) [])) ⌝ }
+{
+    match pdu {
+        RtrPdu::SerialNotify(p) => no_update(on_serial_notify(s, p.session_id, p.serial_number)),
+        RtrPdu::CacheResponse(p) => no_update(on_cache_response(s, live, working, p.session_id)),
         RtrPdu::EndOfData(p) => on_end_of_data(s, live, working, p),
         RtrPdu::CacheReset(_) => no_update(on_cache_reset(s, live, working)),
         RtrPdu::RouterKey(_) => no_update(on_router_key(s, live, working)),
         _ => no_update(stop_with(s, working, Stop::OutOfTurn)),
+    }
+}
+
+// A PDU of the receiver's version that is no Error Report: a record of either family in one place, so that the compiler keeps the session
+// where it is; any other by what it is.
+fn on_kind(s: Session, live: &mut [u32], working: &mut [u32], pdu: RtrPdu) -> DeedDone
+    requires { ⌜ BothRooms 1024 s (now live) (now working) ⌝ }
+    ensures { λ d. ⌜ Did 1024 d (now (live .exit)) (now (working .exit)) (onKind 1024 pdu (receiverOf s (now (live .entry)) (now (working .entry)) [])) ⌝ }
+{
+    let carried = carried_by(pdu);
+    match carried {
+        Carried::Record(announced, record) => {
+            no_update(on_record(s, live, working, announced, record))
+        }
+        Carried::Nothing => on_other_kind(s, live, working, pdu),
     }
 }
 
