@@ -1,7 +1,8 @@
--- `Laws`, `Samples` and `Unique` are for readers and other crates, with `Numbers`' reading of digits; the others are the argument.
+-- `Laws`, `Printed`, `Samples` and `Unique` are for readers and other crates, with `Numbers`' reading of digits; the others are the argument.
 pub mod Laws
 pub mod Samples
 pub mod Unique
+pub mod Printed
 pub mod Numbers
 mod Puts
 mod Digits

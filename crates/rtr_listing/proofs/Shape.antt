@@ -5,7 +5,7 @@ use mathlib.Core.Bool.{Bool, true, false, _||_, true≢false}
 use mathlib.Core.List.{List}
 use mathlib.Core.Path.{_≡_, refl, sym, _∙_}
 use native.Mathlib.Omega.{arith}
-use borrow.Author.Tests.{leb-true, leb-false}
+use borrow.Author.Tests.{eqb-true, leb-true, leb-false}
 use lib.Dec.{eqb, leb}
 use Rattle.rtr_room.specs.Room.{isRoom}
 use Rattle.rtr_room.proofs.Laws.{rules-exactly}
@@ -37,6 +37,10 @@ module _ (limit : ℕ) (s : Session) (live working hold : List ℕ) (shape : isR
   tabled : (t : LiveTable) → s .table ≡ t → (hasTable t || eqb (s .live) 0) ≡ true
   tabled (Known t) e = refl
   tabled NoTable e = unless-false _ (λ q. no-reason (recordsWithoutTable e (above-zero (s .live) q)))
+
+  -- without a table there is no record
+  pub no-records : s .table ≡ NoTable → s .live ≡ 0
+  no-records e = eqb-true (s .live) 0 (tabled NoTable e)
 
   pub receiver-is-listed : isListed limit s live ≡ true
   receiver-is-listed =

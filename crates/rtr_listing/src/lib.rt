@@ -14,7 +14,7 @@ ghost use Prim.Native.Nat.{_+_, _*_, _≤_, _<_};
 ghost use lib.ListN.{length};
 ghost use Rattle.rtr_encode.specs.Answers.{numberOf};
 ghost use Rattle.rtr_room.specs.Room.{records};
-ghost use Rattle.rtr_listing.specs.Listing.{glyph, digits, places, decimal, lineOf, stoppedAs, tableLines, headLines, addressOf, recordLines, allLines, listing};
+ghost use Rattle.rtr_listing.specs.Listing.{glyph, digits, places, decimal, lineOf, stoppedAs, tableLines, headLines, addressOf, recordLines, allLines};
 ghost use Rattle.rtr_listing.specs.Promises.{listRefusal, leaves, puts, isListed, listingSays};
 ghost use Rattle.rtr_listing.specs.Private.{Fits, Put};
 
@@ -59,6 +59,7 @@ fn put_text(out: &mut [u8], at: usize, text: &[u8]) -> usize
     at + i
 }
 
+// The byte of a digit.
 fn glyph(digit: usize) -> u8
     requires { ⌜ digit < 16 ⌝ }
     ensures { λ r. ⌜ r ≡ glyph digit ⌝ }
@@ -84,6 +85,7 @@ fn put_digits(out: &mut [u8], at: usize, base: usize, k: usize, n: usize) -> usi
     at + k
 }
 
+// How many decimal digits a number of 32 bits has.
 fn places(n: usize) -> usize
     ensures { λ r. ⌜ r ≡ places n ⌝ }
 {
@@ -137,6 +139,7 @@ fn put_number(out: &mut [u8], at: usize, name: &[u8], n: usize) -> usize
     put_counted(out, at, name, places(n), n)
 }
 
+// The stop's number, 0 without a stop.
 fn stopped_as(phase: Phase) -> usize
     ensures { λ r. ⌜ r ≡ stoppedAs phase ⌝ }
 {
@@ -171,6 +174,7 @@ fn put_head(out: &mut [u8], at: usize, s: Session) -> usize
     }
 }
 
+// A quarter of an address, or all of an IPv4 one.
 fn put_word(out: &mut [u8], at: usize, word: u32) -> usize
     requires { ⌜ at + 8 ≤ length (now out) ⌝ }
     ensures { λ r. ⌜ Put (now (out .entry)) at (digits 16 8 word) r (now (out .exit)) ⌝ }
