@@ -1,0 +1,178 @@
+-- The numbers of a session and of a PDU, as a host without Rattle's types has them. A stop is told by document 01's number and values
+-- ("Refusal numbers").
+use Prim.Native.Nat.{ℕ}
+use mathlib.Core.List.{List, [], _∷_}
+use lib.ListN.{getD}
+use Rattle.rtr_models.specs.Codes.{versionNumber, codeNumber}
+use Rattle.rtr_models.specs.Values.{secondsOr}
+use Rattle.rtr_models.specs.declared.Interval.{Interval}
+use Rattle.rtr_models.specs.declared.RtrProtocolVersion.{RtrProtocolVersion}
+use Rattle.rtr_models.specs.declared.RtrProtocolVersion.the-variants.{V0, V1}
+use Rattle.rtr_models.specs.declared.RtrPdu.{RtrPdu}
+use Rattle.rtr_models.specs.declared.RtrPdu.the-variants.{SerialNotify, SerialQuery, ResetQuery, CacheResponse, IPv4Prefix, IPv6Prefix, EndOfData, CacheReset, RouterKey, ErrorReport}
+use Rattle.rtr_receiver.specs.Receiver.{Stage}
+use Rattle.rtr_receiver.specs.Receiver.Stage.{idle, mustReset, askedFull, askedChange, loading, stopped}
+use Rattle.rtr_receiver.specs.Promises.{Left, stageOf}
+use Rattle.rtr_receiver.specs.declared.LoadKind.{LoadKind}
+use Rattle.rtr_receiver.specs.declared.Table.{Table}
+use Rattle.rtr_receiver.specs.declared.LiveTable.{LiveTable}
+use Rattle.rtr_receiver.specs.declared.Note.{Note}
+use Rattle.rtr_receiver.specs.declared.Session.{Session}
+
+-- ---- A session
+
+-- number 1: the phase; a load by its kind
+abbrev pub stageNumber : Stage → ℕ
+stageNumber idle = 0
+stageNumber mustReset = 1
+stageNumber askedFull = 2
+stageNumber askedChange = 3
+stageNumber (loading LoadKind.Full id) = 4
+stageNumber (loading LoadKind.Change id) = 5
+stageNumber (stopped number values) = 6
+
+-- number 2: a load's session, or document 01's number of a stop
+abbrev pub stageDetail : Stage → ℕ
+stageDetail idle = 0
+stageDetail mustReset = 0
+stageDetail askedFull = 0
+stageDetail askedChange = 0
+stageDetail (loading kind id) = id
+stageDetail (stopped number values) = number
+
+-- numbers 3 to 5: a stop's values in document 01's order, zeros behind them
+abbrev pub stageValue : ℕ → Stage → ℕ
+stageValue i idle = 0
+stageValue i mustReset = 0
+stageValue i askedFull = 0
+stageValue i askedChange = 0
+stageValue i (loading kind id) = 0
+stageValue i (stopped number values) = getD values i 0
+
+-- number 6: whether there is a table; numbers 7 to 11 are what it says, zeros without one
+abbrev pub tableNumber : LiveTable → ℕ
+tableNumber LiveTable.NoTable = 0
+tableNumber (LiveTable.Known t) = 1
+
+abbrev pub tableOr : LiveTable → Table
+tableOr LiveTable.NoTable = record { session = 0; serial = 0; refresh = 0; retry = 0; expire = 0 }
+tableOr (LiveTable.Known t) = t
+
+-- number 12: whether a Serial Notify is noted; numbers 13 and 14 are its session and serial, zeros without one
+abbrev pub noteNumber : Note → ℕ
+noteNumber Note.NoNote = 0
+noteNumber (Note.Noted session serial) = 1
+
+abbrev pub noteSession : Note → ℕ
+noteSession Note.NoNote = 0
+noteSession (Note.Noted session serial) = session
+
+abbrev pub noteSerial : Note → ℕ
+noteSerial Note.NoNote = 0
+noteSerial (Note.Noted session serial) = serial
+
+-- the 18 numbers of what a call leaves of a session
+unfoldable pub numbersOf : RtrProtocolVersion → Stage → LiveTable → Note → ℕ → ℕ → ℕ → List ℕ
+numbersOf version stage table note live working held =
+    versionNumber version
+    ∷ stageNumber stage
+    ∷ stageDetail stage
+    ∷ stageValue 0 stage
+    ∷ stageValue 1 stage
+    ∷ stageValue 2 stage
+    ∷ tableNumber table
+    ∷ tableOr table .session
+    ∷ tableOr table .serial
+    ∷ tableOr table .refresh
+    ∷ tableOr table .retry
+    ∷ tableOr table .expire
+    ∷ noteNumber note
+    ∷ noteSession note
+    ∷ noteSerial note
+    ∷ live
+    ∷ working
+    ∷ held
+    ∷ []
+
+-- the numbers of a session record
+abbrev pub sessionNumbers : Session → List ℕ
+sessionNumbers s = numbersOf (s .version) (stageOf (s .phase)) (s .table) (s .note) (s .live) (s .working) (s .held)
+
+-- the same of what a receiver's call leaves: `sessionNumbers s` is `leftNumbers` of what s leaves
+abbrev pub leftNumbers : Left → List ℕ
+leftNumbers l = numbersOf (l .version) (l .stage) (l .table) (l .note) (l .liveCount) (l .workingCount) (l .heldCount)
+
+-- ---- A PDU
+
+-- an interval of an End of Data, as it is encoded: none in version 0, in version 1 the default where it is absent
+abbrev pub endSeconds : RtrProtocolVersion → ℕ → Interval → ℕ
+endSeconds V0 default interval = 0
+endSeconds V1 default interval = secondsOr default interval
+
+-- the 12 numbers of a PDU and the bytes that it took: type, version, bytes taken, then its fields in their order, zeros behind them
+unfoldable pub pduNumbers : RtrPdu → ℕ → List ℕ
+pduNumbers (SerialNotify p) n =
+    0 ∷ versionNumber (p .version) ∷ n ∷ p .«session_id» ∷ p .«serial_number» ∷ 0 ∷ 0 ∷ 0 ∷ 0 ∷ 0 ∷ 0 ∷ 0 ∷ []
+pduNumbers (SerialQuery p) n =
+    1 ∷ versionNumber (p .version) ∷ n ∷ p .«session_id» ∷ p .«serial_number» ∷ 0 ∷ 0 ∷ 0 ∷ 0 ∷ 0 ∷ 0 ∷ 0 ∷ []
+pduNumbers (ResetQuery p) n = 2 ∷ versionNumber (p .version) ∷ n ∷ 0 ∷ 0 ∷ 0 ∷ 0 ∷ 0 ∷ 0 ∷ 0 ∷ 0 ∷ 0 ∷ []
+pduNumbers (CacheResponse p) n = 3 ∷ versionNumber (p .version) ∷ n ∷ p .«session_id» ∷ 0 ∷ 0 ∷ 0 ∷ 0 ∷ 0 ∷ 0 ∷ 0 ∷ 0 ∷ []
+pduNumbers (IPv4Prefix p) n =
+    4 ∷ versionNumber (p .version) ∷ n ∷ p .flags ∷ p .«prefix_length» ∷ p .«max_length» ∷ p .prefix ∷ p .asn ∷ 0 ∷ 0 ∷ 0 ∷ 0 ∷ []
+pduNumbers (IPv6Prefix p) n =
+    6
+    ∷ versionNumber (p .version)
+    ∷ n
+    ∷ p .flags
+    ∷ p .«prefix_length»
+    ∷ p .«max_length»
+    ∷ p .prefix .w0
+    ∷ p .prefix .w1
+    ∷ p .prefix .w2
+    ∷ p .prefix .w3
+    ∷ p .asn
+    ∷ 0
+    ∷ []
+pduNumbers (EndOfData p) n =
+    7
+    ∷ versionNumber (p .version)
+    ∷ n
+    ∷ p .«session_id»
+    ∷ p .«serial_number»
+    ∷ endSeconds (p .version) 3600 (p .«refresh_interval»)
+    ∷ endSeconds (p .version) 600 (p .«retry_interval»)
+    ∷ endSeconds (p .version) 7200 (p .«expire_interval»)
+    ∷ 0
+    ∷ 0
+    ∷ 0
+    ∷ 0
+    ∷ []
+pduNumbers (CacheReset p) n = 8 ∷ versionNumber (p .version) ∷ n ∷ 0 ∷ 0 ∷ 0 ∷ 0 ∷ 0 ∷ 0 ∷ 0 ∷ 0 ∷ 0 ∷ []
+pduNumbers (RouterKey p) n =
+    9
+    ∷ versionNumber (p .version)
+    ∷ n
+    ∷ p .flags
+    ∷ p .«subject_key_identifier» .start
+    ∷ p .«subject_key_identifier» .len
+    ∷ p .asn
+    ∷ p .«subject_public_key_info» .start
+    ∷ p .«subject_public_key_info» .len
+    ∷ 0
+    ∷ 0
+    ∷ 0
+    ∷ []
+pduNumbers (ErrorReport p) n =
+    10
+    ∷ versionNumber (p .version)
+    ∷ n
+    ∷ codeNumber (p .«error_code»)
+    ∷ p .«erroneous_pdu» .start
+    ∷ p .«erroneous_pdu» .len
+    ∷ p .«error_text» .start
+    ∷ p .«error_text» .len
+    ∷ 0
+    ∷ 0
+    ∷ 0
+    ∷ 0
+    ∷ []

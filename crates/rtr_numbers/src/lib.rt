@@ -1,0 +1,833 @@
+// Session records and PDUs as plain numbers, both ways, for a host that has no Rattle types: 18 numbers are a session, 12 are a PDU. What
+// is read back is written again and compared, so numbers that are nobody's are told from every other.
+use rtr_codec::RtrError;
+use rtr_models::*;
+use rtr_receiver::LiveTable;
+use rtr_receiver::LoadKind;
+use rtr_receiver::Note;
+use rtr_receiver::Phase;
+use rtr_receiver::Session;
+use rtr_receiver::Stop;
+use rtr_receiver::Table;
+use rtr_stream::StreamError;
+ghost use mathlib.Core.Bool.{cond};
+ghost use mathlib.Core.Path.{_≡_};
+ghost use Prim.Native.Nat.{_%_};
+ghost use lib.Dec.{eqb};
+ghost use lib.ListN.{length, getD};
+ghost use Rattle.rtr_codec.specs.Answers.{refusal};
+ghost use Rattle.rtr_stream.specs.Search.{streamRefusal};
+ghost use Rattle.rtr_receiver.specs.Promises.{stopSaid, stoppedBy, stageOf};
+ghost use Rattle.rtr_numbers.specs.Numbers.{tableOr, tableNumber, noteNumber, noteSession, noteSerial, sessionNumbers, pduNumbers, endSeconds};
+ghost use Rattle.rtr_numbers.specs.Back.{alike, looseVersion, looseCode, looseError, looseStop, loosePhase, looseTable, looseNote, looseSession, looseInterval, loosePlace, looseIPv4, looseIPv6, looseEnd, looseKey, looseReport, loosePdu, sessionOf, pduOf};
+ghost use Rattle.rtr_numbers.specs.Private.{phaseNumbers};
+
+// How many numbers a session and a PDU are.
+pub const SESSION_NUMBERS: usize = 18;
+
+pub const PDU_NUMBERS: usize = 12;
+
+// The session that has these numbers, if one has.
+pub enum SessionFound {
+    Known(Session),
+    Unknown,
+}
+
+// The PDU that has these numbers, with the bytes that it took, if one has.
+pub enum PduFound {
+    Known(RtrPdu, usize),
+    Unknown,
+}
+
+// ---- Numbers, narrow and wide
+
+fn wide8(n: u8) -> u64
+    ensures { λ r. ⌜ r ≡ n ⌝ }
+{
+    n as u64
+}
+
+fn wide16(n: u16) -> u64
+    ensures { λ r. ⌜ r ≡ n ⌝ }
+{
+    n as u64
+}
+
+fn wide32(n: u32) -> u64
+    ensures { λ r. ⌜ r ≡ n ⌝ }
+{
+    n as u64
+}
+
+fn wide(n: usize) -> u64
+    ensures { λ r. ⌜ r ≡ n ⌝ }
+{
+    n as u64
+}
+
+fn low8(n: u64) -> u8
+    ensures { λ r. ⌜ r ≡ n % 256 ⌝ }
+{
+    (n % 256) as u8
+}
+
+fn low16(n: u64) -> u16
+    ensures { λ r. ⌜ r ≡ n % 65536 ⌝ }
+{
+    (n % 65536) as u16
+}
+
+fn low32(n: u64) -> u32
+    ensures { λ r. ⌜ r ≡ n % 4294967296 ⌝ }
+{
+    (n % 4294967296) as u32
+}
+
+fn size(n: u64) -> usize
+    ensures { λ r. ⌜ r ≡ n ⌝ }
+{
+    n as usize
+}
+
+// The number at a place, 0 where there is none.
+fn at(numbers: &[u64], i: usize) -> u64
+    ensures { λ r. ⌜ r ≡ getD (now (numbers .entry)) i 0 ⌝ }
+{
+    if i < numbers.len() {
+        return numbers[i];
+    }
+    0
+}
+
+// ---- Lists of numbers
+
+fn put_all(numbers: &mut [u64], said: &[u64])
+    requires { ⌜ length (now said) ≡ length (now numbers) ⌝ }
+    ensures { λ _. ⌜ now (numbers .exit) ≡ now (said .entry) ⌝ }
+{
+    let mut i = 0;
+    while i < said.len() {
+        numbers[i] = said[i];
+        i += 1;
+    }
+}
+
+fn is_alike(a: &[u64], b: &[u64]) -> bool
+    ensures { λ r. ⌜ r ≡ alike (now (a .entry)) (now (b .entry)) ⌝ }
+{
+    if a.len() != b.len() {
+        return false;
+    }
+    let mut i = 0;
+    while i < a.len() {
+        if a[i] != b[i] {
+            return false;
+        }
+        i += 1;
+    }
+    true
+}
+
+// ---- A session's numbers
+
+// A phase: its number, its load's session or its stop's number, and its stop's values.
+pub struct PhaseNumbers {
+    pub phase: u64,
+    pub detail: u64,
+    pub first: u64,
+    pub second: u64,
+    pub third: u64,
+}
+
+fn stopped(number: u64, first: u64, second: u64, third: u64) -> PhaseNumbers
+    ensures { λ r. ⌜ r ≡ record { phase = 6; detail = number; first = first; second = second; third = third } ⌝ }
+{
+    PhaseNumbers {
+        phase: 6,
+        detail: number,
+        first,
+        second,
+        third,
+    }
+}
+
+fn error_numbers(error: RtrError) -> PhaseNumbers
+    ensures { λ r. ⌜ r ≡ phaseNumbers (stoppedBy (refusal error)) ⌝ }
+{
+    match error {
+        RtrError::IncompletePdu { available, needed } => stopped(1, wide(available), wide(needed), 0),
+        RtrError::InvalidPduType(kind) => stopped(3, wide8(kind), 0, 0),
+        RtrError::InvalidProtocolVersion(version) => stopped(2, wide8(version), 0, 0),
+        RtrError::InvalidErrorCode(code) => stopped(7, wide16(code), 0, 0),
+        RtrError::InvalidLength {
+            expected,
+            actual,
+            pdu_type,
+        } => stopped(4, wide32(expected), wide32(actual), wide8(pdu_type)),
+        RtrError::InvalidPrefixLength {
+            prefix_len,
+            max_len,
+            max_allowed,
+        } => stopped(6, wide8(prefix_len), wide8(max_len), wide8(max_allowed)),
+        RtrError::InvalidUtf8 => stopped(8, 0, 0, 0),
+        RtrError::RouterKeyInV0 => stopped(5, 0, 0, 0),
+    }
+}
+
+fn stream_numbers(error: StreamError) -> PhaseNumbers
+    ensures { λ r. ⌜ r ≡ phaseNumbers (stoppedBy (streamRefusal error)) ⌝ }
+{
+    match error {
+        StreamError::Read(read) => error_numbers(read),
+        StreamError::OverHold { length } => stopped(12, wide32(length), 0, 0),
+    }
+}
+
+fn stop_numbers(stop: Stop) -> PhaseNumbers
+    ensures { λ r. ⌜ r ≡ phaseNumbers (stoppedBy (stopSaid stop)) ⌝ }
+{
+    match stop {
+        Stop::Stream(error) => stream_numbers(error),
+        Stop::OutOfTurn => stopped(13, 0, 0, 0),
+        Stop::OtherVersion => stopped(14, 0, 0, 0),
+        Stop::OtherSession => stopped(15, 0, 0, 0),
+        Stop::NotIn => stopped(16, 0, 0, 0),
+        Stop::AlreadyIn => stopped(17, 0, 0, 0),
+        Stop::RoomFull => stopped(18, 0, 0, 0),
+        Stop::ErrorReport(code) => stopped(19, wide16(code.to_u16()), 0, 0),
+    }
+}
+
+// A phase that is no stop.
+fn going(phase: u64, detail: u64) -> PhaseNumbers
+    ensures { λ r. ⌜ r ≡ record { phase = phase; detail = detail; first = 0; second = 0; third = 0 } ⌝ }
+{
+    PhaseNumbers {
+        phase,
+        detail,
+        first: 0,
+        second: 0,
+        third: 0,
+    }
+}
+
+fn phase_numbers(phase: Phase) -> PhaseNumbers
+    ensures { λ r. ⌜ r ≡ phaseNumbers (stageOf phase) ⌝ }
+{
+    match phase {
+        Phase::Idle => going(0, 0),
+        Phase::MustReset => going(1, 0),
+        Phase::AskedFull => going(2, 0),
+        Phase::AskedChange => going(3, 0),
+        Phase::Loading(kind, session) => match kind {
+            LoadKind::Full => going(4, wide16(session)),
+            LoadKind::Change => going(5, wide16(session)),
+        },
+        Phase::Stopped(stop) => stop_numbers(stop),
+    }
+}
+
+fn table_number(table: LiveTable) -> u64
+    ensures { λ r. ⌜ r ≡ tableNumber table ⌝ }
+{
+    match table {
+        LiveTable::NoTable => 0,
+        LiveTable::Known(_) => 1,
+    }
+}
+
+fn table_or(table: LiveTable) -> Table
+    ensures { λ r. ⌜ r ≡ tableOr table ⌝ }
+{
+    match table {
+        LiveTable::NoTable => Table {
+            session: 0,
+            serial: 0,
+            refresh: 0,
+            retry: 0,
+            expire: 0,
+        },
+        LiveTable::Known(t) => t,
+    }
+}
+
+fn note_number(note: Note) -> u64
+    ensures { λ r. ⌜ r ≡ noteNumber note ⌝ }
+{
+    match note {
+        Note::NoNote => 0,
+        Note::Noted(_, _) => 1,
+    }
+}
+
+fn note_session(note: Note) -> u64
+    ensures { λ r. ⌜ r ≡ noteSession note ⌝ }
+{
+    match note {
+        Note::NoNote => 0,
+        Note::Noted(session, _) => wide16(session),
+    }
+}
+
+fn note_serial(note: Note) -> u64
+    ensures { λ r. ⌜ r ≡ noteSerial note ⌝ }
+{
+    match note {
+        Note::NoNote => 0,
+        Note::Noted(_, serial) => wide32(serial),
+    }
+}
+
+fn session_numbers(s: Session) -> [u64; 18]
+    ensures { λ r. ⌜ r ≡ sessionNumbers s ⌝ }
+{
+    let version = s.version;
+    let phase = s.phase;
+    let table = s.table;
+    let note = s.note;
+    let p = phase_numbers(phase);
+    let t = table_or(table);
+    [
+        wide8(version.to_u8()),
+        p.phase,
+        p.detail,
+        p.first,
+        p.second,
+        p.third,
+        table_number(table),
+        wide16(t.session),
+        wide32(t.serial),
+        wide32(t.refresh),
+        wide32(t.retry),
+        wide32(t.expire),
+        note_number(note),
+        note_session(note),
+        note_serial(note),
+        wide(s.live),
+        wide(s.working),
+        wide(s.held),
+    ]
+}
+
+// Sets the 18 numbers to the session's; where not 18 are lent, nothing is set.
+pub fn put_session(s: Session, numbers: &mut [u64]) -> bool
+    ensures { λ r. ⌜ (r ≡ eqb (length (now (numbers .entry))) 18) × (now (numbers .exit) ≡ cond (eqb (length (now (numbers .entry))) 18) (sessionNumbers s) (now (numbers .entry))) ⌝ }
+{
+    if numbers.len() != SESSION_NUMBERS {
+        return false;
+    }
+    let said = session_numbers(s);
+    put_all(numbers, &said);
+    true
+}
+
+// ---- A session from numbers: a guess, then the comparison
+
+fn loose_version(n: u64) -> RtrProtocolVersion
+    ensures { λ r. ⌜ r ≡ looseVersion n ⌝ }
+{
+    if n == 0 {
+        return RtrProtocolVersion::V0;
+    }
+    RtrProtocolVersion::V1
+}
+
+fn loose_code(n: u64) -> RtrErrorCode
+    ensures { λ r. ⌜ r ≡ looseCode n ⌝ }
+{
+    let found = RtrErrorCode::from_u16(low16(n));
+    match found {
+        CodeFound::Known(code) => code,
+        CodeFound::Unknown => RtrErrorCode::CorruptData,
+    }
+}
+
+fn loose_error(number: u64, first: u64, second: u64, third: u64) -> RtrError
+    ensures { λ r. ⌜ r ≡ looseError number first second third ⌝ }
+{
+    match number {
+        1 => RtrError::IncompletePdu {
+            available: size(first),
+            needed: size(second),
+        },
+        2 => RtrError::InvalidProtocolVersion(low8(first)),
+        3 => RtrError::InvalidPduType(low8(first)),
+        4 => RtrError::InvalidLength {
+            expected: low32(first),
+            actual: low32(second),
+            pdu_type: low8(third),
+        },
+        5 => RtrError::RouterKeyInV0,
+        6 => RtrError::InvalidPrefixLength {
+            prefix_len: low8(first),
+            max_len: low8(second),
+            max_allowed: low8(third),
+        },
+        7 => RtrError::InvalidErrorCode(low16(first)),
+        _ => RtrError::InvalidUtf8,
+    }
+}
+
+fn loose_stop(number: u64, first: u64, second: u64, third: u64) -> Stop
+    ensures { λ r. ⌜ r ≡ looseStop number first second third ⌝ }
+{
+    match number {
+        12 => Stop::Stream(StreamError::OverHold {
+            length: low32(first),
+        }),
+        13 => Stop::OutOfTurn,
+        14 => Stop::OtherVersion,
+        15 => Stop::OtherSession,
+        16 => Stop::NotIn,
+        17 => Stop::AlreadyIn,
+        18 => Stop::RoomFull,
+        19 => Stop::ErrorReport(loose_code(first)),
+        _ => Stop::Stream(StreamError::Read(loose_error(number, first, second, third))),
+    }
+}
+
+fn loose_phase(n: &[u64]) -> Phase
+    ensures { λ r. ⌜ r ≡ loosePhase (now (n .entry)) ⌝ }
+{
+    let phase = at(n, 1);
+    let detail = at(n, 2);
+    match phase {
+        0 => Phase::Idle,
+        1 => Phase::MustReset,
+        2 => Phase::AskedFull,
+        3 => Phase::AskedChange,
+        4 => Phase::Loading(LoadKind::Full, low16(detail)),
+        5 => Phase::Loading(LoadKind::Change, low16(detail)),
+        _ => Phase::Stopped(loose_stop(detail, at(n, 3), at(n, 4), at(n, 5))),
+    }
+}
+
+fn loose_table(n: &[u64]) -> LiveTable
+    ensures { λ r. ⌜ r ≡ looseTable (now (n .entry)) ⌝ }
+{
+    if at(n, 6) == 0 {
+        return LiveTable::NoTable;
+    }
+    LiveTable::Known(Table {
+        session: low16(at(n, 7)),
+        serial: low32(at(n, 8)),
+        refresh: low32(at(n, 9)),
+        retry: low32(at(n, 10)),
+        expire: low32(at(n, 11)),
+    })
+}
+
+fn loose_note(n: &[u64]) -> Note
+    ensures { λ r. ⌜ r ≡ looseNote (now (n .entry)) ⌝ }
+{
+    if at(n, 12) == 0 {
+        return Note::NoNote;
+    }
+    Note::Noted(low16(at(n, 13)), low32(at(n, 14)))
+}
+
+fn loose_session(n: &[u64]) -> Session
+    ensures { λ r. ⌜ r ≡ looseSession (now (n .entry)) ⌝ }
+{
+    Session {
+        version: loose_version(at(n, 0)),
+        phase: loose_phase(n),
+        table: loose_table(n),
+        note: loose_note(n),
+        live: size(at(n, 15)),
+        working: size(at(n, 16)),
+        held: size(at(n, 17)),
+    }
+}
+
+// The session that has these numbers; Unknown where none has them.
+pub fn session_of(numbers: &[u64]) -> SessionFound
+    ensures { λ r. ⌜ r ≡ sessionOf (now (numbers .entry)) ⌝ }
+{
+    let s = loose_session(numbers);
+    let said = session_numbers(s);
+    if is_alike(&said, numbers) {
+        return SessionFound::Known(s);
+    }
+    SessionFound::Unknown
+}
+
+// ---- A PDU's numbers, one function for each kind
+
+fn serial_notify_numbers(p: RtrSerialNotify, consumed: usize) -> [u64; 12]
+    ensures { λ r. ⌜ r ≡ pduNumbers (RtrPdu.SerialNotify p) consumed ⌝ }
+{
+    let version = p.version;
+    [
+        0,
+        wide8(version.to_u8()),
+        wide(consumed),
+        wide16(p.session_id),
+        wide32(p.serial_number),
+        0,
+        0,
+        0,
+        0,
+        0,
+        0,
+        0,
+    ]
+}
+
+fn serial_query_numbers(p: RtrSerialQuery, consumed: usize) -> [u64; 12]
+    ensures { λ r. ⌜ r ≡ pduNumbers (RtrPdu.SerialQuery p) consumed ⌝ }
+{
+    let version = p.version;
+    [
+        1,
+        wide8(version.to_u8()),
+        wide(consumed),
+        wide16(p.session_id),
+        wide32(p.serial_number),
+        0,
+        0,
+        0,
+        0,
+        0,
+        0,
+        0,
+    ]
+}
+
+fn reset_query_numbers(p: RtrResetQuery, consumed: usize) -> [u64; 12]
+    ensures { λ r. ⌜ r ≡ pduNumbers (RtrPdu.ResetQuery p) consumed ⌝ }
+{
+    let version = p.version;
+    [
+        2,
+        wide8(version.to_u8()),
+        wide(consumed),
+        0,
+        0,
+        0,
+        0,
+        0,
+        0,
+        0,
+        0,
+        0,
+    ]
+}
+
+fn cache_response_numbers(p: RtrCacheResponse, consumed: usize) -> [u64; 12]
+    ensures { λ r. ⌜ r ≡ pduNumbers (RtrPdu.CacheResponse p) consumed ⌝ }
+{
+    let version = p.version;
+    [
+        3,
+        wide8(version.to_u8()),
+        wide(consumed),
+        wide16(p.session_id),
+        0,
+        0,
+        0,
+        0,
+        0,
+        0,
+        0,
+        0,
+    ]
+}
+
+fn ipv4_prefix_numbers(p: RtrIPv4Prefix, consumed: usize) -> [u64; 12]
+    ensures { λ r. ⌜ r ≡ pduNumbers (RtrPdu.IPv4Prefix p) consumed ⌝ }
+{
+    let version = p.version;
+    [
+        4,
+        wide8(version.to_u8()),
+        wide(consumed),
+        wide8(p.flags),
+        wide8(p.prefix_length),
+        wide8(p.max_length),
+        wide32(p.prefix),
+        wide32(p.asn),
+        0,
+        0,
+        0,
+        0,
+    ]
+}
+
+fn ipv6_prefix_numbers(p: RtrIPv6Prefix, consumed: usize) -> [u64; 12]
+    ensures { λ r. ⌜ r ≡ pduNumbers (RtrPdu.IPv6Prefix p) consumed ⌝ }
+{
+    let version = p.version;
+    let prefix = p.prefix;
+    [
+        6,
+        wide8(version.to_u8()),
+        wide(consumed),
+        wide8(p.flags),
+        wide8(p.prefix_length),
+        wide8(p.max_length),
+        wide32(prefix.w0),
+        wide32(prefix.w1),
+        wide32(prefix.w2),
+        wide32(prefix.w3),
+        wide32(p.asn),
+        0,
+    ]
+}
+
+// An interval as it is encoded.
+fn seconds(version: RtrProtocolVersion, default: u32, interval: Interval) -> u64
+    ensures { λ r. ⌜ r ≡ endSeconds version default interval ⌝ }
+{
+    match version {
+        RtrProtocolVersion::V0 => 0,
+        RtrProtocolVersion::V1 => wide32(interval.or(default)),
+    }
+}
+
+fn end_of_data_numbers(p: RtrEndOfData, consumed: usize) -> [u64; 12]
+    ensures { λ r. ⌜ r ≡ pduNumbers (RtrPdu.EndOfData p) consumed ⌝ }
+{
+    let version = p.version;
+    let refresh = p.refresh_interval;
+    let retry = p.retry_interval;
+    let expire = p.expire_interval;
+    [
+        7,
+        wide8(version.to_u8()),
+        wide(consumed),
+        wide16(p.session_id),
+        wide32(p.serial_number),
+        seconds(version, RtrEndOfData::DEFAULT_REFRESH, refresh),
+        seconds(version, RtrEndOfData::DEFAULT_RETRY, retry),
+        seconds(version, RtrEndOfData::DEFAULT_EXPIRE, expire),
+        0,
+        0,
+        0,
+        0,
+    ]
+}
+
+fn cache_reset_numbers(p: RtrCacheReset, consumed: usize) -> [u64; 12]
+    ensures { λ r. ⌜ r ≡ pduNumbers (RtrPdu.CacheReset p) consumed ⌝ }
+{
+    let version = p.version;
+    [
+        8,
+        wide8(version.to_u8()),
+        wide(consumed),
+        0,
+        0,
+        0,
+        0,
+        0,
+        0,
+        0,
+        0,
+        0,
+    ]
+}
+
+fn router_key_numbers(p: RtrRouterKey, consumed: usize) -> [u64; 12]
+    ensures { λ r. ⌜ r ≡ pduNumbers (RtrPdu.RouterKey p) consumed ⌝ }
+{
+    let version = p.version;
+    let key = p.subject_key_identifier;
+    let info = p.subject_public_key_info;
+    [
+        9,
+        wide8(version.to_u8()),
+        wide(consumed),
+        wide8(p.flags),
+        wide(key.start),
+        wide(key.len),
+        wide32(p.asn),
+        wide(info.start),
+        wide(info.len),
+        0,
+        0,
+        0,
+    ]
+}
+
+fn error_report_numbers(p: RtrErrorReport, consumed: usize) -> [u64; 12]
+    ensures { λ r. ⌜ r ≡ pduNumbers (RtrPdu.ErrorReport p) consumed ⌝ }
+{
+    let version = p.version;
+    let code = p.error_code;
+    let copy = p.erroneous_pdu;
+    let text = p.error_text;
+    [
+        10,
+        wide8(version.to_u8()),
+        wide(consumed),
+        wide16(code.to_u16()),
+        wide(copy.start),
+        wide(copy.len),
+        wide(text.start),
+        wide(text.len),
+        0,
+        0,
+        0,
+        0,
+    ]
+}
+
+fn pdu_numbers(pdu: RtrPdu, consumed: usize) -> [u64; 12]
+    ensures { λ r. ⌜ r ≡ pduNumbers pdu consumed ⌝ }
+{
+    match pdu {
+        RtrPdu::SerialNotify(p) => serial_notify_numbers(p, consumed),
+        RtrPdu::SerialQuery(p) => serial_query_numbers(p, consumed),
+        RtrPdu::ResetQuery(p) => reset_query_numbers(p, consumed),
+        RtrPdu::CacheResponse(p) => cache_response_numbers(p, consumed),
+        RtrPdu::IPv4Prefix(p) => ipv4_prefix_numbers(p, consumed),
+        RtrPdu::IPv6Prefix(p) => ipv6_prefix_numbers(p, consumed),
+        RtrPdu::EndOfData(p) => end_of_data_numbers(p, consumed),
+        RtrPdu::CacheReset(p) => cache_reset_numbers(p, consumed),
+        RtrPdu::RouterKey(p) => router_key_numbers(p, consumed),
+        RtrPdu::ErrorReport(p) => error_report_numbers(p, consumed),
+    }
+}
+
+// Sets the 12 numbers to the PDU's; where not 12 are lent, nothing is set.
+pub fn put_pdu(pdu: RtrPdu, consumed: usize, numbers: &mut [u64]) -> bool
+    ensures { λ r. ⌜ (r ≡ eqb (length (now (numbers .entry))) 12) × (now (numbers .exit) ≡ cond (eqb (length (now (numbers .entry))) 12) (pduNumbers pdu consumed) (now (numbers .entry))) ⌝ }
+{
+    if numbers.len() != PDU_NUMBERS {
+        return false;
+    }
+    let said = pdu_numbers(pdu, consumed);
+    put_all(numbers, &said);
+    true
+}
+
+// ---- A PDU from numbers: a guess, then the comparison
+
+fn loose_interval(version: RtrProtocolVersion, n: u64) -> Interval
+    ensures { λ r. ⌜ r ≡ looseInterval version n ⌝ }
+{
+    match version {
+        RtrProtocolVersion::V0 => Interval::Absent,
+        RtrProtocolVersion::V1 => Interval::Seconds(low32(n)),
+    }
+}
+
+fn loose_place(n: &[u64], start: usize, len: usize) -> Place
+    ensures { λ r. ⌜ r ≡ loosePlace (now (n .entry)) start len ⌝ }
+{
+    Place {
+        start: size(at(n, start)),
+        len: size(at(n, len)),
+    }
+}
+
+fn loose_ipv4(version: RtrProtocolVersion, n: &[u64]) -> RtrIPv4Prefix
+    ensures { λ r. ⌜ r ≡ looseIPv4 version (now (n .entry)) ⌝ }
+{
+    RtrIPv4Prefix {
+        version,
+        flags: low8(at(n, 3)),
+        prefix_length: low8(at(n, 4)),
+        max_length: low8(at(n, 5)),
+        prefix: low32(at(n, 6)),
+        asn: low32(at(n, 7)),
+    }
+}
+
+fn loose_ipv6(version: RtrProtocolVersion, n: &[u64]) -> RtrIPv6Prefix
+    ensures { λ r. ⌜ r ≡ looseIPv6 version (now (n .entry)) ⌝ }
+{
+    RtrIPv6Prefix {
+        version,
+        flags: low8(at(n, 3)),
+        prefix_length: low8(at(n, 4)),
+        max_length: low8(at(n, 5)),
+        prefix: Ipv6Addr {
+            w0: low32(at(n, 6)),
+            w1: low32(at(n, 7)),
+            w2: low32(at(n, 8)),
+            w3: low32(at(n, 9)),
+        },
+        asn: low32(at(n, 10)),
+    }
+}
+
+fn loose_end(version: RtrProtocolVersion, n: &[u64]) -> RtrEndOfData
+    ensures { λ r. ⌜ r ≡ looseEnd version (now (n .entry)) ⌝ }
+{
+    RtrEndOfData {
+        version,
+        session_id: low16(at(n, 3)),
+        serial_number: low32(at(n, 4)),
+        refresh_interval: loose_interval(version, at(n, 5)),
+        retry_interval: loose_interval(version, at(n, 6)),
+        expire_interval: loose_interval(version, at(n, 7)),
+    }
+}
+
+fn loose_key(version: RtrProtocolVersion, n: &[u64]) -> RtrRouterKey
+    ensures { λ r. ⌜ r ≡ looseKey version (now (n .entry)) ⌝ }
+{
+    RtrRouterKey {
+        version,
+        flags: low8(at(n, 3)),
+        subject_key_identifier: loose_place(n, 4, 5),
+        asn: low32(at(n, 6)),
+        subject_public_key_info: loose_place(n, 7, 8),
+    }
+}
+
+fn loose_report(version: RtrProtocolVersion, n: &[u64]) -> RtrErrorReport
+    ensures { λ r. ⌜ r ≡ looseReport version (now (n .entry)) ⌝ }
+{
+    RtrErrorReport {
+        version,
+        error_code: loose_code(at(n, 3)),
+        erroneous_pdu: loose_place(n, 4, 5),
+        error_text: loose_place(n, 6, 7),
+    }
+}
+
+fn loose_pdu(n: &[u64]) -> RtrPdu
+    ensures { λ r. ⌜ r ≡ loosePdu (looseVersion (getD (now (n .entry)) 1 0)) (now (n .entry)) ⌝ }
+{
+    let version = loose_version(at(n, 1));
+    let kind = at(n, 0);
+    match kind {
+        0 => RtrPdu::SerialNotify(RtrSerialNotify {
+            version,
+            session_id: low16(at(n, 3)),
+            serial_number: low32(at(n, 4)),
+        }),
+        1 => RtrPdu::SerialQuery(RtrSerialQuery {
+            version,
+            session_id: low16(at(n, 3)),
+            serial_number: low32(at(n, 4)),
+        }),
+        2 => RtrPdu::ResetQuery(RtrResetQuery { version }),
+        3 => RtrPdu::CacheResponse(RtrCacheResponse {
+            version,
+            session_id: low16(at(n, 3)),
+        }),
+        4 => RtrPdu::IPv4Prefix(loose_ipv4(version, n)),
+        6 => RtrPdu::IPv6Prefix(loose_ipv6(version, n)),
+        7 => RtrPdu::EndOfData(loose_end(version, n)),
+        8 => RtrPdu::CacheReset(RtrCacheReset { version }),
+        9 => RtrPdu::RouterKey(loose_key(version, n)),
+        _ => RtrPdu::ErrorReport(loose_report(version, n)),
+    }
+}
+
+// The PDU that has these numbers; Unknown where none has them.
+pub fn pdu_of(numbers: &[u64]) -> PduFound
+    ensures { λ r. ⌜ r ≡ pduOf (now (numbers .entry)) ⌝ }
+{
+    let pdu = loose_pdu(numbers);
+    let consumed = size(at(numbers, 2));
+    let said = pdu_numbers(pdu, consumed);
+    if is_alike(&said, numbers) {
+        return PduFound::Known(pdu, consumed);
+    }
+    PduFound::Unknown
+}
