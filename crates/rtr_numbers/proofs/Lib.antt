@@ -1,3 +1,7 @@
--- `Laws` and `Unique` are for readers and other crates; `Lists` is what the proofs of several functions use.
-pub mod Lists
-pub mod Founds
+-- `Laws` and `Unique` are for readers and other crates; the others are the argument.
+mod Lists
+mod Founds
+mod Sessions
+mod Pdus
+pub mod Laws
+pub mod Unique

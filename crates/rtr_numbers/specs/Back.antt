@@ -93,7 +93,7 @@ looseStop number a b c =
     (cond (eqb number 16) Stop.NotIn
     (cond (eqb number 17) Stop.AlreadyIn
     (cond (eqb number 18) Stop.RoomFull
-    (cond (eqb number 19) (Stop.ErrorReport (looseCode a)) (Stop.Stream (StreamError.Read (looseError number a b c)))))))))) 
+    (cond (eqb number 19) (Stop.ErrorReport (looseCode a)) (Stop.Stream (StreamError.Read (looseError number a b c))))))))))
 
 -- the phase of a number from 0 to 5, or else a stop
 unfoldable pub loosePhase : List ℕ → Phase

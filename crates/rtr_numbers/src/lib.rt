@@ -155,7 +155,12 @@ fn error_numbers(error: RtrError) -> PhaseNumbers
     ensures { λ r. ⌜ r ≡ phaseNumbers (stoppedBy (refusal error)) ⌝ }
 {
     match error {
-        RtrError::IncompletePdu { available, needed } => stopped(1, wide(available), wide(needed), 0),
+        RtrError::IncompletePdu { available, needed } => stopped(
+            1,
+            wide(available),
+            wide(needed),
+            0,
+        ),
         RtrError::InvalidPduType(kind) => stopped(3, wide8(kind), 0, 0),
         RtrError::InvalidProtocolVersion(version) => stopped(2, wide8(version), 0, 0),
         RtrError::InvalidErrorCode(code) => stopped(7, wide16(code), 0, 0),

@@ -38,12 +38,11 @@ loop-less : tie.Need-loop-less Inv-loop μ-loop
 loop-less c = omega arith
 
 loop-again : tie.Need-loop-again Inv-loop μ-loop
-loop-again c =
-    (
-      stored-next (now (c .before .before .before .args .numbers)) (now (c .before .before .before .args .said)) (c .before .before .loop .i) (c .before .before .loop .numbers) (c .before .before .loop .inv .0) (omega arith) (c .before .before .before .pre),
-      omega arith,
-      simp length-set (omega arith),
-    )
+loop-again c = (
+  stored-next (now (c .before .before .before .args .numbers)) (now (c .before .before .before .args .said)) (c .before .before .loop .i) (c .before .before .loop .numbers) (c .before .before .loop .inv .0) (omega arith) (c .before .before .before .pre),
+  omega arith,
+  simp length-set (omega arith),
+)
 
 same-length : tie.Need-same-length Inv-loop μ-loop
 same-length c = omega arith

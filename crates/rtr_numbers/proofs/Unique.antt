@@ -1,0 +1,21 @@
+-- What each public function promises leaves one result and one content of the numbers lent. `Post` is the contract as Rattle reads it off
+-- the source. Assumes nothing.
+use mathlib.Core.Path.{_≡_}
+use denote.Ref.{now}
+use Rattle.rtr_base.proofs.Unique.{only-this}
+use Rattle.rtr_numbers.proofs.put_session.Reads as put-session-reads
+use Rattle.rtr_numbers.proofs.session_of.Reads as session-of-reads
+use Rattle.rtr_numbers.proofs.put_pdu.Reads as put-pdu-reads
+use Rattle.rtr_numbers.proofs.pdu_of.Reads as pdu-of-reads
+
+pub put-session-unique : (κs : _) (a : _) (r r′ : _) (s s′ : _) → put-session-reads.Post κs a r s → put-session-reads.Post κs a r′ s′ → (r ≡ r′) × (now (s .1 .0) ≡ now (s′ .1 .0))
+put-session-unique κs a r r′ s s′ p q = (only-this r r′ _ (p .0) (q .0), only-this (now (s .1 .0)) (now (s′ .1 .0)) _ (p .1) (q .1))
+
+pub session-of-unique : (κs : _) (a : _) (r r′ : _) (s s′ : _) → session-of-reads.Post κs a r s → session-of-reads.Post κs a r′ s′ → r ≡ r′
+session-of-unique κs a r r′ s s′ p q = only-this r r′ _ p q
+
+pub put-pdu-unique : (κs : _) (a : _) (r r′ : _) (s s′ : _) → put-pdu-reads.Post κs a r s → put-pdu-reads.Post κs a r′ s′ → (r ≡ r′) × (now (s .1 .1 .0) ≡ now (s′ .1 .1 .0))
+put-pdu-unique κs a r r′ s s′ p q = (only-this r r′ _ (p .0) (q .0), only-this (now (s .1 .1 .0)) (now (s′ .1 .1 .0)) _ (p .1) (q .1))
+
+pub pdu-of-unique : (κs : _) (a : _) (r r′ : _) (s s′ : _) → pdu-of-reads.Post κs a r s → pdu-of-reads.Post κs a r′ s′ → r ≡ r′
+pdu-of-unique κs a r r′ s s′ p q = only-this r r′ _ p q
