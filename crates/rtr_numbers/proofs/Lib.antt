@@ -3,5 +3,6 @@ mod Lists
 mod Founds
 mod Sessions
 mod Pdus
+mod Values
 pub mod Laws
 pub mod Unique

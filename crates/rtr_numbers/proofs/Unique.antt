@@ -5,6 +5,7 @@ use denote.Ref.{now}
 use Rattle.rtr_base.proofs.Unique.{only-this}
 use Rattle.rtr_numbers.proofs.put_session.Reads as put-session-reads
 use Rattle.rtr_numbers.proofs.session_of.Reads as session-of-reads
+use Rattle.rtr_numbers.proofs.error_value.Reads as error-value-reads
 use Rattle.rtr_numbers.proofs.put_pdu.Reads as put-pdu-reads
 use Rattle.rtr_numbers.proofs.pdu_of.Reads as pdu-of-reads
 
@@ -19,3 +20,6 @@ put-pdu-unique κs a r r′ s s′ p q = (only-this r r′ _ (p .0) (q .0), only
 
 pub pdu-of-unique : (κs : _) (a : _) (r r′ : _) (s s′ : _) → pdu-of-reads.Post κs a r s → pdu-of-reads.Post κs a r′ s′ → r ≡ r′
 pdu-of-unique κs a r r′ s s′ p q = only-this r r′ _ p q
+
+pub error-value-unique : (κs : _) (a : _) (r r′ : _) (s s′ : _) → error-value-reads.Post κs a r s → error-value-reads.Post κs a r′ s′ → r ≡ r′
+error-value-unique κs a r r′ s s′ p q = only-this r r′ _ p q

@@ -10,6 +10,7 @@ use Rattle.rtr_models.specs.declared.RtrProtocolVersion.{RtrProtocolVersion}
 use Rattle.rtr_models.specs.declared.RtrProtocolVersion.the-variants.{V0, V1}
 use Rattle.rtr_models.specs.declared.RtrPdu.{RtrPdu}
 use Rattle.rtr_models.specs.declared.RtrPdu.the-variants.{SerialNotify, SerialQuery, ResetQuery, CacheResponse, IPv4Prefix, IPv6Prefix, EndOfData, CacheReset, RouterKey, ErrorReport}
+use Rattle.rtr_codec.specs.Read.{Verdict}
 use Rattle.rtr_receiver.specs.Receiver.{Stage}
 use Rattle.rtr_receiver.specs.Receiver.Stage.{idle, mustReset, askedFull, askedChange, loading, stopped}
 use Rattle.rtr_receiver.specs.Promises.{Left, stageOf}
@@ -101,6 +102,11 @@ sessionNumbers s = numbersOf (s .version) (stageOf (s .phase)) (s .table) (s .no
 -- the same of what a receiver's call leaves: `sessionNumbers s` is `leftNumbers` of what s leaves
 abbrev pub leftNumbers : Left → List ℕ
 leftNumbers l = numbersOf (l .version) (l .stage) (l .table) (l .note) (l .liveCount) (l .workingCount) (l .heldCount)
+
+-- value i of a refusal, 0 where it has none
+abbrev pub valueOf : ℕ → Verdict → ℕ
+valueOf i (Verdict.accepted pdu consumed) = 0
+valueOf i (Verdict.refused number values) = getD values i 0
 
 -- ---- A PDU
 

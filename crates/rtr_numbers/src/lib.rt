@@ -18,7 +18,7 @@ ghost use lib.ListN.{length, getD};
 ghost use Rattle.rtr_codec.specs.Answers.{refusal};
 ghost use Rattle.rtr_stream.specs.Search.{streamRefusal};
 ghost use Rattle.rtr_receiver.specs.Promises.{stopSaid, stoppedBy, stageOf};
-ghost use Rattle.rtr_numbers.specs.Numbers.{tableOr, tableNumber, noteNumber, noteSession, noteSerial, sessionNumbers, pduNumbers, endSeconds};
+ghost use Rattle.rtr_numbers.specs.Numbers.{tableOr, tableNumber, noteNumber, noteSession, noteSerial, sessionNumbers, pduNumbers, endSeconds, valueOf};
 ghost use Rattle.rtr_numbers.specs.Back.{alike, looseVersion, looseCode, looseError, looseStop, loosePhase, looseTable, looseNote, looseSession, looseInterval, loosePlace, looseIPv4, looseIPv6, looseEnd, looseKey, looseReport, loosePdu, sessionOf, pduOf};
 ghost use Rattle.rtr_numbers.specs.Private.{phaseNumbers};
 
@@ -200,6 +200,19 @@ fn stop_numbers(stop: Stop) -> PhaseNumbers
         Stop::AlreadyIn => stopped(17, 0, 0, 0),
         Stop::RoomFull => stopped(18, 0, 0, 0),
         Stop::ErrorReport(code) => stopped(19, wide16(code.to_u16()), 0, 0),
+    }
+}
+
+// Value i of a refusal, 0 where it has none.
+pub fn error_value(error: RtrError, i: usize) -> u64
+    ensures { λ r. ⌜ r ≡ valueOf i (refusal error) ⌝ }
+{
+    let p = error_numbers(error);
+    match i {
+        0 => p.first,
+        1 => p.second,
+        2 => p.third,
+        _ => 0,
     }
 }
 

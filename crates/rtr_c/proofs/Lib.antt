@@ -1,0 +1,4 @@
+-- `Laws` and `Unique` are for readers; `Steps` is what the calls' proofs cite.
+mod Steps
+
+

@@ -1,0 +1,268 @@
+-- What each call from C answers and leaves, through the crates below: a session is its 18 numbers and a PDU its 12 (rtr_numbers), rooms are
+-- of 1,024 records. Numbers that are no session's and no PDU's are refused by 22.
+use Prim.Native.Nat.{ℕ}
+use mathlib.Core.Bool.{cond}
+use mathlib.Core.List.{List}
+use lib.Dec.{eqb}
+use lib.ListN.{length, getD, take}
+use Rattle.rtr_models.specs.Codes.{typeNumber, versionFound}
+use Rattle.rtr_models.specs.declared.RtrProtocolVersion.{RtrProtocolVersion}
+use Rattle.rtr_models.specs.declared.VersionFound.{VersionFound}
+use Rattle.rtr_codec.specs.Reading.{crate}
+use Rattle.rtr_codec.specs.Read.{Verdict, read}
+use Rattle.rtr_codec.specs.Answers as codec
+use Rattle.rtr_encode.specs.Encode.{Writing, Encoded, encode}
+use Rattle.rtr_encode.specs.Answers.{numberOf}
+use Rattle.rtr_walk.specs.Walk.{End, WalkVerdict, walk}
+use Rattle.rtr_receiver.specs.Receiver.{Notified}
+use Rattle.rtr_receiver.specs.Promises.{Ending, FeedSays, StartSays, AskSays, ReconnectSays, NotifySays, stopSaid, feedSays, startSays, fullAskSays, changeAskSays, reconnectSays, notifySays}
+use Rattle.rtr_receiver.specs.declared.Session.{Session}
+use Rattle.rtr_receiver.specs.declared.FeedAnswer.{FeedAnswer}
+use Rattle.rtr_receiver.specs.declared.NotifyAnswer.{NotifyAnswer}
+use Rattle.rtr_numbers.specs.Numbers.{leftNumbers, pduNumbers}
+use Rattle.rtr_numbers.specs.Back.{sessionOf, pduOf}
+use Rattle.rtr_numbers.specs.declared.SessionFound.{SessionFound}
+use Rattle.rtr_numbers.specs.declared.PduFound.{PduFound}
+
+-- ---- read: 9 where not 12 numbers are lent, else 0 and the PDU's numbers, or the refusal and the numbers as they were
+pub record ReadLeft : Type 0 where
+  pub answer : ℕ
+  pub pdu : List ℕ
+
+abbrev pub readGives : ℕ → List ℕ → ReadLeft
+readGives answer pdu = record { answer = answer; pdu = pdu }
+
+abbrev pub readLeft : Verdict → List ℕ → ReadLeft
+readLeft (Verdict.accepted pdu consumed) numbers = readGives 0 (pduNumbers pdu consumed)
+readLeft (Verdict.refused number values) numbers = readGives number numbers
+
+unfoldable pub readC : List ℕ → List ℕ → ReadLeft
+readC bytes numbers = cond (eqb (length numbers) 12) (readLeft (read crate bytes) numbers) (readGives 9 numbers)
+
+-- ---- encode: 22 where the numbers are no PDU's, else 0, 8, 9, 10 or 11; the bytes written, or needed (9), or 0; and the output
+pub record EncodeLeft : Type 0 where
+  pub answer : ℕ
+  pub written : ℕ
+  pub out : List ℕ
+
+abbrev pub encodeGives : ℕ → ℕ → List ℕ → EncodeLeft
+encodeGives answer written out = record { answer = answer; written = written; out = out }
+
+-- the bytes written; of a refusal its value, which only 9 has
+abbrev pub amountOf : Writing → ℕ
+amountOf (Writing.written n) = n
+amountOf (Writing.refused number values) = getD values 0 0
+
+abbrev pub encodeLeft : Encoded → EncodeLeft
+encodeLeft e = encodeGives (numberOf (e .says)) (amountOf (e .says)) (e .out)
+
+abbrev pub encodeFound : PduFound → List ℕ → List ℕ → EncodeLeft
+encodeFound (PduFound.Known pdu consumed) payload out = encodeLeft (encode crate pdu payload out)
+encodeFound PduFound.Unknown payload out = encodeGives 22 0 out
+
+unfoldable pub encodeC : List ℕ → List ℕ → List ℕ → EncodeLeft
+encodeC numbers payload out = encodeFound (pduOf numbers) payload out
+
+-- ---- walk: 0, the level, the end's number and its value; or the refusal and zeros
+pub record WalkLeft : Type 0 where
+  pub answer : ℕ
+  pub level : ℕ
+  pub end : ℕ
+  pub value : ℕ
+
+abbrev pub walkGives : ℕ → ℕ → ℕ → ℕ → WalkLeft
+walkGives answer level end value = record { answer = answer; level = level; end = end; value = value }
+
+abbrev pub endNumber : End → ℕ
+endNumber (End.plain type) = 0
+endNumber End.empty = 1
+endNumber (End.refusedBy number) = 2
+endNumber End.tooDeep = 3
+
+-- a plain PDU's type, or the number of the refusal
+abbrev pub endValue : End → ℕ
+endValue (End.plain type) = typeNumber type
+endValue End.empty = 0
+endValue (End.refusedBy number) = number
+endValue End.tooDeep = 0
+
+abbrev pub walkLeft : WalkVerdict → WalkLeft
+walkLeft (WalkVerdict.walked level end) = walkGives 0 level (endNumber end) (endValue end)
+walkLeft (WalkVerdict.refused number values) = walkGives number 0 0 0
+
+unfoldable pub walkC : List ℕ → WalkLeft
+walkC bytes = walkLeft (walk crate bytes)
+
+-- ---- start: 0, the fresh session and both rooms zeroed; or 22 and all as it was
+pub record StartLeft : Type 0 where
+  pub answer : ℕ
+  pub session : List ℕ
+  pub live : List ℕ
+  pub working : List ℕ
+
+abbrev pub startGives : ℕ → List ℕ → List ℕ → List ℕ → StartLeft
+startGives answer session live working = record { answer = answer; session = session; live = live; working = working }
+
+abbrev pub startLeft : StartSays → List ℕ → StartLeft
+startLeft (StartSays.started left) session = startGives 0 (leftNumbers left) (left .live) (left .working)
+startLeft (StartSays.refusedStart live working) session = startGives 22 session live working
+
+abbrev pub startFound : VersionFound → List ℕ → List ℕ → List ℕ → List ℕ → StartLeft
+startFound (VersionFound.Known version) session live working hold = startLeft (startSays 1024 version live working hold) session
+startFound VersionFound.Unknown session live working hold = startGives 22 session live working
+
+unfoldable pub startC : ℕ → List ℕ → List ℕ → List ℕ → List ℕ → StartLeft
+startC version session live working hold =
+    cond (eqb (length session) 18) (startFound (versionFound version) session live working hold) (startGives 22 session live working)
+
+-- ---- the asks: 0, 22, 20, 21 or 9, the session and the output
+pub record AskLeft : Type 0 where
+  pub answer : ℕ
+  pub session : List ℕ
+  pub out : List ℕ
+
+abbrev pub askGives : ℕ → List ℕ → List ℕ → AskLeft
+askGives answer session out = record { answer = answer; session = session; out = out }
+
+abbrev pub askLeft : AskSays → AskLeft
+askLeft a = askGives (numberOf (a .says)) (leftNumbers (a .left)) (a .out)
+
+abbrev pub askFound : (Session → AskSays) → SessionFound → List ℕ → List ℕ → AskLeft
+askFound ask (SessionFound.Known s) session out = askLeft (ask s)
+askFound ask SessionFound.Unknown session out = askGives 22 session out
+
+unfoldable pub fullAskC : List ℕ → List ℕ → List ℕ → List ℕ → List ℕ → AskLeft
+fullAskC session live working hold out = askFound (λ s. fullAskSays 1024 s live working hold out) (sessionOf session) session out
+
+unfoldable pub changeAskC : List ℕ → List ℕ → List ℕ → List ℕ → List ℕ → AskLeft
+changeAskC session live working hold out = askFound (λ s. changeAskSays 1024 s live working hold out) (sessionOf session) session out
+
+-- ---- feed: 0 or the stop's number, or 22; the session, both rooms, the bytes held (of 22 the whole hold), bytes taken and updates finished
+pub record FeedLeft : Type 0 where
+  pub answer : ℕ
+  pub session : List ℕ
+  pub live : List ℕ
+  pub working : List ℕ
+  pub held : List ℕ
+  pub taken : ℕ
+  pub updates : ℕ
+
+-- of the hold what is promised: up to the held count, which is number 17, or all of it on 22
+abbrev pub heldOf : ℕ → List ℕ → List ℕ → List ℕ
+heldOf answer session hold = cond (eqb answer 22) hold (take (getD session 17 0) hold)
+
+abbrev pub feedGives : ℕ → List ℕ → List ℕ → List ℕ → List ℕ → ℕ → ℕ → FeedLeft
+feedGives answer session live working hold taken updates =
+    record {
+      answer = answer;
+      session = session;
+      live = live;
+      working = working;
+      held = heldOf answer session hold;
+      taken = taken;
+      updates = updates;
+    }
+
+abbrev pub endingNumber : Ending → ℕ
+endingNumber Ending.goesOn = 0
+endingNumber (Ending.stops number values) = number
+
+abbrev pub feedLeft : FeedSays → FeedLeft
+feedLeft (FeedSays.fed taken updates ending left) =
+    record {
+      answer = endingNumber ending;
+      session = leftNumbers left;
+      live = left .live;
+      working = left .working;
+      held = left .held;
+      taken = taken;
+      updates = updates;
+    }
+feedLeft (FeedSays.notAReceiver taken updates left hold) =
+    record {
+      answer = 22;
+      session = leftNumbers left;
+      live = left .live;
+      working = left .working;
+      held = hold;
+      taken = taken;
+      updates = updates;
+    }
+
+abbrev pub feedFound : SessionFound → List ℕ → List ℕ → List ℕ → List ℕ → List ℕ → FeedLeft
+feedFound (SessionFound.Known s) session live working hold piece = feedLeft (feedSays 1024 s live working hold piece)
+feedFound SessionFound.Unknown session live working hold piece = feedGives 22 session live working hold 0 0
+
+unfoldable pub feedC : List ℕ → List ℕ → List ℕ → List ℕ → List ℕ → FeedLeft
+feedC session live working hold piece = feedFound (sessionOf session) session live working hold piece
+
+-- document 01's number of the code's answer
+abbrev pub feedNumber : FeedAnswer → ℕ
+feedNumber FeedAnswer.GoesOn = 0
+feedNumber (FeedAnswer.Stopped stop) = codec.numberOf (stopSaid stop)
+feedNumber FeedAnswer.NotAReceiver = 22
+
+-- ---- reconnect: 0 or 22, the session and the working room
+pub record ReconnectLeft : Type 0 where
+  pub answer : ℕ
+  pub session : List ℕ
+  pub working : List ℕ
+
+abbrev pub reconnectGives : ℕ → List ℕ → List ℕ → ReconnectLeft
+reconnectGives answer session working = record { answer = answer; session = session; working = working }
+
+abbrev pub reconnectLeft : ReconnectSays → ReconnectLeft
+reconnectLeft r = reconnectGives (r .number) (leftNumbers (r .left)) (r .left .working)
+
+abbrev pub reconnectFound : SessionFound → List ℕ → List ℕ → List ℕ → List ℕ → ReconnectLeft
+reconnectFound (SessionFound.Known s) session live working hold = reconnectLeft (reconnectSays 1024 s live working hold)
+reconnectFound SessionFound.Unknown session live working hold = reconnectGives 22 session working
+
+unfoldable pub reconnectC : List ℕ → List ℕ → List ℕ → List ℕ → ReconnectLeft
+reconnectC session live working hold = reconnectFound (sessionOf session) session live working hold
+
+-- ---- notify: 0 and how the note compares, or 22 and 0
+pub record NotifyLeft : Type 0 where
+  pub answer : ℕ
+  pub compared : ℕ
+
+abbrev pub notifyGives : ℕ → ℕ → NotifyLeft
+notifyGives answer compared = record { answer = answer; compared = compared }
+
+abbrev pub comparedNumber : Notified → ℕ
+comparedNumber Notified.none = 0
+comparedNumber Notified.otherSession = 1
+comparedNumber Notified.same = 2
+comparedNumber Notified.newer = 3
+comparedNumber Notified.older = 4
+comparedNumber Notified.undefined = 5
+
+abbrev pub notifyLeft : NotifySays → NotifyLeft
+notifyLeft (NotifySays.compares n) = notifyGives 0 (comparedNumber n)
+notifyLeft NotifySays.refusedNotify = notifyGives 22 0
+
+abbrev pub notifyFound : SessionFound → List ℕ → List ℕ → List ℕ → NotifyLeft
+notifyFound (SessionFound.Known s) live working hold = notifyLeft (notifySays 1024 s live working hold)
+notifyFound SessionFound.Unknown live working hold = notifyGives 22 0
+
+unfoldable pub notifyC : List ℕ → List ℕ → List ℕ → List ℕ → NotifyLeft
+notifyC session live working hold = notifyFound (sessionOf session) live working hold
+
+-- the numbers of the code's answer
+abbrev pub notifyNumber : NotifyAnswer → ℕ
+notifyNumber NotifyAnswer.None = 0
+notifyNumber NotifyAnswer.OtherSession = 0
+notifyNumber NotifyAnswer.Same = 0
+notifyNumber NotifyAnswer.Newer = 0
+notifyNumber NotifyAnswer.Older = 0
+notifyNumber NotifyAnswer.Undefined = 0
+notifyNumber NotifyAnswer.NotAReceiver = 22
+
+abbrev pub notifyCompared : NotifyAnswer → ℕ
+notifyCompared NotifyAnswer.None = 0
+notifyCompared NotifyAnswer.OtherSession = 1
+notifyCompared NotifyAnswer.Same = 2
+notifyCompared NotifyAnswer.Newer = 3
+notifyCompared NotifyAnswer.Older = 4
+notifyCompared NotifyAnswer.Undefined = 5
+notifyCompared NotifyAnswer.NotAReceiver = 0

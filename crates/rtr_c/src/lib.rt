@@ -1,0 +1,377 @@
+// The static library for hosts: numbers and slices only, C ABI (include/hingemoss.h). A slice is a pointer and a length. Each call is a
+// thin one over the crates below; every input has its answer, and a refused call changes nothing but the numbers that it answers with.
+use rtr_codec::ReadAnswer;
+use rtr_encode::EncodeAnswer;
+use rtr_encode::EncodeError;
+use rtr_models::*;
+use rtr_numbers::PduFound;
+use rtr_numbers::SessionFound;
+use rtr_receiver::AskAnswer;
+use rtr_receiver::AskError;
+use rtr_receiver::FeedAnswer;
+use rtr_receiver::NotifyAnswer;
+use rtr_receiver::ReconnectAnswer;
+use rtr_receiver::StartAnswer;
+use rtr_walk::WalkAnswer;
+use rtr_walk::WalkEnd;
+ghost use mathlib.Core.Path.{_≡_};
+ghost use Rattle.rtr_codec.specs.Read.{read};
+ghost use Rattle.rtr_codec.specs.Reading.{crate};
+ghost use Rattle.rtr_encode.specs.Answers.{writing, numberOf};
+ghost use Rattle.rtr_receiver.specs.Promises.{askWriting, reconnectNumber};
+ghost use Rattle.rtr_numbers.specs.Numbers.{valueOf};
+ghost use Rattle.rtr_walk.specs.Walk.{endSaid};
+ghost use Rattle.rtr_c.specs.Calls.{amountOf, endNumber, endValue, feedNumber, notifyNumber, notifyCompared, readGives, readC, encodeGives, encodeC, walkGives, walkC, startGives, startC, askGives, fullAskC, changeAskC, feedGives, feedC, reconnectGives, reconnectC, notifyGives, notifyC};
+
+// ---- Numbers of answers
+
+fn encode_number(answer: EncodeAnswer) -> u8
+    ensures { λ r. ⌜ r ≡ numberOf (writing answer) ⌝ }
+{
+    match answer {
+        EncodeAnswer::Written(_) => 0,
+        EncodeAnswer::Refused(error) => error.number(),
+    }
+}
+
+// The bytes written, or needed where the output is too short.
+fn encode_amount(answer: EncodeAnswer) -> u64
+    ensures { λ r. ⌜ r ≡ amountOf (writing answer) ⌝ }
+{
+    match answer {
+        EncodeAnswer::Written(n) => n as u64,
+        EncodeAnswer::Refused(error) => match error {
+            EncodeError::PlaceOutside => 0,
+            EncodeError::InvalidUtf8 => 0,
+            EncodeError::TooLong => 0,
+            EncodeError::OutputShort { needed } => needed as u64,
+        },
+    }
+}
+
+fn end_number(end: WalkEnd) -> u64
+    ensures { λ r. ⌜ r ≡ endNumber (endSaid end) ⌝ }
+{
+    match end {
+        WalkEnd::Plain(_) => 0,
+        WalkEnd::Empty => 1,
+        WalkEnd::Refused(_) => 2,
+        WalkEnd::TooDeep => 3,
+    }
+}
+
+fn end_value(end: WalkEnd) -> u64
+    ensures { λ r. ⌜ r ≡ endValue (endSaid end) ⌝ }
+{
+    match end {
+        WalkEnd::Plain(kind) => kind.to_u8() as u64,
+        WalkEnd::Empty => 0,
+        WalkEnd::Refused(number) => number as u64,
+        WalkEnd::TooDeep => 0,
+    }
+}
+
+fn ask_number(answer: AskAnswer) -> u8
+    ensures { λ r. ⌜ r ≡ numberOf (askWriting answer) ⌝ }
+{
+    match answer {
+        AskAnswer::Written(_) => 0,
+        AskAnswer::Refused(error) => match error {
+            AskError::NotAReceiver => 22,
+            AskError::WrongPhase => 20,
+            AskError::NoTable => 21,
+            AskError::Encoding(encoding) => encoding.number(),
+        },
+    }
+}
+
+fn feed_number(answer: FeedAnswer) -> u8
+    ensures { λ r. ⌜ r ≡ feedNumber answer ⌝ }
+{
+    match answer {
+        FeedAnswer::GoesOn => 0,
+        FeedAnswer::Stopped(stop) => stop.number(),
+        FeedAnswer::NotAReceiver => 22,
+    }
+}
+
+fn reconnect_number(answer: ReconnectAnswer) -> u8
+    ensures { λ r. ⌜ r ≡ reconnectNumber answer ⌝ }
+{
+    match answer {
+        ReconnectAnswer::Connected => 0,
+        ReconnectAnswer::NotAReceiver => 22,
+    }
+}
+
+fn notify_number(answer: NotifyAnswer) -> u8
+    ensures { λ r. ⌜ r ≡ notifyNumber answer ⌝ }
+{
+    match answer {
+        NotifyAnswer::None => 0,
+        NotifyAnswer::OtherSession => 0,
+        NotifyAnswer::Same => 0,
+        NotifyAnswer::Newer => 0,
+        NotifyAnswer::Older => 0,
+        NotifyAnswer::Undefined => 0,
+        NotifyAnswer::NotAReceiver => 22,
+    }
+}
+
+fn notify_compared(answer: NotifyAnswer) -> u64
+    ensures { λ r. ⌜ r ≡ notifyCompared answer ⌝ }
+{
+    match answer {
+        NotifyAnswer::None => 0,
+        NotifyAnswer::OtherSession => 1,
+        NotifyAnswer::Same => 2,
+        NotifyAnswer::Newer => 3,
+        NotifyAnswer::Older => 4,
+        NotifyAnswer::Undefined => 5,
+        NotifyAnswer::NotAReceiver => 0,
+    }
+}
+
+// ---- Codec
+
+// Reads one PDU: 0 and its 12 numbers, or the refusal.
+#[no_mangle]
+pub extern "C" fn hingemoss_read(bytes: &[u8], pdu: &mut [u64]) -> u8
+    ensures { λ r. ⌜ readGives r (now (pdu .exit)) ≡ readC (now (bytes .entry)) (now (pdu .entry)) ⌝ }
+{
+    if pdu.len() != rtr_numbers::PDU_NUMBERS {
+        return 9;
+    }
+    let answer = rtr_codec::parse_rtr_pdu(bytes);
+    match answer {
+        ReadAnswer::Read(value, consumed) => {
+            rtr_numbers::put_pdu(value, consumed, pdu);
+            0
+        }
+        ReadAnswer::Refused(error) => error.number(),
+    }
+}
+
+// Value i of that refusal.
+#[no_mangle]
+pub extern "C" fn hingemoss_read_value(bytes: &[u8], i: usize) -> u64
+    ensures { λ r. ⌜ r ≡ valueOf i (read crate (now (bytes .entry))) ⌝ }
+{
+    let answer = rtr_codec::parse_rtr_pdu(bytes);
+    match answer {
+        ReadAnswer::Read(_, _) => 0,
+        ReadAnswer::Refused(error) => rtr_numbers::error_value(error, i),
+    }
+}
+
+// Encodes one PDU from its numbers: 0 and the bytes written, or the refusal.
+#[no_mangle]
+pub extern "C" fn hingemoss_encode(
+    pdu: &[u64],
+    payload: &[u8],
+    out: &mut [u8],
+    written: &mut u64,
+) -> u8
+    ensures { λ r. ⌜ encodeGives r (now (written .exit)) (now (out .exit)) ≡ encodeC (now (pdu .entry)) (now (payload .entry)) (now (out .entry)) ⌝ }
+{
+    let found = rtr_numbers::pdu_of(pdu);
+    match found {
+        PduFound::Known(value, _) => {
+            let answer = rtr_encode::encode(value, payload, out);
+            *written = encode_amount(answer);
+            encode_number(answer)
+        }
+        PduFound::Unknown => {
+            *written = 0;
+            22
+        }
+    }
+}
+
+// Walks an Error Report's copies: 0, the level, the end and its value, or the refusal.
+#[no_mangle]
+pub extern "C" fn hingemoss_walk(
+    bytes: &[u8],
+    level: &mut u64,
+    end: &mut u64,
+    value: &mut u64,
+) -> u8
+    ensures { λ r. ⌜ walkGives r (now (level .exit)) (now (end .exit)) (now (value .exit)) ≡ walkC (now (bytes .entry)) ⌝ }
+{
+    let answer = rtr_walk::walk(bytes);
+    match answer {
+        WalkAnswer::Walked(depth, last) => {
+            *level = depth as u64;
+            *end = end_number(last);
+            *value = end_value(last);
+            0
+        }
+        WalkAnswer::Refused(error) => {
+            *level = 0;
+            *end = 0;
+            *value = 0;
+            error.number()
+        }
+    }
+}
+
+// ---- Receiver
+
+// A fresh receiver.
+#[no_mangle]
+pub extern "C" fn hingemoss_start(
+    version: u8,
+    session: &mut [u64],
+    live: &mut [u32],
+    working: &mut [u32],
+    hold: &[u8],
+) -> u8
+    ensures { λ r. ⌜ startGives r (now (session .exit)) (now (live .exit)) (now (working .exit)) ≡ startC version (now (session .entry)) (now (live .entry)) (now (working .entry)) (now (hold .entry)) ⌝ }
+{
+    if session.len() != rtr_numbers::SESSION_NUMBERS {
+        return 22;
+    }
+    let found = RtrProtocolVersion::from_u8(version);
+    match found {
+        VersionFound::Known(v) => {
+            let answer = rtr_receiver::start(v, live, working, hold);
+            match answer {
+                StartAnswer::Started(s) => {
+                    rtr_numbers::put_session(s, session);
+                    0
+                }
+                StartAnswer::NotAReceiver => 22,
+            }
+        }
+        VersionFound::Unknown => 22,
+    }
+}
+
+// Asks for the whole table: 0 and a Reset Query of 8 bytes, or the refusal.
+#[no_mangle]
+pub extern "C" fn hingemoss_full_ask(
+    session: &mut [u64],
+    live: &[u32],
+    working: &[u32],
+    hold: &[u8],
+    out: &mut [u8],
+) -> u8
+    ensures { λ r. ⌜ askGives r (now (session .exit)) (now (out .exit)) ≡ fullAskC (now (session .entry)) (now (live .entry)) (now (working .entry)) (now (hold .entry)) (now (out .entry)) ⌝ }
+{
+    let found = rtr_numbers::session_of(session);
+    match found {
+        SessionFound::Known(s) => {
+            let asked = rtr_receiver::full_ask(s, live, working, hold, out);
+            let left = asked.session;
+            let answer = asked.answer;
+            rtr_numbers::put_session(left, session);
+            ask_number(answer)
+        }
+        SessionFound::Unknown => 22,
+    }
+}
+
+// Asks for what changed: 0 and a Serial Query of 12 bytes, or the refusal.
+#[no_mangle]
+pub extern "C" fn hingemoss_change_ask(
+    session: &mut [u64],
+    live: &[u32],
+    working: &[u32],
+    hold: &[u8],
+    out: &mut [u8],
+) -> u8
+    ensures { λ r. ⌜ askGives r (now (session .exit)) (now (out .exit)) ≡ changeAskC (now (session .entry)) (now (live .entry)) (now (working .entry)) (now (hold .entry)) (now (out .entry)) ⌝ }
+{
+    let found = rtr_numbers::session_of(session);
+    match found {
+        SessionFound::Known(s) => {
+            let asked = rtr_receiver::change_ask(s, live, working, hold, out);
+            let left = asked.session;
+            let answer = asked.answer;
+            rtr_numbers::put_session(left, session);
+            ask_number(answer)
+        }
+        SessionFound::Unknown => 22,
+    }
+}
+
+// Feeds a piece of any length: 0 or the stop, the bytes taken and the updates finished.
+#[no_mangle]
+pub extern "C" fn hingemoss_feed(
+    session: &mut [u64],
+    live: &mut [u32],
+    working: &mut [u32],
+    hold: &mut [u8],
+    piece: &[u8],
+    taken: &mut u64,
+    updates: &mut u64,
+) -> u8
+    ensures { λ r. ⌜ feedGives r (now (session .exit)) (now (live .exit)) (now (working .exit)) (now (hold .exit)) (now (taken .exit)) (now (updates .exit)) ≡ feedC (now (session .entry)) (now (live .entry)) (now (working .entry)) (now (hold .entry)) (now (piece .entry)) ⌝ }
+{
+    let found = rtr_numbers::session_of(session);
+    match found {
+        SessionFound::Known(s) => {
+            let fed = rtr_receiver::feed(s, live, working, hold, piece);
+            let left = fed.session;
+            let done = fed.done;
+            let answer = done.answer;
+            rtr_numbers::put_session(left, session);
+            *taken = done.taken as u64;
+            *updates = done.updates as u64;
+            feed_number(answer)
+        }
+        SessionFound::Unknown => {
+            *taken = 0;
+            *updates = 0;
+            22
+        }
+    }
+}
+
+// A new connection.
+#[no_mangle]
+pub extern "C" fn hingemoss_reconnect(
+    session: &mut [u64],
+    live: &[u32],
+    working: &mut [u32],
+    hold: &[u8],
+) -> u8
+    ensures { λ r. ⌜ reconnectGives r (now (session .exit)) (now (working .exit)) ≡ reconnectC (now (session .entry)) (now (live .entry)) (now (working .entry)) (now (hold .entry)) ⌝ }
+{
+    let found = rtr_numbers::session_of(session);
+    match found {
+        SessionFound::Known(s) => {
+            let reconnected = rtr_receiver::reconnect(s, live, working, hold);
+            let left = reconnected.session;
+            let answer = reconnected.answer;
+            rtr_numbers::put_session(left, session);
+            reconnect_number(answer)
+        }
+        SessionFound::Unknown => 22,
+    }
+}
+
+// The last Serial Notify beside the table.
+#[no_mangle]
+pub extern "C" fn hingemoss_notify(
+    session: &[u64],
+    live: &[u32],
+    working: &[u32],
+    hold: &[u8],
+    answer: &mut u64,
+) -> u8
+    ensures { λ r. ⌜ notifyGives r (now (answer .exit)) ≡ notifyC (now (session .entry)) (now (live .entry)) (now (working .entry)) (now (hold .entry)) ⌝ }
+{
+    let found = rtr_numbers::session_of(session);
+    match found {
+        SessionFound::Known(s) => {
+            let compared = rtr_receiver::notify(s, live, working, hold);
+            *answer = notify_compared(compared);
+            notify_number(compared)
+        }
+        SessionFound::Unknown => {
+            *answer = 0;
+            22
+        }
+    }
+}
