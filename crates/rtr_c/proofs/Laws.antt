@@ -11,7 +11,7 @@ use Rattle.rtr_numbers.specs.Back.{sessionOf, pduOf}
 use Rattle.rtr_numbers.specs.declared.SessionFound.{SessionFound}
 use Rattle.rtr_numbers.specs.declared.PduFound.{PduFound}
 use Rattle.rtr_numbers.proofs.Laws.{numbers-of-session}
-use Rattle.rtr_c.specs.Calls.{askGives, askFound, fullAskC, changeAskC, feedGives, feedLeft, feedFound, feedC, reconnectGives, reconnectFound, reconnectC, notifyGives, notifyFound, notifyC, encodeGives, encodeFound, encodeC}
+use Rattle.rtr_c.specs.Calls.{askGives, askFound, fullAskC, changeAskC, feedGives, feedLeft, feedFound, feedC, reconnectGives, reconnectFound, reconnectC, notifyGives, notifyFound, notifyC, encodeGives, encodeFound, encodeC, listingFound, listingC}
 
 -- numbers that are no session's
 module _ (n live working hold : List ℕ) (none : sessionOf n ≡ SessionFound.Unknown) where
@@ -34,6 +34,10 @@ module _ (n live working hold : List ℕ) (none : sessionOf n ≡ SessionFound.U
   pub unknown-notify : notifyC n live working hold ≡ notifyGives 22 0
   unfolding notifyC
   unknown-notify = ap (λ (x : SessionFound). notifyFound x live working hold) none
+
+  pub unknown-keeps-listing : (out : List ℕ) → listingC n live out ≡ encodeGives 22 0 out
+  unfolding listingC
+  unknown-keeps-listing out = ap (λ (x : SessionFound). listingFound x live out) none
 
 -- numbers that are no PDU's
 pub unknown-keeps-output : (n payload out : List ℕ) → pduOf n ≡ PduFound.Unknown → encodeC n payload out ≡ encodeGives 22 0 out

@@ -20,6 +20,8 @@ use Rattle.rtr_codec.specs.declared.ReadAnswer.{ReadAnswer}
 use Rattle.rtr_encode.specs.Encode.{encode}
 use Rattle.rtr_encode.specs.Answers as encoding
 use Rattle.rtr_encode.specs.declared.EncodeAnswer.{EncodeAnswer}
+use Rattle.rtr_listing.specs.Promises as listing
+use Rattle.rtr_listing.specs.declared.ListAnswer.{ListAnswer}
 use Rattle.rtr_walk.specs.Walk.{End, WalkVerdict, endSaid, refusedWalk, walkSaid, walk}
 use Rattle.rtr_walk.specs.declared.WalkEnd.{WalkEnd}
 use Rattle.rtr_walk.specs.declared.WalkAnswer.{WalkAnswer}
@@ -38,7 +40,7 @@ use Rattle.rtr_numbers.specs.Back.{sessionOf, pduOf}
 use Rattle.rtr_numbers.specs.declared.SessionFound.{SessionFound}
 use Rattle.rtr_numbers.specs.declared.PduFound.{PduFound}
 use Rattle.rtr_numbers.proofs.Laws.{session-held, session-of-length}
-use Rattle.rtr_c.specs.Calls.{amountOf, endNumber, endValue, heldOf, feedNumber, notifyNumber, notifyCompared, readGives, readLeft, readC, encodeGives, encodeFound, encodeC, walkGives, walkLeft, walkC, startGives, startLeft, startFound, startC, askGives, askLeft, askFound, FeedLeft, feedGives, feedLeft, feedFound, feedC, reconnectGives, reconnectLeft, reconnectFound, reconnectC, notifyGives, notifyLeft, notifyFound, notifyC}
+use Rattle.rtr_c.specs.Calls.{amountOf, endNumber, endValue, heldOf, feedNumber, notifyNumber, notifyCompared, readGives, readLeft, readC, encodeGives, encodeLeft, encodeFound, encodeC, listingFound, listingC, walkGives, walkLeft, walkC, startGives, startLeft, startFound, startC, askGives, askLeft, askFound, FeedLeft, feedGives, feedLeft, feedFound, feedC, reconnectGives, reconnectLeft, reconnectFound, reconnectC, notifyGives, notifyLeft, notifyFound, notifyC}
 
 -- numbers of the right length are set
 pub set-at : (k : ℕ) (n x y : List ℕ) → length n ≡ k → x ≡ cond (eqb (length n) k) y n → x ≡ y
@@ -82,7 +84,7 @@ pub encode-known : (n payload out out′ : List ℕ) (found : PduFound) (p : Rtr
 unfolding encodeC
 encode-known n payload out out′ found p k answer number amount f told said named counted =
     (λ i. encodeGives (named i) (counted i) out′)
-    ∙ (λ i. encodeGives (encoding.numberOf (said i .says)) (amountOf (said i .says)) (said i .out))
+    ∙ ap encodeLeft said
     ∙ ap (λ (x : PduFound). encodeFound x payload out) (sym told ∙ f)
 
 pub encode-unknown : (n payload out : List ℕ) (found : PduFound) → found ≡ pduOf n → found ≡ PduFound.Unknown → encodeGives 22 0 out ≡ encodeC n payload out
@@ -264,3 +266,21 @@ module _ (n : List ℕ) (found : SessionFound) (f : found ≡ sessionOf n) where
     pub feed-unknown : found ≡ SessionFound.Unknown → feedGives 22 n live working hold 0 0 ≡ feedC n live working hold piece
     unfolding feedC
     feed-unknown told = ap (λ (x : SessionFound). feedFound x n live working hold piece) (sym told ∙ f)
+
+  -- ---- listing
+  module _ (live out : List ℕ) where
+    pub listing-known : (s : Session) (answer : ListAnswer) (number amount : ℕ) (out′ : List ℕ) →
+        found ≡ SessionFound.Known s →
+        listing.leaves answer out′ ≡ listing.listingSays 1024 s live out →
+        number ≡ encoding.numberOf (listing.listSaid answer) →
+        amount ≡ amountOf (listing.listSaid answer) →
+        encodeGives number amount out′ ≡ listingC n live out
+    unfolding listingC
+    listing-known s answer number amount out′ told said named counted =
+        (λ i. encodeGives (named i) (counted i) out′)
+        ∙ ap encodeLeft said
+        ∙ ap (λ (x : SessionFound). listingFound x live out) (sym told ∙ f)
+
+    pub listing-unknown : found ≡ SessionFound.Unknown → encodeGives 22 0 out ≡ listingC n live out
+    unfolding listingC
+    listing-unknown told = ap (λ (x : SessionFound). listingFound x live out) (sym told ∙ f)

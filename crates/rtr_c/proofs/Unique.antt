@@ -14,6 +14,7 @@ use Rattle.rtr_c.proofs.hingemoss_change_ask.Reads as change-ask-reads
 use Rattle.rtr_c.proofs.hingemoss_feed.Reads as feed-reads
 use Rattle.rtr_c.proofs.hingemoss_reconnect.Reads as reconnect-reads
 use Rattle.rtr_c.proofs.hingemoss_notify.Reads as notify-reads
+use Rattle.rtr_c.proofs.hingemoss_listing.Reads as listing-reads
 use Rattle.rtr_c.proofs.hingemoss_read_value.Reads as read-value-reads
 
 pub read-unique : (κs : _) (a : _) (r r′ : _) (s s′ : _) → read-reads.Post κs a r s → read-reads.Post κs a r′ s′
@@ -94,3 +95,11 @@ notify-unique κs a r r′ s s′ p q = (
 
 pub read-value-unique : (κs : _) (a : _) (r r′ : _) (s s′ : _) → read-value-reads.Post κs a r s → read-value-reads.Post κs a r′ s′ → r ≡ r′
 read-value-unique κs a r r′ s s′ p q = only-this r r′ _ p q
+
+pub listing-unique : (κs : _) (a : _) (r r′ : _) (s s′ : _) → listing-reads.Post κs a r s → listing-reads.Post κs a r′ s′
+    → (r ≡ r′) × (now (s .1 .1 .1 .0) ≡ now (s′ .1 .1 .1 .0)) × (now (s .1 .1 .0) ≡ now (s′ .1 .1 .0))
+listing-unique κs a r r′ s s′ p q = (
+  ap (λ (x : EncodeLeft). x .answer) (p ∙ sym q),
+  ap (λ (x : EncodeLeft). x .written) (p ∙ sym q),
+  ap (λ (x : EncodeLeft). x .out) (p ∙ sym q),
+)

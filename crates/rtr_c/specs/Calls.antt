@@ -13,6 +13,7 @@ use Rattle.rtr_codec.specs.Read.{Verdict, read}
 use Rattle.rtr_codec.specs.Answers as codec
 use Rattle.rtr_encode.specs.Encode.{Writing, Encoded, encode}
 use Rattle.rtr_encode.specs.Answers.{numberOf}
+use Rattle.rtr_listing.specs.Promises.{listingSays}
 use Rattle.rtr_walk.specs.Walk.{End, WalkVerdict, walk}
 use Rattle.rtr_receiver.specs.Receiver.{Notified}
 use Rattle.rtr_receiver.specs.Promises.{Ending, FeedSays, StartSays, AskSays, ReconnectSays, NotifySays, stopSaid, feedSays, startSays, fullAskSays, changeAskSays, reconnectSays, notifySays}
@@ -266,3 +267,11 @@ notifyCompared NotifyAnswer.Newer = 3
 notifyCompared NotifyAnswer.Older = 4
 notifyCompared NotifyAnswer.Undefined = 5
 notifyCompared NotifyAnswer.NotAReceiver = 0
+
+-- ---- listing: 0, 22 or 9; the bytes written, or needed (9), or 0; and the output
+abbrev pub listingFound : SessionFound → List ℕ → List ℕ → EncodeLeft
+listingFound (SessionFound.Known s) live out = encodeLeft (listingSays 1024 s live out)
+listingFound SessionFound.Unknown live out = encodeGives 22 0 out
+
+unfoldable pub listingC : List ℕ → List ℕ → List ℕ → EncodeLeft
+listingC session live out = listingFound (sessionOf session) live out

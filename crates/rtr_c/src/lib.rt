@@ -3,6 +3,8 @@
 use rtr_codec::ReadAnswer;
 use rtr_encode::EncodeAnswer;
 use rtr_encode::EncodeError;
+use rtr_listing::ListAnswer;
+use rtr_listing::ListError;
 use rtr_models::*;
 use rtr_numbers::PduFound;
 use rtr_numbers::SessionFound;
@@ -18,10 +20,11 @@ ghost use mathlib.Core.Path.{_≡_};
 ghost use Rattle.rtr_codec.specs.Read.{read};
 ghost use Rattle.rtr_codec.specs.Reading.{crate};
 ghost use Rattle.rtr_encode.specs.Answers.{writing, numberOf};
+ghost use Rattle.rtr_listing.specs.Promises.{listSaid};
 ghost use Rattle.rtr_receiver.specs.Promises.{askWriting, reconnectNumber};
 ghost use Rattle.rtr_numbers.specs.Numbers.{valueOf};
 ghost use Rattle.rtr_walk.specs.Walk.{endSaid};
-ghost use Rattle.rtr_c.specs.Calls.{amountOf, endNumber, endValue, feedNumber, notifyNumber, notifyCompared, readGives, readC, encodeGives, encodeC, walkGives, walkC, startGives, startC, askGives, fullAskC, changeAskC, feedGives, feedC, reconnectGives, reconnectC, notifyGives, notifyC};
+ghost use Rattle.rtr_c.specs.Calls.{amountOf, endNumber, endValue, feedNumber, notifyNumber, notifyCompared, readGives, readC, encodeGives, encodeC, walkGives, walkC, startGives, startC, askGives, fullAskC, changeAskC, feedGives, feedC, reconnectGives, reconnectC, notifyGives, notifyC, listingC};
 
 // ---- Numbers of answers
 
@@ -45,6 +48,27 @@ fn encode_amount(answer: EncodeAnswer) -> u64
             EncodeError::InvalidUtf8 => 0,
             EncodeError::TooLong => 0,
             EncodeError::OutputShort { needed } => needed as u64,
+        },
+    }
+}
+
+fn list_number(answer: ListAnswer) -> u8
+    ensures { λ r. ⌜ r ≡ numberOf (listSaid answer) ⌝ }
+{
+    match answer {
+        ListAnswer::Written(_) => 0,
+        ListAnswer::Refused(error) => error.number(),
+    }
+}
+
+fn list_amount(answer: ListAnswer) -> u64
+    ensures { λ r. ⌜ r ≡ amountOf (listSaid answer) ⌝ }
+{
+    match answer {
+        ListAnswer::Written(n) => n as u64,
+        ListAnswer::Refused(error) => match error {
+            ListError::NotAReceiver => 0,
+            ListError::OutputShort { needed } => needed as u64,
         },
     }
 }
@@ -371,6 +395,30 @@ pub extern "C" fn hingemoss_notify(
         }
         SessionFound::Unknown => {
             *answer = 0;
+            22
+        }
+    }
+}
+
+// The table as document 01's lines of text: 0 and the bytes written, or the refusal.
+#[no_mangle]
+pub extern "C" fn hingemoss_listing(
+    session: &[u64],
+    live: &[u32],
+    out: &mut [u8],
+    written: &mut u64,
+) -> u8
+    ensures { λ r. ⌜ encodeGives r (now (written .exit)) (now (out .exit)) ≡ listingC (now (session .entry)) (now (live .entry)) (now (out .entry)) ⌝ }
+{
+    let found = rtr_numbers::session_of(session);
+    match found {
+        SessionFound::Known(s) => {
+            let answer = rtr_listing::listing(s, live, out);
+            *written = list_amount(answer);
+            list_number(answer)
+        }
+        SessionFound::Unknown => {
+            *written = 0;
             22
         }
     }
