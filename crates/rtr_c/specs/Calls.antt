@@ -106,7 +106,7 @@ startGives answer session live working = record { answer = answer; session = ses
 
 abbrev pub startLeft : StartSays → List ℕ → StartLeft
 startLeft (StartSays.started left) session = startGives 0 (leftNumbers left) (left .live) (left .working)
-startLeft (StartSays.refusedStart live working) session = startGives 22 session live working
+startLeft (StartSays.refusedStart number live working) session = startGives number session live working
 
 abbrev pub startFound : VersionFound → List ℕ → List ℕ → List ℕ → List ℕ → StartLeft
 startFound (VersionFound.Known version) session live working hold = startLeft (startSays 1024 version live working hold) session
@@ -179,9 +179,9 @@ feedLeft (FeedSays.fed taken updates ending left) =
       taken = taken;
       updates = updates;
     }
-feedLeft (FeedSays.notAReceiver taken updates left hold) =
+feedLeft (FeedSays.refusedFeed number taken updates left hold) =
     record {
-      answer = 22;
+      answer = number;
       session = leftNumbers left;
       live = left .live;
       working = left .working;
@@ -240,7 +240,7 @@ comparedNumber Notified.undefined = 5
 
 abbrev pub notifyLeft : NotifySays → NotifyLeft
 notifyLeft (NotifySays.compares n) = notifyGives 0 (comparedNumber n)
-notifyLeft NotifySays.refusedNotify = notifyGives 22 0
+notifyLeft (NotifySays.refusedNotify number) = notifyGives number 0
 
 abbrev pub notifyFound : SessionFound → List ℕ → List ℕ → List ℕ → NotifyLeft
 notifyFound (SessionFound.Known s) live working hold = notifyLeft (notifySays 1024 s live working hold)

@@ -9,7 +9,8 @@ use borrow.Author.Tests.{eqb-true, leb-true, leb-false}
 use lib.Dec.{eqb, leb}
 use Rattle.rtr_room.specs.Room.{isRoom}
 use Rattle.rtr_room.proofs.Laws.{rules-exactly}
-use Rattle.rtr_receiver.specs.Promises.{Reason, hasTable, isReceiver}
+use Rattle.rtr_receiver.specs.History.{hasTable}
+use Rattle.rtr_receiver.specs.Promises.{Reason, isReceiver}
 use Rattle.rtr_receiver.specs.Promises.Reason.{liveOver, liveRules, recordsWithoutTable}
 use Rattle.rtr_receiver.specs.declared.LiveTable.{LiveTable}
 use Rattle.rtr_receiver.specs.declared.LiveTable.the-variants.{NoTable, Known}
