@@ -13,6 +13,9 @@ use Rattle.rtr_models.specs.declared.RtrProtocolVersion.the-variants.{V0, V1}
 use Rattle.rtr_models.specs.declared.RtrErrorCode.{RtrErrorCode}
 use Rattle.rtr_models.specs.declared.RtrErrorCode.the-variants.{CorruptData}
 use Rattle.rtr_models.specs.declared.CodeFound.{CodeFound}
+use Rattle.rtr_models.specs.declared.RtrSerialNotify.{RtrSerialNotify}
+use Rattle.rtr_models.specs.declared.RtrSerialQuery.{RtrSerialQuery}
+use Rattle.rtr_models.specs.declared.RtrCacheResponse.{RtrCacheResponse}
 use Rattle.rtr_models.specs.declared.RtrIPv4Prefix.{RtrIPv4Prefix}
 use Rattle.rtr_models.specs.declared.RtrIPv6Prefix.{RtrIPv6Prefix}
 use Rattle.rtr_models.specs.declared.RtrEndOfData.{RtrEndOfData}
@@ -141,6 +144,15 @@ looseInterval V1 n = Interval.Seconds (low32 n)
 abbrev pub loosePlace : List ℕ → ℕ → ℕ → Place
 loosePlace n i j = record { start = getD n i 0; len = getD n j 0 }
 
+abbrev pub looseNotify : RtrProtocolVersion → List ℕ → RtrSerialNotify
+looseNotify version n = record { version = version; «session_id» = low16 (getD n 3 0); «serial_number» = low32 (getD n 4 0) }
+
+abbrev pub looseQuery : RtrProtocolVersion → List ℕ → RtrSerialQuery
+looseQuery version n = record { version = version; «session_id» = low16 (getD n 3 0); «serial_number» = low32 (getD n 4 0) }
+
+abbrev pub looseResponse : RtrProtocolVersion → List ℕ → RtrCacheResponse
+looseResponse version n = record { version = version; «session_id» = low16 (getD n 3 0) }
+
 abbrev pub looseIPv4 : RtrProtocolVersion → List ℕ → RtrIPv4Prefix
 looseIPv4 version n =
     record {
@@ -196,10 +208,10 @@ looseReport version n =
 -- the PDU of a type from 0 to 9, or else an Error Report
 unfoldable pub loosePdu : RtrProtocolVersion → List ℕ → RtrPdu
 loosePdu version n =
-    cond (eqb (getD n 0 0) 0) (SerialNotify (record { version = version; «session_id» = low16 (getD n 3 0); «serial_number» = low32 (getD n 4 0) }))
-    (cond (eqb (getD n 0 0) 1) (SerialQuery (record { version = version; «session_id» = low16 (getD n 3 0); «serial_number» = low32 (getD n 4 0) }))
+    cond (eqb (getD n 0 0) 0) (SerialNotify (looseNotify version n))
+    (cond (eqb (getD n 0 0) 1) (SerialQuery (looseQuery version n))
     (cond (eqb (getD n 0 0) 2) (ResetQuery (record { version = version }))
-    (cond (eqb (getD n 0 0) 3) (CacheResponse (record { version = version; «session_id» = low16 (getD n 3 0) }))
+    (cond (eqb (getD n 0 0) 3) (CacheResponse (looseResponse version n))
     (cond (eqb (getD n 0 0) 4) (IPv4Prefix (looseIPv4 version n))
     (cond (eqb (getD n 0 0) 6) (IPv6Prefix (looseIPv6 version n))
     (cond (eqb (getD n 0 0) 7) (EndOfData (looseEnd version n))

@@ -19,7 +19,7 @@ ghost use Rattle.rtr_codec.specs.Answers.{refusal};
 ghost use Rattle.rtr_stream.specs.Search.{streamRefusal};
 ghost use Rattle.rtr_receiver.specs.Promises.{stopSaid, stoppedBy, stageOf};
 ghost use Rattle.rtr_numbers.specs.Numbers.{tableOr, tableNumber, noteNumber, noteSession, noteSerial, sessionNumbers, pduNumbers, endSeconds, valueOf};
-ghost use Rattle.rtr_numbers.specs.Back.{alike, looseVersion, looseCode, looseError, looseStop, loosePhase, looseTable, looseNote, looseSession, looseInterval, loosePlace, looseIPv4, looseIPv6, looseEnd, looseKey, looseReport, loosePdu, sessionOf, pduOf};
+ghost use Rattle.rtr_numbers.specs.Back.{alike, looseVersion, looseCode, looseError, looseStop, loosePhase, looseTable, looseNote, looseSession, looseInterval, loosePlace, looseNotify, looseQuery, looseResponse, looseIPv4, looseIPv6, looseEnd, looseKey, looseReport, loosePdu, sessionOf, pduOf};
 ghost use Rattle.rtr_numbers.specs.Private.{phaseNumbers};
 
 // How many numbers a session and a PDU are.
@@ -740,6 +740,35 @@ fn loose_place(n: &[u64], start: usize, len: usize) -> Place
     }
 }
 
+fn loose_notify(version: RtrProtocolVersion, n: &[u64]) -> RtrSerialNotify
+    ensures { λ r. ⌜ r ≡ looseNotify version (now (n .entry)) ⌝ }
+{
+    RtrSerialNotify {
+        version,
+        session_id: low16(at(n, 3)),
+        serial_number: low32(at(n, 4)),
+    }
+}
+
+fn loose_query(version: RtrProtocolVersion, n: &[u64]) -> RtrSerialQuery
+    ensures { λ r. ⌜ r ≡ looseQuery version (now (n .entry)) ⌝ }
+{
+    RtrSerialQuery {
+        version,
+        session_id: low16(at(n, 3)),
+        serial_number: low32(at(n, 4)),
+    }
+}
+
+fn loose_response(version: RtrProtocolVersion, n: &[u64]) -> RtrCacheResponse
+    ensures { λ r. ⌜ r ≡ looseResponse version (now (n .entry)) ⌝ }
+{
+    RtrCacheResponse {
+        version,
+        session_id: low16(at(n, 3)),
+    }
+}
+
 fn loose_ipv4(version: RtrProtocolVersion, n: &[u64]) -> RtrIPv4Prefix
     ensures { λ r. ⌜ r ≡ looseIPv4 version (now (n .entry)) ⌝ }
 {
@@ -813,21 +842,10 @@ fn loose_pdu(n: &[u64]) -> RtrPdu
     let version = loose_version(at(n, 1));
     let kind = at(n, 0);
     match kind {
-        0 => RtrPdu::SerialNotify(RtrSerialNotify {
-            version,
-            session_id: low16(at(n, 3)),
-            serial_number: low32(at(n, 4)),
-        }),
-        1 => RtrPdu::SerialQuery(RtrSerialQuery {
-            version,
-            session_id: low16(at(n, 3)),
-            serial_number: low32(at(n, 4)),
-        }),
+        0 => RtrPdu::SerialNotify(loose_notify(version, n)),
+        1 => RtrPdu::SerialQuery(loose_query(version, n)),
         2 => RtrPdu::ResetQuery(RtrResetQuery { version }),
-        3 => RtrPdu::CacheResponse(RtrCacheResponse {
-            version,
-            session_id: low16(at(n, 3)),
-        }),
+        3 => RtrPdu::CacheResponse(loose_response(version, n)),
         4 => RtrPdu::IPv4Prefix(loose_ipv4(version, n)),
         6 => RtrPdu::IPv6Prefix(loose_ipv6(version, n)),
         7 => RtrPdu::EndOfData(loose_end(version, n)),

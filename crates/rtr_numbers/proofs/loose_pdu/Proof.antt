@@ -1,11 +1,10 @@
 -- `loose_pdu` goes by the type. Assumes nothing.
 use mathlib.Core.Path.{_≡_, refl, sym, ap, _∙_}
-use Prim.Native.Nat.{ℕ, _%_}
 use borrow.Author.Tests.{eq-eqb, ne-eqb}
 use denote.Ref.{now}
 use Rattle.rtr_models.specs.declared.RtrProtocolVersion.{RtrProtocolVersion}
 use Rattle.rtr_models.specs.declared.RtrPdu.the-variants.{SerialNotify, SerialQuery, ResetQuery, CacheResponse, IPv4Prefix, IPv6Prefix, EndOfData, CacheReset, RouterKey, ErrorReport}
-use Rattle.rtr_numbers.specs.Back.{looseVersion, looseIPv4, looseIPv6, looseEnd, looseKey, looseReport, loosePdu}
+use Rattle.rtr_numbers.specs.Back.{looseVersion, looseNotify, looseQuery, looseResponse, looseIPv4, looseIPv6, looseEnd, looseKey, looseReport, loosePdu}
 use borrow.Author.Needs.{needs}
 use Rattle.rtr_numbers.proofs.loose_pdu.Statement.{statement}
 use Rattle.rtr_numbers.proofs.loose_pdu.Tie as tie
@@ -14,10 +13,11 @@ use Rattle.rtr_numbers.proofs.loose_end.Reads as loose-end-reads
 use Rattle.rtr_numbers.proofs.loose_ipv4.Reads as loose-ipv4-reads
 use Rattle.rtr_numbers.proofs.loose_ipv6.Reads as loose-ipv6-reads
 use Rattle.rtr_numbers.proofs.loose_key.Reads as loose-key-reads
+use Rattle.rtr_numbers.proofs.loose_notify.Reads as loose-notify-reads
+use Rattle.rtr_numbers.proofs.loose_query.Reads as loose-query-reads
 use Rattle.rtr_numbers.proofs.loose_report.Reads as loose-report-reads
+use Rattle.rtr_numbers.proofs.loose_response.Reads as loose-response-reads
 use Rattle.rtr_numbers.proofs.loose_version.Reads as loose-version-reads
-use Rattle.rtr_numbers.proofs.low16.Reads as low16-reads
-use Rattle.rtr_numbers.proofs.low32.Reads as low32-reads
 
 at-requires : tie.Need-at-requires
 at-requires c κs = search needs
@@ -28,35 +28,14 @@ loose-version-requires c κs = search needs
 at-requires-2 : tie.Need-at-requires-2
 at-requires-2 c κs = search needs
 
-at-requires-3 : tie.Need-at-requires-3
-at-requires-3 c κs = search needs
+loose-notify-requires : tie.Need-loose-notify-requires
+loose-notify-requires c κs = search needs
 
-low16-requires : tie.Need-low16-requires
-low16-requires c κs = search needs
+loose-query-requires : tie.Need-loose-query-requires
+loose-query-requires c κs = search needs
 
-at-requires-4 : tie.Need-at-requires-4
-at-requires-4 c κs = search needs
-
-low32-requires : tie.Need-low32-requires
-low32-requires c κs = search needs
-
-at-requires-5 : tie.Need-at-requires-5
-at-requires-5 c κs = search needs
-
-low16-requires-2 : tie.Need-low16-requires-2
-low16-requires-2 c κs = search needs
-
-at-requires-6 : tie.Need-at-requires-6
-at-requires-6 c κs = search needs
-
-low32-requires-2 : tie.Need-low32-requires-2
-low32-requires-2 c κs = search needs
-
-at-requires-7 : tie.Need-at-requires-7
-at-requires-7 c κs = search needs
-
-low16-requires-3 : tie.Need-low16-requires-3
-low16-requires-3 c κs = search needs
+loose-response-requires : tie.Need-loose-response-requires
+loose-response-requires c κs = search needs
 
 loose-ipv4-requires : tie.Need-loose-ipv4-requires
 loose-ipv4-requires c κs = search needs
@@ -76,14 +55,14 @@ loose-report-requires c κs = search needs
 returns : tie.Need-returns
 unfolding loosePdu
 returns c =
-    let version = c .before .before .before .before .before .before .loose-version .ensures ∙ ap looseVersion (c .before .before .before .before .before .before .before .at .ensures) in
-    rw (sym (c .before .before .before .before .before .at2 .ensures) ∙ c .before .before .before .before .match .keys1) (λ i. SerialNotify (record { version = version i; «session_id» = (c .before .before .low16 .ensures ∙ ap (λ (n : ℕ). n % 65536) (c .before .before .before .at3 .ensures)) i; «serial_number» = (c .low32 .ensures ∙ ap (λ (n : ℕ). n % 4294967296) (c .before .at4 .ensures)) i }))
+    let version = c .before .before .before .loose-version .ensures ∙ ap looseVersion (c .before .before .before .before .at .ensures) in
+    rw (sym (c .before .before .at2 .ensures) ∙ c .before .match .keys1) (ap SerialNotify (c .loose-notify .ensures ∙ ap (λ (v : RtrProtocolVersion). looseNotify v (now (c .before .before .before .before .before .before .args .n))) version))
 
 returns-2 : tie.Need-returns-2
 unfolding loosePdu
 returns-2 c =
-    let version = c .before .before .before .before .before .before .loose-version .ensures ∙ ap looseVersion (c .before .before .before .before .before .before .before .at .ensures) in
-    rw (sym (c .before .before .before .before .before .at2 .ensures) ∙ c .before .before .before .before .match .keys2) (λ i. SerialQuery (record { version = version i; «session_id» = (c .before .before .low162 .ensures ∙ ap (λ (n : ℕ). n % 65536) (c .before .before .before .at5 .ensures)) i; «serial_number» = (c .low322 .ensures ∙ ap (λ (n : ℕ). n % 4294967296) (c .before .at6 .ensures)) i }))
+    let version = c .before .before .before .loose-version .ensures ∙ ap looseVersion (c .before .before .before .before .at .ensures) in
+    rw (sym (c .before .before .at2 .ensures) ∙ c .before .match .keys2) (ap SerialQuery (c .loose-query .ensures ∙ ap (λ (v : RtrProtocolVersion). looseQuery v (now (c .before .before .before .before .before .before .args .n))) version))
 
 returns-3 : tie.Need-returns-3
 unfolding loosePdu
@@ -94,8 +73,8 @@ returns-3 c =
 returns-4 : tie.Need-returns-4
 unfolding loosePdu
 returns-4 c =
-    let version = c .before .before .before .before .loose-version .ensures ∙ ap looseVersion (c .before .before .before .before .before .at .ensures) in
-    rw (sym (c .before .before .before .at2 .ensures) ∙ c .before .before .match .keys4) (λ i. CacheResponse (record { version = version i; «session_id» = (c .low163 .ensures ∙ ap (λ (n : ℕ). n % 65536) (c .before .at7 .ensures)) i }))
+    let version = c .before .before .before .loose-version .ensures ∙ ap looseVersion (c .before .before .before .before .at .ensures) in
+    rw (sym (c .before .before .at2 .ensures) ∙ c .before .match .keys4) (ap CacheResponse (c .loose-response .ensures ∙ ap (λ (v : RtrProtocolVersion). looseResponse v (now (c .before .before .before .before .before .before .args .n))) version))
 
 returns-5 : tie.Need-returns-5
 unfolding loosePdu
@@ -150,16 +129,9 @@ loose-pdu-spec =
     at-requires
     loose-version-requires
     at-requires-2
-    at-requires-3
-    low16-requires
-    at-requires-4
-    low32-requires
-    at-requires-5
-    low16-requires-2
-    at-requires-6
-    low32-requires-2
-    at-requires-7
-    low16-requires-3
+    loose-notify-requires
+    loose-query-requires
+    loose-response-requires
     loose-ipv4-requires
     loose-ipv6-requires
     loose-end-requires
