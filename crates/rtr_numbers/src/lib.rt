@@ -740,52 +740,52 @@ fn loose_place(n: &[u64], start: usize, len: usize) -> Place
     }
 }
 
-fn loose_notify(version: RtrProtocolVersion, n: &[u64]) -> RtrSerialNotify
-    ensures { λ r. ⌜ r ≡ looseNotify version (now (n .entry)) ⌝ }
+fn loose_notify(version: RtrProtocolVersion, n: &[u64]) -> RtrPdu
+    ensures { λ r. ⌜ r ≡ RtrPdu.SerialNotify (looseNotify version (now (n .entry))) ⌝ }
 {
-    RtrSerialNotify {
+    RtrPdu::SerialNotify(RtrSerialNotify {
         version,
         session_id: low16(at(n, 3)),
         serial_number: low32(at(n, 4)),
-    }
+    })
 }
 
-fn loose_query(version: RtrProtocolVersion, n: &[u64]) -> RtrSerialQuery
-    ensures { λ r. ⌜ r ≡ looseQuery version (now (n .entry)) ⌝ }
+fn loose_query(version: RtrProtocolVersion, n: &[u64]) -> RtrPdu
+    ensures { λ r. ⌜ r ≡ RtrPdu.SerialQuery (looseQuery version (now (n .entry))) ⌝ }
 {
-    RtrSerialQuery {
+    RtrPdu::SerialQuery(RtrSerialQuery {
         version,
         session_id: low16(at(n, 3)),
         serial_number: low32(at(n, 4)),
-    }
+    })
 }
 
-fn loose_response(version: RtrProtocolVersion, n: &[u64]) -> RtrCacheResponse
-    ensures { λ r. ⌜ r ≡ looseResponse version (now (n .entry)) ⌝ }
+fn loose_response(version: RtrProtocolVersion, n: &[u64]) -> RtrPdu
+    ensures { λ r. ⌜ r ≡ RtrPdu.CacheResponse (looseResponse version (now (n .entry))) ⌝ }
 {
-    RtrCacheResponse {
+    RtrPdu::CacheResponse(RtrCacheResponse {
         version,
         session_id: low16(at(n, 3)),
-    }
+    })
 }
 
-fn loose_ipv4(version: RtrProtocolVersion, n: &[u64]) -> RtrIPv4Prefix
-    ensures { λ r. ⌜ r ≡ looseIPv4 version (now (n .entry)) ⌝ }
+fn loose_ipv4(version: RtrProtocolVersion, n: &[u64]) -> RtrPdu
+    ensures { λ r. ⌜ r ≡ RtrPdu.IPv4Prefix (looseIPv4 version (now (n .entry))) ⌝ }
 {
-    RtrIPv4Prefix {
+    RtrPdu::IPv4Prefix(RtrIPv4Prefix {
         version,
         flags: low8(at(n, 3)),
         prefix_length: low8(at(n, 4)),
         max_length: low8(at(n, 5)),
         prefix: low32(at(n, 6)),
         asn: low32(at(n, 7)),
-    }
+    })
 }
 
-fn loose_ipv6(version: RtrProtocolVersion, n: &[u64]) -> RtrIPv6Prefix
-    ensures { λ r. ⌜ r ≡ looseIPv6 version (now (n .entry)) ⌝ }
+fn loose_ipv6(version: RtrProtocolVersion, n: &[u64]) -> RtrPdu
+    ensures { λ r. ⌜ r ≡ RtrPdu.IPv6Prefix (looseIPv6 version (now (n .entry))) ⌝ }
 {
-    RtrIPv6Prefix {
+    RtrPdu::IPv6Prefix(RtrIPv6Prefix {
         version,
         flags: low8(at(n, 3)),
         prefix_length: low8(at(n, 4)),
@@ -797,43 +797,43 @@ fn loose_ipv6(version: RtrProtocolVersion, n: &[u64]) -> RtrIPv6Prefix
             w3: low32(at(n, 9)),
         },
         asn: low32(at(n, 10)),
-    }
+    })
 }
 
-fn loose_end(version: RtrProtocolVersion, n: &[u64]) -> RtrEndOfData
-    ensures { λ r. ⌜ r ≡ looseEnd version (now (n .entry)) ⌝ }
+fn loose_end(version: RtrProtocolVersion, n: &[u64]) -> RtrPdu
+    ensures { λ r. ⌜ r ≡ RtrPdu.EndOfData (looseEnd version (now (n .entry))) ⌝ }
 {
-    RtrEndOfData {
+    RtrPdu::EndOfData(RtrEndOfData {
         version,
         session_id: low16(at(n, 3)),
         serial_number: low32(at(n, 4)),
         refresh_interval: loose_interval(version, at(n, 5)),
         retry_interval: loose_interval(version, at(n, 6)),
         expire_interval: loose_interval(version, at(n, 7)),
-    }
+    })
 }
 
-fn loose_key(version: RtrProtocolVersion, n: &[u64]) -> RtrRouterKey
-    ensures { λ r. ⌜ r ≡ looseKey version (now (n .entry)) ⌝ }
+fn loose_key(version: RtrProtocolVersion, n: &[u64]) -> RtrPdu
+    ensures { λ r. ⌜ r ≡ RtrPdu.RouterKey (looseKey version (now (n .entry))) ⌝ }
 {
-    RtrRouterKey {
+    RtrPdu::RouterKey(RtrRouterKey {
         version,
         flags: low8(at(n, 3)),
         subject_key_identifier: loose_place(n, 4, 5),
         asn: low32(at(n, 6)),
         subject_public_key_info: loose_place(n, 7, 8),
-    }
+    })
 }
 
-fn loose_report(version: RtrProtocolVersion, n: &[u64]) -> RtrErrorReport
-    ensures { λ r. ⌜ r ≡ looseReport version (now (n .entry)) ⌝ }
+fn loose_report(version: RtrProtocolVersion, n: &[u64]) -> RtrPdu
+    ensures { λ r. ⌜ r ≡ RtrPdu.ErrorReport (looseReport version (now (n .entry))) ⌝ }
 {
-    RtrErrorReport {
+    RtrPdu::ErrorReport(RtrErrorReport {
         version,
         error_code: loose_code(at(n, 3)),
         erroneous_pdu: loose_place(n, 4, 5),
         error_text: loose_place(n, 6, 7),
-    }
+    })
 }
 
 fn loose_pdu(n: &[u64]) -> RtrPdu
@@ -842,16 +842,16 @@ fn loose_pdu(n: &[u64]) -> RtrPdu
     let version = loose_version(at(n, 1));
     let kind = at(n, 0);
     match kind {
-        0 => RtrPdu::SerialNotify(loose_notify(version, n)),
-        1 => RtrPdu::SerialQuery(loose_query(version, n)),
+        0 => loose_notify(version, n),
+        1 => loose_query(version, n),
         2 => RtrPdu::ResetQuery(RtrResetQuery { version }),
-        3 => RtrPdu::CacheResponse(loose_response(version, n)),
-        4 => RtrPdu::IPv4Prefix(loose_ipv4(version, n)),
-        6 => RtrPdu::IPv6Prefix(loose_ipv6(version, n)),
-        7 => RtrPdu::EndOfData(loose_end(version, n)),
+        3 => loose_response(version, n),
+        4 => loose_ipv4(version, n),
+        6 => loose_ipv6(version, n),
+        7 => loose_end(version, n),
         8 => RtrPdu::CacheReset(RtrCacheReset { version }),
-        9 => RtrPdu::RouterKey(loose_key(version, n)),
-        _ => RtrPdu::ErrorReport(loose_report(version, n)),
+        9 => loose_key(version, n),
+        _ => loose_report(version, n),
     }
 }
 

@@ -2,6 +2,7 @@
 use mathlib.Core.Path.{_≡_, refl, sym, ap, _∙_}
 use Prim.Native.Nat.{ℕ, _%_}
 use Rattle.rtr_numbers.specs.Back.{looseInterval}
+use Rattle.rtr_models.specs.declared.RtrPdu.the-variants.{EndOfData}
 use borrow.Author.Needs.{needs}
 use Rattle.rtr_numbers.proofs.loose_end.Statement.{statement}
 use Rattle.rtr_numbers.proofs.loose_end.Tie as tie
@@ -47,7 +48,7 @@ returns c =
     let refresh-interval = c .before .before .before .before .loose-interval .ensures ∙ ap (looseInterval (c .before .before .before .before .before .before .before .before .before .before .before .args .version)) (c .before .before .before .before .before .at3 .ensures) in
     let retry-interval = c .before .before .loose-interval2 .ensures ∙ ap (looseInterval (c .before .before .before .before .before .before .before .before .before .before .before .args .version)) (c .before .before .before .at4 .ensures) in
     let expire-interval = c .loose-interval3 .ensures ∙ ap (looseInterval (c .before .before .before .before .before .before .before .before .before .before .before .args .version)) (c .before .at5 .ensures) in
-    λ i. record { version = c .before .before .before .before .before .before .before .before .before .before .before .args .version; «session_id» = session-id i; «serial_number» = serial-number i; «refresh_interval» = refresh-interval i; «retry_interval» = retry-interval i; «expire_interval» = expire-interval i }
+    λ i. EndOfData (record { version = c .before .before .before .before .before .before .before .before .before .before .before .args .version; «session_id» = session-id i; «serial_number» = serial-number i; «refresh_interval» = refresh-interval i; «retry_interval» = retry-interval i; «expire_interval» = expire-interval i })
 
 pub loose-end-spec : {M : Type 1} → statement M
 loose-end-spec =

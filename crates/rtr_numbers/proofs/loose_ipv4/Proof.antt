@@ -1,6 +1,7 @@
 -- `loose_ipv4` takes number after number. Assumes nothing.
 use mathlib.Core.Path.{_≡_, refl, sym, ap, _∙_}
 use Prim.Native.Nat.{ℕ, _%_}
+use Rattle.rtr_models.specs.declared.RtrPdu.the-variants.{IPv4Prefix}
 use borrow.Author.Needs.{needs}
 use Rattle.rtr_numbers.proofs.loose_ipv4.Statement.{statement}
 use Rattle.rtr_numbers.proofs.loose_ipv4.Tie as tie
@@ -45,7 +46,7 @@ returns c =
     let max-length = c .before .before .before .before .low83 .ensures ∙ ap (λ (n : ℕ). n % 256) (c .before .before .before .before .before .at3 .ensures) in
     let prefix = c .before .before .low32 .ensures ∙ ap (λ (n : ℕ). n % 4294967296) (c .before .before .before .at4 .ensures) in
     let asn = c .low322 .ensures ∙ ap (λ (n : ℕ). n % 4294967296) (c .before .at5 .ensures) in
-    λ i. record { version = c .before .before .before .before .before .before .before .before .before .before .before .args .version; flags = flags i; «prefix_length» = prefix-length i; «max_length» = max-length i; prefix = prefix i; asn = asn i }
+    λ i. IPv4Prefix (record { version = c .before .before .before .before .before .before .before .before .before .before .before .args .version; flags = flags i; «prefix_length» = prefix-length i; «max_length» = max-length i; prefix = prefix i; asn = asn i })
 
 pub loose-ipv4-spec : {M : Type 1} → statement M
 loose-ipv4-spec =

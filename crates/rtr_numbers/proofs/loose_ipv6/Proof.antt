@@ -1,6 +1,7 @@
 -- `loose_ipv6` takes number after number. Assumes nothing.
 use mathlib.Core.Path.{_≡_, refl, sym, ap, _∙_}
 use Prim.Native.Nat.{ℕ, _%_}
+use Rattle.rtr_models.specs.declared.RtrPdu.the-variants.{IPv6Prefix}
 use borrow.Author.Needs.{needs}
 use Rattle.rtr_numbers.proofs.loose_ipv6.Statement.{statement}
 use Rattle.rtr_numbers.proofs.loose_ipv6.Tie as tie
@@ -66,7 +67,7 @@ returns c =
     let w2 = c .before .before .before .before .low323 .ensures ∙ ap (λ (n : ℕ). n % 4294967296) (c .before .before .before .before .before .at6 .ensures) in
     let w3 = c .before .before .low324 .ensures ∙ ap (λ (n : ℕ). n % 4294967296) (c .before .before .before .at7 .ensures) in
     let asn = c .low325 .ensures ∙ ap (λ (n : ℕ). n % 4294967296) (c .before .at8 .ensures) in
-    λ i. record { version = c .before .before .before .before .before .before .before .before .before .before .before .before .before .before .before .before .before .args .version; flags = flags i; «prefix_length» = prefix-length i; «max_length» = max-length i; prefix = record { w0 = w0 i; w1 = w1 i; w2 = w2 i; w3 = w3 i }; asn = asn i }
+    λ i. IPv6Prefix (record { version = c .before .before .before .before .before .before .before .before .before .before .before .before .before .before .before .before .before .args .version; flags = flags i; «prefix_length» = prefix-length i; «max_length» = max-length i; prefix = record { w0 = w0 i; w1 = w1 i; w2 = w2 i; w3 = w3 i }; asn = asn i })
 
 pub loose-ipv6-spec : {M : Type 1} → statement M
 loose-ipv6-spec =

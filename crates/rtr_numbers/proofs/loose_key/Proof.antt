@@ -1,6 +1,7 @@
 -- `loose_key` takes number after number. Assumes nothing.
 use mathlib.Core.Path.{_≡_, refl, sym, ap, _∙_}
 use Prim.Native.Nat.{ℕ, _%_}
+use Rattle.rtr_models.specs.declared.RtrPdu.the-variants.{RouterKey}
 use borrow.Author.Needs.{needs}
 use Rattle.rtr_numbers.proofs.loose_key.Statement.{statement}
 use Rattle.rtr_numbers.proofs.loose_key.Tie as tie
@@ -33,7 +34,7 @@ returns c =
     let subject-key-identifier = c .before .before .before .loose-place .ensures in
     let asn = c .before .low32 .ensures ∙ ap (λ (n : ℕ). n % 4294967296) (c .before .before .at2 .ensures) in
     let subject-public-key-info = c .loose-place2 .ensures in
-    λ i. record { version = c .before .before .before .before .before .before .before .args .version; flags = flags i; «subject_key_identifier» = subject-key-identifier i; asn = asn i; «subject_public_key_info» = subject-public-key-info i }
+    λ i. RouterKey (record { version = c .before .before .before .before .before .before .before .args .version; flags = flags i; «subject_key_identifier» = subject-key-identifier i; asn = asn i; «subject_public_key_info» = subject-public-key-info i })
 
 pub loose-key-spec : {M : Type 1} → statement M
 loose-key-spec =

@@ -56,13 +56,13 @@ returns : tie.Need-returns
 unfolding loosePdu
 returns c =
     let version = c .before .before .before .loose-version .ensures ∙ ap looseVersion (c .before .before .before .before .at .ensures) in
-    rw (sym (c .before .before .at2 .ensures) ∙ c .before .match .keys1) (ap SerialNotify (c .loose-notify .ensures ∙ ap (λ (v : RtrProtocolVersion). looseNotify v (now (c .before .before .before .before .before .before .args .n))) version))
+    rw (sym (c .before .before .at2 .ensures) ∙ c .before .match .keys1) (c .loose-notify .ensures ∙ ap (λ (v : RtrProtocolVersion). SerialNotify (looseNotify v (now (c .before .before .before .before .before .before .args .n)))) version)
 
 returns-2 : tie.Need-returns-2
 unfolding loosePdu
 returns-2 c =
     let version = c .before .before .before .loose-version .ensures ∙ ap looseVersion (c .before .before .before .before .at .ensures) in
-    rw (sym (c .before .before .at2 .ensures) ∙ c .before .match .keys2) (ap SerialQuery (c .loose-query .ensures ∙ ap (λ (v : RtrProtocolVersion). looseQuery v (now (c .before .before .before .before .before .before .args .n))) version))
+    rw (sym (c .before .before .at2 .ensures) ∙ c .before .match .keys2) (c .loose-query .ensures ∙ ap (λ (v : RtrProtocolVersion). SerialQuery (looseQuery v (now (c .before .before .before .before .before .before .args .n)))) version)
 
 returns-3 : tie.Need-returns-3
 unfolding loosePdu
@@ -74,25 +74,25 @@ returns-4 : tie.Need-returns-4
 unfolding loosePdu
 returns-4 c =
     let version = c .before .before .before .loose-version .ensures ∙ ap looseVersion (c .before .before .before .before .at .ensures) in
-    rw (sym (c .before .before .at2 .ensures) ∙ c .before .match .keys4) (ap CacheResponse (c .loose-response .ensures ∙ ap (λ (v : RtrProtocolVersion). looseResponse v (now (c .before .before .before .before .before .before .args .n))) version))
+    rw (sym (c .before .before .at2 .ensures) ∙ c .before .match .keys4) (c .loose-response .ensures ∙ ap (λ (v : RtrProtocolVersion). CacheResponse (looseResponse v (now (c .before .before .before .before .before .before .args .n)))) version)
 
 returns-5 : tie.Need-returns-5
 unfolding loosePdu
 returns-5 c =
     let version = c .before .before .before .loose-version .ensures ∙ ap looseVersion (c .before .before .before .before .at .ensures) in
-    rw (sym (c .before .before .at2 .ensures) ∙ c .before .match .keys5) (ap IPv4Prefix (c .loose-ipv4 .ensures ∙ ap (λ (v : RtrProtocolVersion). looseIPv4 v (now (c .before .before .before .before .before .before .args .n))) version))
+    rw (sym (c .before .before .at2 .ensures) ∙ c .before .match .keys5) (c .loose-ipv4 .ensures ∙ ap (λ (v : RtrProtocolVersion). IPv4Prefix (looseIPv4 v (now (c .before .before .before .before .before .before .args .n)))) version)
 
 returns-6 : tie.Need-returns-6
 unfolding loosePdu
 returns-6 c =
     let version = c .before .before .before .loose-version .ensures ∙ ap looseVersion (c .before .before .before .before .at .ensures) in
-    rw (sym (c .before .before .at2 .ensures) ∙ c .before .match .keys6) (ap IPv6Prefix (c .loose-ipv6 .ensures ∙ ap (λ (v : RtrProtocolVersion). looseIPv6 v (now (c .before .before .before .before .before .before .args .n))) version))
+    rw (sym (c .before .before .at2 .ensures) ∙ c .before .match .keys6) (c .loose-ipv6 .ensures ∙ ap (λ (v : RtrProtocolVersion). IPv6Prefix (looseIPv6 v (now (c .before .before .before .before .before .before .args .n)))) version)
 
 returns-7 : tie.Need-returns-7
 unfolding loosePdu
 returns-7 c =
     let version = c .before .before .before .loose-version .ensures ∙ ap looseVersion (c .before .before .before .before .at .ensures) in
-    rw (sym (c .before .before .at2 .ensures) ∙ c .before .match .keys7) (ap EndOfData (c .loose-end .ensures ∙ ap (λ (v : RtrProtocolVersion). looseEnd v (now (c .before .before .before .before .before .before .args .n))) version))
+    rw (sym (c .before .before .at2 .ensures) ∙ c .before .match .keys7) (c .loose-end .ensures ∙ ap (λ (v : RtrProtocolVersion). EndOfData (looseEnd v (now (c .before .before .before .before .before .before .args .n)))) version)
 
 returns-8 : tie.Need-returns-8
 unfolding loosePdu
@@ -104,7 +104,7 @@ returns-9 : tie.Need-returns-9
 unfolding loosePdu
 returns-9 c =
     let version = c .before .before .before .loose-version .ensures ∙ ap looseVersion (c .before .before .before .before .at .ensures) in
-    rw (sym (c .before .before .at2 .ensures) ∙ c .before .match .keys9) (ap RouterKey (c .loose-key .ensures ∙ ap (λ (v : RtrProtocolVersion). looseKey v (now (c .before .before .before .before .before .before .args .n))) version))
+    rw (sym (c .before .before .at2 .ensures) ∙ c .before .match .keys9) (c .loose-key .ensures ∙ ap (λ (v : RtrProtocolVersion). RouterKey (looseKey v (now (c .before .before .before .before .before .before .args .n)))) version)
 
 returns-10 : tie.Need-returns-10
 unfolding loosePdu
@@ -120,7 +120,7 @@ returns-10 c =
       ne-eqb _ _ (λ e. c .before .match .rest .0 .0 .0 .0 .0 .0 .1 (c .before .before .at2 .ensures ∙ e)),
       ne-eqb _ _ (λ e. c .before .match .rest .0 .0 .0 .0 .0 .0 .0 .1 (c .before .before .at2 .ensures ∙ e)),
       ne-eqb _ _ (λ e. c .before .match .rest .0 .0 .0 .0 .0 .0 .0 .0 .1 (c .before .before .at2 .ensures ∙ e)),
-    ) (ap ErrorReport (c .loose-report .ensures ∙ ap (λ (v : RtrProtocolVersion). looseReport v (now (c .before .before .before .before .before .before .args .n))) version))
+    ) (c .loose-report .ensures ∙ ap (λ (v : RtrProtocolVersion). ErrorReport (looseReport v (now (c .before .before .before .before .before .before .args .n)))) version)
 
 pub loose-pdu-spec : {M : Type 1} → statement M
 loose-pdu-spec =

@@ -1,6 +1,7 @@
 -- `loose_query` takes number after number. Assumes nothing.
 use mathlib.Core.Path.{_≡_, refl, sym, ap, _∙_}
 use Prim.Native.Nat.{ℕ, _%_}
+use Rattle.rtr_models.specs.declared.RtrPdu.the-variants.{SerialQuery}
 use borrow.Author.Needs.{needs}
 use Rattle.rtr_numbers.proofs.loose_query.Statement.{statement}
 use Rattle.rtr_numbers.proofs.loose_query.Tie as tie
@@ -24,7 +25,7 @@ returns : tie.Need-returns
 returns c =
     let session-id = c .before .before .low16 .ensures ∙ ap (λ (n : ℕ). n % 65536) (c .before .before .before .at .ensures) in
     let serial-number = c .low32 .ensures ∙ ap (λ (n : ℕ). n % 4294967296) (c .before .at2 .ensures) in
-    λ i. record { version = c .before .before .before .before .before .args .version; «session_id» = session-id i; «serial_number» = serial-number i }
+    λ i. SerialQuery (record { version = c .before .before .before .before .before .args .version; «session_id» = session-id i; «serial_number» = serial-number i })
 
 pub loose-query-spec : {M : Type 1} → statement M
 loose-query-spec =

@@ -2,6 +2,7 @@
 use mathlib.Core.Path.{_≡_, refl, sym, ap, _∙_}
 use Prim.Native.Nat.{ℕ, _%_}
 use Rattle.rtr_numbers.specs.Back.{looseCode}
+use Rattle.rtr_models.specs.declared.RtrPdu.the-variants.{ErrorReport}
 use borrow.Author.Needs.{needs}
 use Rattle.rtr_numbers.proofs.loose_report.Statement.{statement}
 use Rattle.rtr_numbers.proofs.loose_report.Tie as tie
@@ -26,7 +27,7 @@ returns c =
     let error-code = c .before .before .loose-code .ensures ∙ ap looseCode (c .before .before .before .at .ensures) in
     let erroneous-pdu = c .before .loose-place .ensures in
     let error-text = c .loose-place2 .ensures in
-    λ i. record { version = c .before .before .before .before .before .args .version; «error_code» = error-code i; «erroneous_pdu» = erroneous-pdu i; «error_text» = error-text i }
+    λ i. ErrorReport (record { version = c .before .before .before .before .before .args .version; «error_code» = error-code i; «erroneous_pdu» = erroneous-pdu i; «error_text» = error-text i })
 
 pub loose-report-spec : {M : Type 1} → statement M
 loose-report-spec =
