@@ -15,8 +15,8 @@ ghost use Rattle.rtr_codec.specs.Reading.{crate};
 ghost use Rattle.rtr_codec.specs.Answers.{numberOf};
 ghost use Rattle.rtr_stream.specs.Stream.{judge};
 ghost use Rattle.rtr_stream.specs.Stream.Heard.{waits};
-ghost use Rattle.rtr_stream.specs.Search.{isStream, search, searchSaid, streamRefusal};
-ghost use Rattle.rtr_stream.specs.Turns.{LengthTested, Turned, ReadHere, HeaderHere};
+ghost use Rattle.rtr_stream.specs.Search.{isStream, search, searchSaid, streamRefusal, outcomeOf};
+ghost use Rattle.rtr_stream.specs.Turns.{LengthTested, Turned, ReadHere, HeaderHere, searchHere};
 
 // The longest PDU that is listened to: an Error Report with a copy and a text of 65,535 bytes each.
 pub const RTR_MAX_ERROR_REPORT_LEN: u32 = 131086;
@@ -281,9 +281,9 @@ fn from_hold(hold: &mut [u8], held: usize, piece: &[u8], at: usize) -> Turn
     read_hold(hold, wanted, end)
 }
 
-// One turn of the search.
+// One turn of the search where something is held.
 fn one_turn(hold: &mut [u8], held: usize, piece: &[u8], at: usize) -> Turn
-    requires { ⌜ isStream (now hold) held ≡ true ⌝ }
+    requires { ⌜ (isStream (now hold) held ≡ true) × (0 < held) ⌝ }
     ensures { λ r. ⌜ Turned (now (hold .entry)) held (now (piece .entry)) at r (now (hold .exit)) ⌝ }
 {
     if at >= piece.len() {
@@ -293,14 +293,39 @@ fn one_turn(hold: &mut [u8], held: usize, piece: &[u8], at: usize) -> Turn
             then: Then::Done(StreamAnswer::More),
         };
     }
-    if held == 0 {
-        return from_piece(hold, piece, at);
-    }
     from_hold(hold, held, piece, at)
 }
 
-// Searches the piece from a place on for the next PDU: goes round until it breaks off with a whole PDU, a refusal, or the wish for more (at most twice:
-// the header, then the PDU).
+// The search where nothing is held: it is over at once.
+fn search_piece(hold: &mut [u8], piece: &[u8], at: usize) -> Searched
+    requires { ⌜ 8 ≤ length (now hold) ⌝ }
+    ensures { λ r. ⌜ searchSaid r (now (hold .exit)) (now (piece .entry)) ≡ outcomeOf 0 at (searchHere (now (hold .entry)) 0 (now (piece .entry)) at) ⌝ }
+{
+    if at >= piece.len() {
+        return Searched {
+            stream: Stream { held: 0 },
+            next: at,
+            answer: StreamAnswer::More,
+        };
+    }
+    let t = from_piece(hold, piece, at);
+    let then = t.then;
+    match then {
+        Then::Done(answer) => Searched {
+            stream: Stream { held: t.held },
+            next: t.next,
+            answer,
+        },
+        Then::Again => Searched {
+            stream: Stream { held: 0 },
+            next: at,
+            answer: StreamAnswer::More,
+        },
+    }
+}
+
+// Searches the piece from a place on for the next PDU. Where something is held it goes round until it breaks off with a whole PDU, a refusal, or the wish for
+// more (at most twice: the header, then the PDU).
 pub fn search(hold: &mut [u8], stream: Stream, piece: &[u8], at: usize) -> Searched
     ensures { λ r. ⌜ searchSaid r (now (hold .exit)) (now (piece .entry)) ≡ search (now (hold .entry)) (stream .held) (now (piece .entry)) at ⌝ }
 {
@@ -312,6 +337,9 @@ pub fn search(hold: &mut [u8], stream: Stream, piece: &[u8], at: usize) -> Searc
             next,
             answer: StreamAnswer::NotAStream,
         };
+    }
+    if held == 0 {
+        return search_piece(hold, piece, at);
     }
     let answer = loop {
         let t = one_turn(hold, held, piece, next);
