@@ -232,7 +232,7 @@ fn in_order(s: Session) -> bool
     is_cleared(s)
 }
 
-// Receiver shape: the session record, the hold, and each room by its rules.
+// Receiver shape, each number of the rooms read once.
 fn is_receiver(s: Session, live: &[u32], working: &[u32], hold: &[u8]) -> bool
     ensures { λ r. ⌜ r ≡ isReceiver 1024 s (now (live .entry)) (now (working .entry)) (now (hold .entry)) ⌝ }
 {

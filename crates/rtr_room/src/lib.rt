@@ -299,7 +299,7 @@ fn is_zero_from(room: &[u32], at: usize) -> bool
     bits == 0
 }
 
-// The room rules: a spare number is read once, a record's numbers twice at the most.
+// The room rules, each number read once.
 pub fn rules(room: &[u32], limit: usize, count: usize) -> bool
     ensures { λ r. ⌜ r ≡ isRoom limit count (now (room .entry)) ⌝ }
 {
