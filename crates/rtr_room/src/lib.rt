@@ -261,7 +261,7 @@ fn shift_down(room: &mut [u32], to: usize, end: usize)
     }
 }
 
-// The first so many records are a table: each is in rule, and behind the one before it, of which no more is read than the comparison asks for.
+// The first so many records are a table: each is read once, and compared with the one before it.
 fn is_table(room: &[u32], count: usize) -> bool
     requires { ⌜ 6 * count ≤ length (now room) ⌝ }
     ensures { λ r. ⌜ r ≡ isTable (records count (now (room .entry))) ⌝ }
@@ -269,7 +269,8 @@ fn is_table(room: &[u32], count: usize) -> bool
     if count == 0 {
         return true;
     }
-    if !is_in_rule(record_at(room, 0)) {
+    let mut last = record_at(room, 0);
+    if !is_in_rule(last) {
         return false;
     }
     let mut i = 1;
@@ -278,9 +279,10 @@ fn is_table(room: &[u32], count: usize) -> bool
         if !is_in_rule(next) {
             return false;
         }
-        if !is_before(record_at(room, i - 1), next) {
+        if !is_before(last, next) {
             return false;
         }
+        last = next;
         i += 1;
     }
     true

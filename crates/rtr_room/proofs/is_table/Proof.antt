@@ -1,5 +1,5 @@
--- `is_table`: record i - 1 is in rule, and with those behind it it is a table where the whole is. The measure is what is left. Assumes nothing.
-use Prim.Native.Nat.{_+_, _-_, _*_, _≤_}
+-- `is_table`: the last record read is in rule, and with those behind it it is a table where the whole is. The measure is what is left. Assumes nothing.
+use Prim.Native.Nat.{_-_, _*_, _≤_}
 use mathlib.Core.Bool.{true, false}
 use mathlib.Core.List.{_∷_}
 use mathlib.Core.Path.{_≡_, sym, _∙_, ap}
@@ -7,7 +7,7 @@ use native.Mathlib.Omega.{arith}
 use denote.Ref.{now}
 use lib.ListN.{drop}
 use borrow.Author.Tests.{not-true, not-false}
-use Rattle.rtr_room.specs.Table.{before, inRule, isTable}
+use Rattle.rtr_room.specs.Table.{inRule, isTable}
 use Rattle.rtr_room.specs.Room.{recordAt, records}
 use Rattle.rtr_room.specs.declared.Record.{Record}
 use Rattle.rtr_room.proofs.Tables.{first-breaks, no-table, starts, ends, next-refused, order-refused, goes-on}
@@ -15,11 +15,10 @@ use Rattle.rtr_room.proofs.is_table.Statement.{statement}
 use Rattle.rtr_room.proofs.is_table.Tie as tie
 
 abbrev Inv-loop : tie.InvT-loop
-Inv-loop room count i₀ i =
-    (isTable (recordAt room (i - 1) ∷ records (count - i) (drop (6 * i) room)) ≡ isTable (records count room)) × (inRule (recordAt room (i - 1)) ≡ true) × (1 ≤ i) × (i ≤ count)
+Inv-loop room count last₀ i₀ last i = (isTable (last ∷ records (count - i) (drop (6 * i) room)) ≡ isTable (records count room)) × (inRule last ≡ true) × (i ≤ count)
 
 abbrev μ-loop : tie.MeasureT-loop
-μ-loop room count i₀ i = count - i
+μ-loop room count last₀ i₀ last i = count - i
 
 returns : tie.Need-returns Inv-loop μ-loop
 returns c = no-table (now (c .before .before .args .room)) (c .before .before .args .count) (c .if1 .taken)
@@ -41,10 +40,10 @@ returns-2 c =
 loop-holds : tie.Need-loop-holds Inv-loop μ-loop
 loop-holds c =
     let a = c .before .before .before .before .before .args in
-    let s = now (a .room) in (
-      starts s (a .count) (omega arith),
-      sym (ap inRule (c .before .before .record-at .ensures)) ∙ sym (c .before .is-in-rule .ensures) ∙ not-false _ (c .if2 .left),
-      omega arith,
+    let s = now (a .room) in
+    let made = c .before .before .record-at .ensures in (
+      ap (λ (r : Record). isTable (r ∷ records (a .count - 1) (drop (6 * 1) s))) made ∙ starts s (a .count) (omega arith),
+      sym (c .before .is-in-rule .ensures) ∙ not-false _ (c .if2 .left),
       omega arith,
     )
 
@@ -58,27 +57,18 @@ returns-3 : tie.Need-returns-3 Inv-loop μ-loop
 returns-3 c =
     let a = c .before .before .before .before .before .before .before .before .before .before .args in
     let at-loop = c .before .before .before .before .loop in
-    next-refused (now (a .room)) (a .count) (recordAt (now (a .room)) (at-loop .i - 1)) (at-loop .i) (at-loop .inv .0) (at-loop .inv .1) _ (c .before .before .before .loop-test .taken)
+    next-refused (now (a .room)) (a .count) (at-loop .last) (at-loop .i) (at-loop .inv .0) (at-loop .inv .1) _ (c .before .before .before .loop-test .taken)
     (c .before .before .record-at2 .ensures) (sym (c .before .is-in-rule2 .ensures) ∙ not-true _ (c .if3 .taken))
-
-sub-record-at : tie.Need-sub-record-at Inv-loop μ-loop
-sub-record-at c = omega arith
-
-record-at-requires-3 : tie.Need-record-at-requires-3 Inv-loop μ-loop
-record-at-requires-3 c κs = omega arith
 
 is-before-requires : tie.Need-is-before-requires Inv-loop μ-loop
 is-before-requires c κs = omega arith
 
 returns-4 : tie.Need-returns-4 Inv-loop μ-loop
 returns-4 c =
-    let a = c .before .before .before .before .before .before .before .before .before .before .before .before .before .args in
-    let at-loop = c .before .before .before .before .before .before .before .loop in
-    let next = c .before .before .before .before .before .record-at2 in
-    order-refused (now (a .room)) (a .count) (recordAt (now (a .room)) (at-loop .i - 1)) (at-loop .i) (at-loop .inv .0) (at-loop .inv .1) _
-    (c .before .before .before .before .before .before .loop-test .taken)
-    (next .ensures)
-    (sym (ap (λ (r : Record). before r (next .result)) (c .before .before .record-at3 .ensures)) ∙ sym (c .before .is-before .ensures) ∙ not-true _ (c .if4 .taken))
+    let a = c .before .before .before .before .before .before .before .before .before .before .before .before .args in
+    let at-loop = c .before .before .before .before .before .before .loop in
+    order-refused (now (a .room)) (a .count) (at-loop .last) (at-loop .i) (at-loop .inv .0) (at-loop .inv .1) _ (c .before .before .before .before .before .loop-test .taken)
+    (c .before .before .before .before .record-at2 .ensures) (sym (c .before .is-before .ensures) ∙ not-true _ (c .if4 .taken))
 
 add-i : tie.Need-add-i Inv-loop μ-loop
 add-i c = omega arith
@@ -88,19 +78,11 @@ loop-less c = omega arith
 
 loop-again : tie.Need-loop-again Inv-loop μ-loop
 loop-again c =
-    let a = c .before .before .before .before .before .before .before .before .before .before .before .before .before .args in
-    let s = now (a .room) in
-    let at-loop = c .before .before .before .before .before .before .before .loop in
-    let next = c .before .before .before .before .before .record-at2 in
-    let there : next .result ≡ recordAt s (at-loop .i + 1 - 1) = next .ensures ∙ ap (recordAt s) (omega arith) in
-    let goes : isTable (next .result ∷ records (a .count - (at-loop .i + 1)) (drop (6 * (at-loop .i + 1)) s)) ≡ isTable (records (a .count) s) =
-    goes-on s (a .count) (recordAt s (at-loop .i - 1)) (at-loop .i) (at-loop .inv .0) (at-loop .inv .1) _
-    (c .before .before .before .before .before .before .loop-test .taken)
-    (next .ensures)
-    (sym (ap (λ (r : Record). before r (next .result)) (c .before .before .record-at3 .ensures)) ∙ sym (c .before .is-before .ensures) ∙ not-false _ (c .if4 .left)) in (
-      sym (ap (λ (r : Record). isTable (r ∷ records (a .count - (at-loop .i + 1)) (drop (6 * (at-loop .i + 1)) s))) there) ∙ goes,
-      sym (ap inRule there) ∙ sym (c .before .before .before .before .is-in-rule2 .ensures) ∙ not-false _ (c .before .before .before .if3 .left),
-      omega arith,
+    let a = c .before .before .before .before .before .before .before .before .before .before .before .before .args in
+    let at-loop = c .before .before .before .before .before .before .loop in (
+      goes-on (now (a .room)) (a .count) (at-loop .last) (at-loop .i) (at-loop .inv .0) (at-loop .inv .1) _ (c .before .before .before .before .before .loop-test .taken)
+          (c .before .before .before .before .record-at2 .ensures) (sym (c .before .is-before .ensures) ∙ not-false _ (c .if4 .left)),
+      sym (c .before .before .before .is-in-rule2 .ensures) ∙ not-false _ (c .before .before .if3 .left),
       omega arith,
     )
 
@@ -108,7 +90,7 @@ returns-5 : tie.Need-returns-5 Inv-loop μ-loop
 returns-5 c =
     let a = c .before .before .before .before .before .before .before .args in
     let at-loop = c .before .loop in
-    ends (now (a .room)) (a .count) (recordAt (now (a .room)) (at-loop .i - 1)) (at-loop .i) (at-loop .inv .0) (at-loop .inv .1) (c .loop-test .left)
+    ends (now (a .room)) (a .count) (at-loop .last) (at-loop .i) (at-loop .inv .0) (at-loop .inv .1) (c .loop-test .left)
 
 pub is-table-spec : {M : Type 1} → statement M
 is-table-spec =
@@ -124,8 +106,6 @@ is-table-spec =
     record-at-requires-2
     is-in-rule-requires-2
     returns-3
-    sub-record-at
-    record-at-requires-3
     is-before-requires
     returns-4
     add-i
