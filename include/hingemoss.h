@@ -1,11 +1,13 @@
-/* Hingemoss: a proved receiver of the RPKI-to-Router protocol (RFC 6810, RFC 8210). Link libhingemoss's archive: rt staticlib rtr_c.
+/* Hingemoss: a proved receiver of the RPKI-to-Router protocol (RFC 6810, RFC 8210). `rt staticlib rtr_c` writes its archive, target/staticlib/librtr_c.a, for x86-64; of C's library it
+ * needs memset alone.
  *
- * Every call takes every input and answers; nothing is allocated, and nothing is kept between calls but the memory that you lend. A call's answer
- * is 0 or a refusal's number (below). A refused call changes nothing, but for the numbers that it answers with (written, taken, updates, level,
- * end, value, answer), which are then 0 unless the call says otherwise. A stop is no such refusal: it is the receiver's new state.
+ * Every call takes every input and answers; nothing is allocated, and nothing is kept between calls but the memory that you lend. A call's answer is 0 or a refusal's number (below); where several
+ * would fit, the first in the order that the call names is given. A refused call changes nothing, but for the numbers that it answers with (written, taken, updates, level, end, value, compared), which are
+ * then 0 unless the call says otherwise. A stop is no such refusal: it is the receiver's new state.
  *
- * A slice is a pointer and a length in elements, one behind the other. A pointer is never NULL (not of an empty slice either) and is aligned to its
- * element; memory that a call may write (no const) overlaps nothing else that is lent to the same call. Calls on different memory may run at the same time. */
+ * What you owe: a slice is a pointer and a length in elements, one behind the other, and so many elements are there, readable, set to something, and writable where there is no const. A pointer is never NULL (not
+ * of an empty slice either) and is aligned to its element. Memory that a call may write overlaps nothing else that is lent to the same call, and until the call returns nobody else (another thread, a signal's
+ * handler, a file's mapping) writes what is lent, or reads what may be written. Calls on other memory may run at the same time, and may share memory that both only read. A call uses less than 8 KiB of stack. */
 #ifndef HINGEMOSS_H
 #define HINGEMOSS_H
 
@@ -16,43 +18,46 @@
 extern "C" {
 #endif
 
-/* Sizes. A room is HINGEMOSS_ROOM numbers of 32 bits, six for each of at most HINGEMOSS_RECORDS records; a hold is HINGEMOSS_HOLD_LEAST bytes or more,
+/* Sizes. A room is HINGEMOSS_ROOM_NUMBERS numbers of 32 bits, six for each of at most HINGEMOSS_RECORDS records; a hold is HINGEMOSS_HOLD_LEAST bytes or more,
  * and with HINGEMOSS_HOLD_MOST no PDU is too long for it. */
 #define HINGEMOSS_RECORDS 1024
-#define HINGEMOSS_ROOM 6144
-#define HINGEMOSS_SESSION 18
-#define HINGEMOSS_PDU 12
+#define HINGEMOSS_ROOM_NUMBERS 6144
+#define HINGEMOSS_SESSION_NUMBERS 18
+#define HINGEMOSS_PDU_NUMBERS 12
 #define HINGEMOSS_HOLD_LEAST 8
 #define HINGEMOSS_HOLD_MOST 131086
+#define HINGEMOSS_FULL_QUERY 8          /* bytes of a full ask's query */
+#define HINGEMOSS_CHANGE_QUERY 12       /* and of a change ask's */
+#define HINGEMOSS_LISTING_MOST 131200   /* no listing has more bytes: 128 for the head, 128 for each record */
 
 /* Refusal numbers and, behind the colon, their values in order. */
 enum hingemoss_refusal {
     HINGEMOSS_OK = 0,
-    HINGEMOSS_INCOMPLETE = 1,      /* incomplete: available, needed */
-    HINGEMOSS_VERSION = 2,         /* no such version: version */
-    HINGEMOSS_TYPE = 3,            /* no such type: type */
-    HINGEMOSS_LENGTH = 4,          /* length: expected, actual, type */
-    HINGEMOSS_KEY_IN_V0 = 5,       /* a Router Key in version 0 */
-    HINGEMOSS_PREFIX_LENGTH = 6,   /* prefix length, max, limit */
-    HINGEMOSS_ERROR_CODE = 7,      /* no such error code: code */
-    HINGEMOSS_TEXT = 8,            /* the text is not UTF-8 */
-    HINGEMOSS_OUTPUT_SHORT = 9,    /* the output is shorter than needed: needed */
-    HINGEMOSS_TOO_LONG = 10,       /* the encoded length is over 4,294,967,295 */
-    HINGEMOSS_PLACE = 11,          /* a payload's place is outside the lent slice, or a key identifier's is not 20 long */
-    HINGEMOSS_OVER_HOLD = 12,      /* a PDU longer than the hold: length */
-    HINGEMOSS_OUT_OF_TURN = 13,    /* a PDU that is not due in this phase */
-    HINGEMOSS_OTHER_VERSION = 14,  /* a PDU of the other version */
-    HINGEMOSS_OTHER_SESSION = 15,  /* a PDU of another session */
-    HINGEMOSS_NOT_IN = 16,         /* a withdrawal of what is not in the working room */
-    HINGEMOSS_ALREADY_IN = 17,     /* an announcement of what is in it */
-    HINGEMOSS_ROOM_FULL = 18,      /* a new announcement with 1,024 in it */
-    HINGEMOSS_ERROR_REPORT = 19,   /* the cache sent an Error Report: code */
-    HINGEMOSS_WRONG_PHASE = 20,    /* an ask in a wrong phase */
-    HINGEMOSS_NO_TABLE = 21,       /* a change asked for without a table */
-    HINGEMOSS_NOT_A_RECEIVER = 22  /* lent memory is not of receiver shape, or numbers are no session's or no PDU's */
+    HINGEMOSS_REFUSED_INCOMPLETE = 1,      /* incomplete: available, needed */
+    HINGEMOSS_REFUSED_VERSION = 2,         /* no such version: version */
+    HINGEMOSS_REFUSED_TYPE = 3,            /* no such type: type */
+    HINGEMOSS_REFUSED_LENGTH = 4,          /* length: expected, actual, type */
+    HINGEMOSS_REFUSED_KEY_IN_V0 = 5,       /* a Router Key in version 0 */
+    HINGEMOSS_REFUSED_PREFIX_LENGTH = 6,   /* prefix length, max, limit */
+    HINGEMOSS_REFUSED_ERROR_CODE = 7,      /* no such error code: code */
+    HINGEMOSS_REFUSED_TEXT = 8,            /* the text is not UTF-8 */
+    HINGEMOSS_REFUSED_OUTPUT_SHORT = 9,    /* the output is shorter than needed: needed */
+    HINGEMOSS_REFUSED_TOO_LONG = 10,       /* the encoded length is over 4,294,967,295 */
+    HINGEMOSS_REFUSED_PLACE = 11,          /* a payload's place is outside the lent slice, or a key identifier's is not 20 long */
+    HINGEMOSS_REFUSED_OVER_HOLD = 12,      /* a PDU longer than the hold: length */
+    HINGEMOSS_REFUSED_OUT_OF_TURN = 13,    /* a PDU that is not due in this phase */
+    HINGEMOSS_REFUSED_OTHER_VERSION = 14,  /* a PDU of the other version */
+    HINGEMOSS_REFUSED_OTHER_SESSION = 15,  /* a PDU of another session */
+    HINGEMOSS_REFUSED_NOT_IN = 16,         /* a withdrawal of what is not in the working room */
+    HINGEMOSS_REFUSED_ALREADY_IN = 17,     /* an announcement of what is in it */
+    HINGEMOSS_REFUSED_ROOM_FULL = 18,      /* a new announcement with 1,024 in it */
+    HINGEMOSS_REFUSED_ERROR_REPORT = 19,   /* the cache sent an Error Report: code */
+    HINGEMOSS_REFUSED_WRONG_PHASE = 20,    /* an ask in a wrong phase */
+    HINGEMOSS_REFUSED_NO_TABLE = 21,       /* a change asked for without a table */
+    HINGEMOSS_REFUSED_NOT_A_RECEIVER = 22  /* lent memory is not of receiver shape, or numbers are no session's or no PDU's */
 };
 
-/* A session: the place of each of its HINGEMOSS_SESSION numbers. */
+/* A session: the place of each of its HINGEMOSS_SESSION_NUMBERS numbers. */
 enum hingemoss_session {
     HINGEMOSS_SESSION_VERSION = 0,
     HINGEMOSS_SESSION_PHASE = 1,       /* enum hingemoss_phase */
@@ -84,13 +89,14 @@ enum hingemoss_phase {
     HINGEMOSS_STOPPED = 6
 };
 
-/* A PDU: the place of each of its HINGEMOSS_PDU numbers. Behind the first three stand the fields of its type, then zeros. A payload (key, copy of a
+/* A PDU: the place of each of its HINGEMOSS_PDU_NUMBERS numbers. Behind the first three stand the fields of its type, then zeros. A payload (key, copy of a
  * PDU, text) is named by its place: where it starts in the bytes that were read, or that are lent to be encoded, and its length. */
 enum hingemoss_pdu {
     HINGEMOSS_PDU_TYPE = 0,
     HINGEMOSS_PDU_VERSION = 1,
     HINGEMOSS_PDU_CONSUMED = 2,        /* bytes that it took; encoding passes over it */
-    /* Serial Notify (0), Serial Query (1), Cache Response (3: no serial), End of Data (7: version 0 has no intervals, its numbers are 0).
+    /* Serial Notify (0), Serial Query (1), Cache Response (3: no serial), End of Data (7: version 0 has no intervals, its numbers are 0;
+     * version 1 has all three as they stand here, 0 as 0).
      * Reset Query (2) and Cache Reset (8) have no fields. */
     HINGEMOSS_PDU_SESSION_ID = 3,
     HINGEMOSS_PDU_SERIAL = 4,
@@ -99,8 +105,8 @@ enum hingemoss_pdu {
     HINGEMOSS_PDU_EXPIRE = 7,
     /* IPv4 Prefix (4), IPv6 Prefix (6: four numbers of 32 bits are its address) */
     HINGEMOSS_PDU_FLAGS = 3,
-    HINGEMOSS_PDU_LENGTH = 4,
-    HINGEMOSS_PDU_MAX = 5,
+    HINGEMOSS_PDU_PREFIX_LENGTH = 4,
+    HINGEMOSS_PDU_MAX_LENGTH = 5,
     HINGEMOSS_PDU_IPV4 = 6,
     HINGEMOSS_PDU_IPV4_ASN = 7,
     HINGEMOSS_PDU_IPV6 = 6,
@@ -147,21 +153,22 @@ enum hingemoss_compared {
 
 /* ---- Codec */
 
-/* Reads the first PDU of bytes. 0: pdu has its numbers. 1 to 8: why it is not read. 9: pdu is not HINGEMOSS_PDU numbers, nothing was read. */
+/* Reads the first PDU of bytes. 9: pdu is not HINGEMOSS_PDU_NUMBERS numbers, nothing was read. 1 to 8: why it is not read. 0: pdu has its numbers. */
 uint8_t hingemoss_read(const uint8_t *bytes, size_t bytes_len, uint64_t *pdu, size_t pdu_len);
 
 /* Value i of that refusal, from 0 on; 0 where it has none, or where the PDU is read. */
 uint64_t hingemoss_read_value(const uint8_t *bytes, size_t bytes_len, size_t i);
 
-/* Encodes a PDU into out; its payloads are taken from payload. 0: written is how many bytes. 9: written is how many are needed. 8, 10, 11.
- * 22: the numbers are no PDU's. */
+/* Encodes a PDU into out; its payloads are taken from payload. Tested in this order: 22, the numbers are no PDU's; 11; 8; 10; 9, written is how many bytes are needed. 0: written is how many
+ * bytes, and those behind them stay. */
 uint8_t hingemoss_encode(const uint64_t *pdu, size_t pdu_len, const uint8_t *payload, size_t payload_len, uint8_t *out, size_t out_len, uint64_t *written);
 
 /* Walks from a PDU to the one in it while it is an Error Report. 0: level is that of the last PDU read (0 is the first), end and value say how it ended.
  * 1 to 8: why the first is not read. */
 uint8_t hingemoss_walk(const uint8_t *bytes, size_t bytes_len, uint64_t *level, uint64_t *end, uint64_t *value);
 
-/* ---- Receiver: HINGEMOSS_SESSION numbers, two rooms of HINGEMOSS_ROOM numbers and a hold. Each call tests them first (22). */
+/* ---- Receiver: HINGEMOSS_SESSION_NUMBERS numbers, two rooms of HINGEMOSS_ROOM_NUMBERS numbers and a hold. Each call but the listing tests all of
+ * them first (22). A session that is lent may hold any stop, also 1, which no call makes: it is given back as it stands. */
 
 /* A fresh receiver of version 0 or 1: session is set, both rooms are zeroed. 0. 22: a size or the version is wrong. */
 uint8_t hingemoss_start(uint8_t version, uint64_t *session, size_t session_len, uint32_t *live, size_t live_len, uint32_t *working, size_t working_len,
@@ -176,19 +183,19 @@ uint8_t hingemoss_change_ask(uint64_t *session, size_t session_len, const uint32
                              const uint8_t *hold, size_t hold_len, uint8_t *out, size_t out_len);
 
 /* Takes a piece of what the cache sent, of any length. 0: all of it was taken. 2 to 8, 12 to 19: the receiver stopped (its values are in the session),
- * taken ends with the byte that stopped it; it stops again until it is reconnected. updates counts the updates finished in this call. 22. */
+ * taken ends with the byte that stopped it; fed again it takes 0 and gives the same stop until it is reconnected. updates counts the updates finished in this call, 0 or 1. 22: taken and updates are 0. */
 uint8_t hingemoss_feed(uint64_t *session, size_t session_len, uint32_t *live, size_t live_len, uint32_t *working, size_t working_len, uint8_t *hold,
                        size_t hold_len, const uint8_t *piece, size_t piece_len, uint64_t *taken, uint64_t *updates);
 
-/* A new connection: the table stays; what was held, noted or half loaded is gone. 0 or 22. */
+/* A new connection, from any phase: the table stays; what was held, noted or half loaded is gone. 0 or 22. */
 uint8_t hingemoss_reconnect(uint64_t *session, size_t session_len, const uint32_t *live, size_t live_len, uint32_t *working, size_t working_len,
                             const uint8_t *hold, size_t hold_len);
 
-/* The last Serial Notify beside the table: 0 and answer (enum hingemoss_compared), or 22. */
+/* The last Serial Notify beside the table: 0 and compared (enum hingemoss_compared), or 22 and 0. */
 uint8_t hingemoss_notify(const uint64_t *session, size_t session_len, const uint32_t *live, size_t live_len, const uint32_t *working, size_t working_len,
-                         const uint8_t *hold, size_t hold_len, uint64_t *answer);
+                         const uint8_t *hold, size_t hold_len, uint64_t *compared);
 
-/* The stop and the table as lines of text. 0: written is how many bytes. 9: written is how many are needed. 22. */
+/* The stop and the table as lines of text. 22, which asks of the session, the live room and the table alone; 9, written is how many bytes are needed. 0: written is how many bytes. */
 uint8_t hingemoss_listing(const uint64_t *session, size_t session_len, const uint32_t *live, size_t live_len, uint8_t *out, size_t out_len, uint64_t *written);
 
 #ifdef __cplusplus

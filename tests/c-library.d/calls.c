@@ -7,13 +7,13 @@
 static int bad;
 #define EXPECT(ok) ((ok) ? (void)0 : (void)(bad = 1, printf("calls.c:%d: not so: %s\n", __LINE__, #ok)))
 
-static uint64_t session[HINGEMOSS_SESSION], before[HINGEMOSS_SESSION];
-static uint32_t live[HINGEMOSS_ROOM], working[HINGEMOSS_ROOM];
+static uint64_t session[HINGEMOSS_SESSION_NUMBERS], before[HINGEMOSS_SESSION_NUMBERS];
+static uint32_t live[HINGEMOSS_ROOM_NUMBERS], working[HINGEMOSS_ROOM_NUMBERS];
 static uint8_t hold[64], out[64];
 
-#define SESSION session, HINGEMOSS_SESSION
-#define LIVE live, HINGEMOSS_ROOM
-#define WORKING working, HINGEMOSS_ROOM
+#define SESSION session, HINGEMOSS_SESSION_NUMBERS
+#define LIVE live, HINGEMOSS_ROOM_NUMBERS
+#define WORKING working, HINGEMOSS_ROOM_NUMBERS
 #define HOLD hold, sizeof hold
 
 static const uint8_t reset_query[] = { 1, 2, 0, 0, 0, 0, 0, 8 };
@@ -27,35 +27,116 @@ static const char listing[] = "stopped=0\nsession=4660\nserial=7\nrefresh=3600\n
 
 static void codec(void)
 {
-    uint64_t pdu[HINGEMOSS_PDU], written, level, end, value;
-    EXPECT(hingemoss_read(reset_query, 8, pdu, HINGEMOSS_PDU) == HINGEMOSS_OK);
+    uint64_t pdu[HINGEMOSS_PDU_NUMBERS], written, level, end, value;
+    EXPECT(hingemoss_read(reset_query, 8, pdu, HINGEMOSS_PDU_NUMBERS) == HINGEMOSS_OK);
     EXPECT(pdu[HINGEMOSS_PDU_TYPE] == 2 && pdu[HINGEMOSS_PDU_VERSION] == 1 && pdu[HINGEMOSS_PDU_CONSUMED] == 8 && pdu[3] == 0);
-    EXPECT(hingemoss_read(reset_query, 7, pdu, HINGEMOSS_PDU) == HINGEMOSS_INCOMPLETE && pdu[HINGEMOSS_PDU_CONSUMED] == 8);
+    EXPECT(hingemoss_read(reset_query, 7, pdu, HINGEMOSS_PDU_NUMBERS) == HINGEMOSS_REFUSED_INCOMPLETE && pdu[HINGEMOSS_PDU_CONSUMED] == 8);
     EXPECT(hingemoss_read_value(reset_query, 7, 0) == 7 && hingemoss_read_value(reset_query, 7, 1) == 8 && hingemoss_read_value(reset_query, 7, 2) == 0);
-    EXPECT(hingemoss_read(reset_query, 8, pdu, HINGEMOSS_PDU - 1) == HINGEMOSS_OUTPUT_SHORT);
-    EXPECT(hingemoss_encode(pdu, HINGEMOSS_PDU, reset_query, 0, out, sizeof out, &written) == HINGEMOSS_OK && written == 8 && memcmp(out, reset_query, 8) == 0);
-    EXPECT(hingemoss_encode(pdu, HINGEMOSS_PDU, reset_query, 0, out, 7, &written) == HINGEMOSS_OUTPUT_SHORT && written == 8);
+    EXPECT(hingemoss_read(reset_query, 8, pdu, HINGEMOSS_PDU_NUMBERS - 1) == HINGEMOSS_REFUSED_OUTPUT_SHORT);
+    EXPECT(hingemoss_encode(pdu, HINGEMOSS_PDU_NUMBERS, reset_query, 0, out, sizeof out, &written) == HINGEMOSS_OK && written == 8 && memcmp(out, reset_query, 8) == 0);
+    EXPECT(hingemoss_encode(pdu, HINGEMOSS_PDU_NUMBERS, reset_query, 0, out, 7, &written) == HINGEMOSS_REFUSED_OUTPUT_SHORT && written == 8);
     pdu[HINGEMOSS_PDU_TYPE] = 5;
-    EXPECT(hingemoss_encode(pdu, HINGEMOSS_PDU, reset_query, 0, out, sizeof out, &written) == HINGEMOSS_NOT_A_RECEIVER && written == 0);
-    EXPECT(hingemoss_read(nested, sizeof nested, pdu, HINGEMOSS_PDU) == HINGEMOSS_OK && pdu[HINGEMOSS_PDU_COPY_START] == 12 && pdu[HINGEMOSS_PDU_COPY_LENGTH] == 8);
-    EXPECT(hingemoss_encode(pdu, HINGEMOSS_PDU, nested, sizeof nested, out, sizeof out, &written) == HINGEMOSS_OK && written == 24 && memcmp(out, nested, 24) == 0);
-    EXPECT(hingemoss_encode(pdu, HINGEMOSS_PDU, nested, 12, out, sizeof out, &written) == HINGEMOSS_PLACE && written == 0);
+    EXPECT(hingemoss_encode(pdu, HINGEMOSS_PDU_NUMBERS, reset_query, 0, out, sizeof out, &written) == HINGEMOSS_REFUSED_NOT_A_RECEIVER && written == 0);
+    EXPECT(hingemoss_read(nested, sizeof nested, pdu, HINGEMOSS_PDU_NUMBERS) == HINGEMOSS_OK && pdu[HINGEMOSS_PDU_COPY_START] == 12 && pdu[HINGEMOSS_PDU_COPY_LENGTH] == 8);
+    EXPECT(hingemoss_encode(pdu, HINGEMOSS_PDU_NUMBERS, nested, sizeof nested, out, sizeof out, &written) == HINGEMOSS_OK && written == 24 && memcmp(out, nested, 24) == 0);
+    EXPECT(hingemoss_encode(pdu, HINGEMOSS_PDU_NUMBERS, nested, 12, out, sizeof out, &written) == HINGEMOSS_REFUSED_PLACE && written == 0);
     EXPECT(hingemoss_walk(nested, sizeof nested, &level, &end, &value) == HINGEMOSS_OK && level == 1 && end == HINGEMOSS_END_PLAIN && value == 2);
-    EXPECT(hingemoss_walk(nested, 3, &level, &end, &value) == HINGEMOSS_INCOMPLETE && level == 0 && end == 0 && value == 0);
+    EXPECT(hingemoss_walk(nested, 3, &level, &end, &value) == HINGEMOSS_REFUSED_INCOMPLETE && level == 0 && end == 0 && value == 0);
+}
+
+/* One PDU of each type with fields of their own, by the header's names. */
+static void fields(void)
+{
+    static const uint8_t notify[] = { 0, 0, 1, 2, 0, 0, 0, 12, 3, 4, 5, 6 }, query[] = { 1, 1, 1, 2, 0, 0, 0, 12, 3, 4, 5, 6 };
+    static const uint8_t response[] = { 1, 3, 1, 2, 0, 0, 0, 8 }, reset[] = { 1, 8, 0, 0, 0, 0, 0, 8 };
+    static const uint8_t ipv4[] = { 1, 4, 0, 0, 0, 0, 0, 20, 1, 8, 9, 0, 10, 11, 12, 13, 14, 15, 16, 17 };
+    static const uint8_t ipv6[] = { 1, 6, 0, 0, 0, 0, 0, 32, 1, 8, 9, 0, 0, 0, 0, 1, 0, 0, 0, 2, 0, 0, 0, 3, 0, 0, 0, 4, 0, 0, 0, 5 };
+    static const uint8_t end[] = { 1, 7, 1, 2, 0, 0, 0, 24, 0, 0, 0, 3, 0, 0, 0, 4, 0, 0, 0, 5, 0, 0, 0, 6 };
+    uint8_t key[40] = { 1, 9, 0, 0, 0, 0, 0, 40, 1 }, report[27] = { 1, 10, 0, 2, 0, 0, 0, 27, 0, 0, 0, 8, 1, 2, 0, 0, 0, 0, 0, 8, 0, 0, 0, 3, 'a', 'b', 'c' };
+    uint64_t pdu[HINGEMOSS_PDU_NUMBERS];
+    key[33] = 7;
+#define READS(bytes) (hingemoss_read(bytes, sizeof bytes, pdu, HINGEMOSS_PDU_NUMBERS) == HINGEMOSS_OK && pdu[HINGEMOSS_PDU_CONSUMED] == sizeof bytes)
+    EXPECT(READS(notify) && pdu[HINGEMOSS_PDU_TYPE] == 0 && pdu[HINGEMOSS_PDU_VERSION] == 0 && pdu[HINGEMOSS_PDU_SESSION_ID] == 0x102 && pdu[HINGEMOSS_PDU_SERIAL] == 0x3040506);
+    EXPECT(READS(query) && pdu[HINGEMOSS_PDU_TYPE] == 1 && pdu[HINGEMOSS_PDU_SESSION_ID] == 0x102 && pdu[HINGEMOSS_PDU_SERIAL] == 0x3040506);
+    EXPECT(READS(response) && pdu[HINGEMOSS_PDU_TYPE] == 3 && pdu[HINGEMOSS_PDU_SESSION_ID] == 0x102);
+    EXPECT(READS(reset) && pdu[HINGEMOSS_PDU_TYPE] == 8);
+    EXPECT(READS(ipv4) && pdu[HINGEMOSS_PDU_FLAGS] == 1 && pdu[HINGEMOSS_PDU_PREFIX_LENGTH] == 8 && pdu[HINGEMOSS_PDU_MAX_LENGTH] == 9 && pdu[HINGEMOSS_PDU_IPV4] == 0x0a0b0c0d && pdu[HINGEMOSS_PDU_IPV4_ASN] == 0x0e0f1011);
+    EXPECT(READS(ipv6) && pdu[HINGEMOSS_PDU_FLAGS] == 1 && pdu[HINGEMOSS_PDU_PREFIX_LENGTH] == 8 && pdu[HINGEMOSS_PDU_MAX_LENGTH] == 9);
+    EXPECT(pdu[HINGEMOSS_PDU_IPV6] == 1 && pdu[HINGEMOSS_PDU_IPV6 + 1] == 2 && pdu[HINGEMOSS_PDU_IPV6 + 2] == 3 && pdu[HINGEMOSS_PDU_IPV6 + 3] == 4 && pdu[HINGEMOSS_PDU_IPV6_ASN] == 5);
+    EXPECT(READS(end) && pdu[HINGEMOSS_PDU_SERIAL] == 3 && pdu[HINGEMOSS_PDU_REFRESH] == 4 && pdu[HINGEMOSS_PDU_RETRY] == 5 && pdu[HINGEMOSS_PDU_EXPIRE] == 6);
+    EXPECT(READS(key) && pdu[HINGEMOSS_PDU_FLAGS] == 1 && pdu[HINGEMOSS_PDU_KEY_START] == 10 && pdu[HINGEMOSS_PDU_KEY_LENGTH] == 20 && pdu[HINGEMOSS_PDU_KEY_ASN] == 7);
+    EXPECT(pdu[HINGEMOSS_PDU_INFO_START] == 34 && pdu[HINGEMOSS_PDU_INFO_LENGTH] == 6);
+    EXPECT(READS(report) && pdu[HINGEMOSS_PDU_CODE] == 2 && pdu[HINGEMOSS_PDU_COPY_START] == 12 && pdu[HINGEMOSS_PDU_COPY_LENGTH] == 8 && pdu[HINGEMOSS_PDU_TEXT_START] == 24 && pdu[HINGEMOSS_PDU_TEXT_LENGTH] == 3);
+}
+
+/* Each end of a walk. */
+static void ends(void)
+{
+    static const uint8_t empty[] = { 1, 10, 0, 0, 0, 0, 0, 16, 0, 0, 0, 0, 0, 0, 0, 0 };
+    static const uint8_t cut[] = { 1, 10, 0, 0, 0, 0, 0, 17, 0, 0, 0, 1, 1, 0, 0, 0, 0 };
+    static uint8_t deep[8 * 1024];
+    uint64_t level, end, value;
+    uint32_t length = 8;
+    EXPECT(hingemoss_walk(empty, sizeof empty, &level, &end, &value) == HINGEMOSS_OK && level == 0 && end == HINGEMOSS_END_EMPTY && value == 0);
+    EXPECT(hingemoss_walk(cut, sizeof cut, &level, &end, &value) == HINGEMOSS_OK && level == 0 && end == HINGEMOSS_END_REFUSED && value == HINGEMOSS_REFUSED_INCOMPLETE);
+    memcpy(deep, reset_query, 8);
+    for (int i = 0; i < 18; i++, length += 16) {
+        memmove(deep + 12, deep, length);
+        memset(deep, 0, 12);
+        deep[0] = 1, deep[1] = 10, deep[6] = (uint8_t)((length + 16) >> 8), deep[7] = (uint8_t)(length + 16);
+        deep[10] = (uint8_t)(length >> 8), deep[11] = (uint8_t)length;
+        memset(deep + 12 + length, 0, 4);
+    }
+    EXPECT(hingemoss_walk(deep, length, &level, &end, &value) == HINGEMOSS_OK && level == 16 && end == HINGEMOSS_END_TOO_DEEP && value == 0);
+}
+
+/* A stop's number and values in the session, and every comparison. */
+static void stops(void)
+{
+    static const uint8_t long_one[] = { 1, 3, 0, 0, 0, 0, 0, 7 }, over_hold[] = { 1, 9, 0, 0, 0, 0, 1, 0 };
+    static const uint8_t bad_lengths[] = { 1, 4, 0, 0, 0, 0, 0, 20, 1, 9, 8, 0, 0, 0, 0, 0, 0, 0, 0, 0 };
+    static const uint8_t report[] = { 0, 10, 0, 3, 0, 0, 0, 16, 0, 0, 0, 0, 0, 0, 0, 0 };
+    static const uint32_t serials[] = { 7, 8, 6, 7 + 0x80000000u };
+    static const uint64_t compared[] = { HINGEMOSS_NOTED_SAME, HINGEMOSS_NOTED_NEWER, HINGEMOSS_NOTED_OLDER, HINGEMOSS_NOTED_UNDEFINED };
+    uint64_t taken, updates, answer;
+    EXPECT(hingemoss_start(1, SESSION, LIVE, WORKING, HOLD) == HINGEMOSS_OK);
+#define STOPS(bytes, number, a, b, c) (hingemoss_feed(SESSION, LIVE, WORKING, HOLD, bytes, sizeof bytes, &taken, &updates) == (number) && session[HINGEMOSS_SESSION_DETAIL] == (number) \
+    && session[HINGEMOSS_SESSION_FIRST] == (a) && session[HINGEMOSS_SESSION_SECOND] == (b) && session[HINGEMOSS_SESSION_THIRD] == (c) && hingemoss_reconnect(SESSION, LIVE, WORKING, HOLD) == HINGEMOSS_OK)
+    EXPECT(STOPS(long_one, HINGEMOSS_REFUSED_LENGTH, 8, 7, 3));
+    EXPECT(STOPS(over_hold, HINGEMOSS_REFUSED_OVER_HOLD, 256, 0, 0));
+    EXPECT(STOPS(bad_lengths, HINGEMOSS_REFUSED_PREFIX_LENGTH, 9, 8, 32));
+    EXPECT(STOPS(report, HINGEMOSS_REFUSED_ERROR_REPORT, 3, 0, 0));
+    EXPECT(STOPS(load, HINGEMOSS_REFUSED_OUT_OF_TURN, 0, 0, 0));
+    EXPECT(hingemoss_full_ask(SESSION, LIVE, WORKING, HOLD, out, HINGEMOSS_FULL_QUERY) == HINGEMOSS_OK);
+    EXPECT(hingemoss_feed(SESSION, LIVE, WORKING, HOLD, load, sizeof load, &taken, &updates) == HINGEMOSS_OK && updates == 1);
+    EXPECT(session[HINGEMOSS_SESSION_ID] == 0x1234 && session[HINGEMOSS_SESSION_REFRESH] == 3600 && session[HINGEMOSS_SESSION_RETRY] == 600 && session[HINGEMOSS_SESSION_EXPIRE] == 7200);
+    for (int i = 0; i < 4; i++) {
+        uint8_t note[12];
+        memcpy(note, newer, 12);
+        note[8] = (uint8_t)(serials[i] >> 24), note[11] = (uint8_t)serials[i];
+        EXPECT(hingemoss_feed(SESSION, LIVE, WORKING, HOLD, note, 12, &taken, &updates) == HINGEMOSS_OK);
+        EXPECT(session[HINGEMOSS_SESSION_NOTE] == 1 && session[HINGEMOSS_SESSION_NOTE_ID] == 0x1234 && session[HINGEMOSS_SESSION_NOTE_SERIAL] == serials[i]);
+        EXPECT(hingemoss_notify(SESSION, LIVE, WORKING, HOLD, &answer) == HINGEMOSS_OK && answer == compared[i]);
+    }
+    session[HINGEMOSS_SESSION_NOTE_ID] = 1;
+    EXPECT(hingemoss_notify(SESSION, LIVE, WORKING, HOLD, &answer) == HINGEMOSS_OK && answer == HINGEMOSS_NOTED_OTHER_SESSION);
+    EXPECT(hingemoss_change_ask(SESSION, LIVE, WORKING, HOLD, out, HINGEMOSS_CHANGE_QUERY) == HINGEMOSS_OK && session[HINGEMOSS_SESSION_PHASE] == HINGEMOSS_ASKED_CHANGE);
+    EXPECT(hingemoss_feed(SESSION, LIVE, WORKING, HOLD, load, 8, &taken, &updates) == HINGEMOSS_OK && session[HINGEMOSS_SESSION_PHASE] == HINGEMOSS_LOADING_CHANGE);
+    EXPECT(session[HINGEMOSS_SESSION_WORKING] == 1 && hingemoss_reconnect(SESSION, LIVE, WORKING, HOLD) == HINGEMOSS_OK && session[HINGEMOSS_SESSION_WORKING] == 0);
 }
 
 static void receiver(void)
 {
     uint64_t taken, updates, answer, written;
     uint8_t text[256];
-    EXPECT(hingemoss_start(2, SESSION, LIVE, WORKING, HOLD) == HINGEMOSS_NOT_A_RECEIVER);
-    EXPECT(hingemoss_start(1, SESSION, LIVE, WORKING, hold, HINGEMOSS_HOLD_LEAST - 1) == HINGEMOSS_NOT_A_RECEIVER);
+    EXPECT(hingemoss_start(2, SESSION, LIVE, WORKING, HOLD) == HINGEMOSS_REFUSED_NOT_A_RECEIVER);
+    EXPECT(hingemoss_start(1, SESSION, LIVE, WORKING, hold, HINGEMOSS_HOLD_LEAST - 1) == HINGEMOSS_REFUSED_NOT_A_RECEIVER);
     EXPECT(hingemoss_start(1, SESSION, LIVE, WORKING, HOLD) == HINGEMOSS_OK && session[HINGEMOSS_SESSION_VERSION] == 1);
-    EXPECT(hingemoss_change_ask(SESSION, LIVE, WORKING, HOLD, out, sizeof out) == HINGEMOSS_NO_TABLE);
-    EXPECT(hingemoss_full_ask(SESSION, LIVE, WORKING, HOLD, out, 7) == HINGEMOSS_OUTPUT_SHORT && session[HINGEMOSS_SESSION_PHASE] == HINGEMOSS_IDLE);
+    EXPECT(hingemoss_change_ask(SESSION, LIVE, WORKING, HOLD, out, sizeof out) == HINGEMOSS_REFUSED_NO_TABLE);
+    EXPECT(hingemoss_full_ask(SESSION, LIVE, WORKING, HOLD, out, 7) == HINGEMOSS_REFUSED_OUTPUT_SHORT && session[HINGEMOSS_SESSION_PHASE] == HINGEMOSS_IDLE);
     EXPECT(hingemoss_full_ask(SESSION, LIVE, WORKING, HOLD, out, sizeof out) == HINGEMOSS_OK && memcmp(out, reset_query, 8) == 0);
     EXPECT(session[HINGEMOSS_SESSION_PHASE] == HINGEMOSS_ASKED_FULL);
-    EXPECT(hingemoss_full_ask(SESSION, LIVE, WORKING, HOLD, out, sizeof out) == HINGEMOSS_WRONG_PHASE);
+    EXPECT(hingemoss_full_ask(SESSION, LIVE, WORKING, HOLD, out, sizeof out) == HINGEMOSS_REFUSED_WRONG_PHASE);
 
     EXPECT(hingemoss_feed(SESSION, LIVE, WORKING, HOLD, load, sizeof load - 1, &taken, &updates) == HINGEMOSS_OK && taken == sizeof load - 1 && updates == 0);
     EXPECT(session[HINGEMOSS_SESSION_PHASE] == HINGEMOSS_LOADING_FULL && session[HINGEMOSS_SESSION_DETAIL] == 0x1234 && session[HINGEMOSS_SESSION_HELD] == 23);
@@ -67,30 +148,33 @@ static void receiver(void)
     EXPECT(hingemoss_feed(SESSION, LIVE, WORKING, HOLD, newer, sizeof newer, &taken, &updates) == HINGEMOSS_OK && updates == 0);
     EXPECT(hingemoss_notify(SESSION, LIVE, WORKING, HOLD, &answer) == HINGEMOSS_OK && answer == HINGEMOSS_NOTED_NEWER);
     EXPECT(hingemoss_listing(SESSION, LIVE, text, sizeof text, &written) == HINGEMOSS_OK && written == sizeof listing - 1 && memcmp(text, listing, written) == 0);
-    EXPECT(hingemoss_listing(SESSION, LIVE, text, 8, &written) == HINGEMOSS_OUTPUT_SHORT && written == sizeof listing - 1);
+    EXPECT(hingemoss_listing(SESSION, LIVE, text, 8, &written) == HINGEMOSS_REFUSED_OUTPUT_SHORT && written == sizeof listing - 1);
 
     EXPECT(hingemoss_change_ask(SESSION, LIVE, WORKING, HOLD, out, sizeof out) == HINGEMOSS_OK && out[1] == 1 && out[11] == 7);
-    EXPECT(hingemoss_feed(SESSION, LIVE, WORKING, HOLD, other_version, 8, &taken, &updates) == HINGEMOSS_OTHER_VERSION && taken == 8 && updates == 0);
-    EXPECT(session[HINGEMOSS_SESSION_PHASE] == HINGEMOSS_STOPPED && session[HINGEMOSS_SESSION_DETAIL] == HINGEMOSS_OTHER_VERSION);
-    EXPECT(hingemoss_feed(SESSION, LIVE, WORKING, HOLD, load, 8, &taken, &updates) == HINGEMOSS_OTHER_VERSION && taken == 0);
+    EXPECT(hingemoss_feed(SESSION, LIVE, WORKING, HOLD, other_version, 8, &taken, &updates) == HINGEMOSS_REFUSED_OTHER_VERSION && taken == 8 && updates == 0);
+    EXPECT(session[HINGEMOSS_SESSION_PHASE] == HINGEMOSS_STOPPED && session[HINGEMOSS_SESSION_DETAIL] == HINGEMOSS_REFUSED_OTHER_VERSION);
+    EXPECT(hingemoss_feed(SESSION, LIVE, WORKING, HOLD, load, 8, &taken, &updates) == HINGEMOSS_REFUSED_OTHER_VERSION && taken == 0);
     EXPECT(hingemoss_reconnect(SESSION, LIVE, WORKING, HOLD) == HINGEMOSS_OK);
     EXPECT(session[HINGEMOSS_SESSION_PHASE] == HINGEMOSS_IDLE && session[HINGEMOSS_SESSION_TABLE] == 1 && session[HINGEMOSS_SESSION_NOTE] == 0);
 
     /* Numbers that are no session's: 22, and nothing changes. */
     session[HINGEMOSS_SESSION_FIRST] = 1;
     memcpy(before, session, sizeof before);
-    EXPECT(hingemoss_feed(SESSION, LIVE, WORKING, HOLD, load, sizeof load, &taken, &updates) == HINGEMOSS_NOT_A_RECEIVER && taken == 0 && updates == 0);
-    EXPECT(hingemoss_full_ask(SESSION, LIVE, WORKING, HOLD, out, sizeof out) == HINGEMOSS_NOT_A_RECEIVER);
-    EXPECT(hingemoss_change_ask(SESSION, LIVE, WORKING, HOLD, out, sizeof out) == HINGEMOSS_NOT_A_RECEIVER);
-    EXPECT(hingemoss_reconnect(SESSION, LIVE, WORKING, HOLD) == HINGEMOSS_NOT_A_RECEIVER);
-    EXPECT(hingemoss_notify(SESSION, LIVE, WORKING, HOLD, &answer) == HINGEMOSS_NOT_A_RECEIVER && answer == 0);
-    EXPECT(hingemoss_listing(SESSION, LIVE, text, sizeof text, &written) == HINGEMOSS_NOT_A_RECEIVER && written == 0);
+    EXPECT(hingemoss_feed(SESSION, LIVE, WORKING, HOLD, load, sizeof load, &taken, &updates) == HINGEMOSS_REFUSED_NOT_A_RECEIVER && taken == 0 && updates == 0);
+    EXPECT(hingemoss_full_ask(SESSION, LIVE, WORKING, HOLD, out, sizeof out) == HINGEMOSS_REFUSED_NOT_A_RECEIVER);
+    EXPECT(hingemoss_change_ask(SESSION, LIVE, WORKING, HOLD, out, sizeof out) == HINGEMOSS_REFUSED_NOT_A_RECEIVER);
+    EXPECT(hingemoss_reconnect(SESSION, LIVE, WORKING, HOLD) == HINGEMOSS_REFUSED_NOT_A_RECEIVER);
+    EXPECT(hingemoss_notify(SESSION, LIVE, WORKING, HOLD, &answer) == HINGEMOSS_REFUSED_NOT_A_RECEIVER && answer == 0);
+    EXPECT(hingemoss_listing(SESSION, LIVE, text, sizeof text, &written) == HINGEMOSS_REFUSED_NOT_A_RECEIVER && written == 0);
     EXPECT(memcmp(before, session, sizeof before) == 0);
 }
 
 int main(void)
 {
     codec();
+    fields();
+    ends();
+    stops();
     receiver();
     puts(bad ? "calls: not all as expected" : "calls: all as expected");
     return bad;

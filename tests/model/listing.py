@@ -63,6 +63,8 @@ def inputs():
     yield "1025-records", loaded([ipv4(n, 24, 24, n) for n in range(1025)])
     yield "10-records", loaded([ipv4(n, 24, 24, n) for n in range(10)])
     yield "999-records", loaded([ipv4(n, 24, 24, n) for n in range(999)])
+    key = header(9, 0, 8192) + bytes(8184)
+    yield "a-pdu-that-fills-the-hold", cache_response(4660) + key + loaded([ipv4(0xC0000200, 24, 24, 64496)])[8:]
     yield "half-a-pdu-behind-a-table", example + cache_response(4660)[:5]
     # stops: before there is a table, and with the table as it stands
     yield "stop-in-the-first-update", cache_response(1) + ipv4(1, 8, 8, 1) + header(3, 1, 8, 9)

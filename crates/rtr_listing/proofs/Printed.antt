@@ -1,5 +1,5 @@
 -- What is printed follows from the history of calls (rtr_receiver's `history`): behind the stop's line stands the table that the finished updates make,
--- however the bytes were cut. Document 01's input is printed as document 01's output. Assumes nothing.
+-- however the bytes were cut. Behind that line document 01's input is printed as document 01's output; the line itself is the phase's, which the history leaves open. Assumes nothing.
 use Prim.Native.Nat.{ℕ, _≤_}
 use mathlib.Core.List.{List, [], _∷_, _++_, append-assoc}
 use mathlib.Core.Path.{_≡_, sym, ap, _∙_}
@@ -58,7 +58,7 @@ listed-without-update limit H v calls m run none =
     ∙ listing-of-none s
     ∙ ap (λ (b : List ℕ). stopLine m ++ b) (no-table-lines (s .table) (s .live) table)
 
--- the history of document 01's example: a full ask, and the input up to the End of Data's bytes that are given
+-- the history of document 01's example: a full ask with 32 bytes for its query, and the input up to the End of Data's bytes that are given
 abbrev exampleWith : List ℕ → List Event
 exampleWith end = Event.ask LoadKind.Full 32 ∷ (bytes responseBytes ++ (bytes (prefixBytes 1) ++ bytes end))
 
