@@ -7,9 +7,10 @@ use Rattle.rtr_receiver.specs.Promises.{isReceiver, fullAskSays, changeAskSays}
 use Rattle.rtr_receiver.proofs.Laws.{refused-keeps-feed}
 use Rattle.rtr_receiver.specs.declared.Session.{Session}
 use Rattle.rtr_numbers.specs.Numbers.{sessionNumbers}
-use Rattle.rtr_numbers.specs.Back.{sessionOf, pduOf}
+use Rattle.rtr_numbers.specs.Back.{sessionOf}
+use Rattle.rtr_pdu_numbers.specs.Back.{pduOf}
 use Rattle.rtr_numbers.specs.declared.SessionFound.{SessionFound}
-use Rattle.rtr_numbers.specs.declared.PduFound.{PduFound}
+use Rattle.rtr_pdu_numbers.specs.declared.PduFound.{PduFound}
 use Rattle.rtr_numbers.proofs.Laws.{numbers-of-session}
 use Rattle.rtr_c.specs.Calls.{askGives, askFound, fullAskC, changeAskC, feedGives, feedLeft, feedFound, feedC, reconnectGives, reconnectFound, reconnectC, notifyGives, notifyFound, notifyC, encodeGives, encodeFound, encodeC, listingFound, listingC}
 

@@ -35,10 +35,12 @@ use Rattle.rtr_receiver.specs.declared.FeedAnswer.{FeedAnswer}
 use Rattle.rtr_receiver.specs.declared.Fed.{Fed}
 use Rattle.rtr_receiver.specs.declared.Reconnected.{Reconnected}
 use Rattle.rtr_receiver.specs.declared.NotifyAnswer.{NotifyAnswer}
-use Rattle.rtr_numbers.specs.Numbers.{sessionNumbers, pduNumbers}
-use Rattle.rtr_numbers.specs.Back.{sessionOf, pduOf}
+use Rattle.rtr_numbers.specs.Numbers.{sessionNumbers}
+use Rattle.rtr_pdu_numbers.specs.Numbers.{pduNumbers}
+use Rattle.rtr_numbers.specs.Back.{sessionOf}
+use Rattle.rtr_pdu_numbers.specs.Back.{pduOf}
 use Rattle.rtr_numbers.specs.declared.SessionFound.{SessionFound}
-use Rattle.rtr_numbers.specs.declared.PduFound.{PduFound}
+use Rattle.rtr_pdu_numbers.specs.declared.PduFound.{PduFound}
 use Rattle.rtr_numbers.proofs.Laws.{session-held, session-of-length}
 use Rattle.rtr_c.specs.Calls.{amountOf, endNumber, endValue, heldOf, feedNumber, notifyNumber, notifyCompared, readGives, readLeft, readC, encodeGives, encodeLeft, encodeFound, encodeC, listingFound, listingC, walkGives, walkLeft, walkC, startGives, startLeft, startFound, startC, askGives, askLeft, askFound, FeedLeft, feedGives, feedLeft, feedFound, feedC, reconnectGives, reconnectLeft, reconnectFound, reconnectC, notifyGives, notifyLeft, notifyFound, notifyC}
 

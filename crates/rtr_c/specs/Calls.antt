@@ -20,10 +20,12 @@ use Rattle.rtr_receiver.specs.Promises.{Ending, FeedSays, StartSays, AskSays, R
 use Rattle.rtr_receiver.specs.declared.Session.{Session}
 use Rattle.rtr_receiver.specs.declared.FeedAnswer.{FeedAnswer}
 use Rattle.rtr_receiver.specs.declared.NotifyAnswer.{NotifyAnswer}
-use Rattle.rtr_numbers.specs.Numbers.{leftNumbers, pduNumbers}
-use Rattle.rtr_numbers.specs.Back.{sessionOf, pduOf}
+use Rattle.rtr_numbers.specs.Numbers.{leftNumbers}
+use Rattle.rtr_pdu_numbers.specs.Numbers.{pduNumbers}
+use Rattle.rtr_numbers.specs.Back.{sessionOf}
+use Rattle.rtr_pdu_numbers.specs.Back.{pduOf}
 use Rattle.rtr_numbers.specs.declared.SessionFound.{SessionFound}
-use Rattle.rtr_numbers.specs.declared.PduFound.{PduFound}
+use Rattle.rtr_pdu_numbers.specs.declared.PduFound.{PduFound}
 
 -- ---- read: 9 where not 12 numbers are lent, else 0 and the PDU's numbers, or the refusal and the numbers as they were
 pub record ReadLeft : Type 0 where

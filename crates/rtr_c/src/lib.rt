@@ -6,8 +6,8 @@ use rtr_encode::EncodeError;
 use rtr_listing::ListAnswer;
 use rtr_listing::ListError;
 use rtr_models::*;
-use rtr_numbers::PduFound;
 use rtr_numbers::SessionFound;
+use rtr_pdu_numbers::PduFound;
 use rtr_receiver::AskAnswer;
 use rtr_receiver::AskError;
 use rtr_receiver::FeedAnswer;
@@ -163,13 +163,13 @@ fn notify_compared(answer: NotifyAnswer) -> u64
 pub extern "C" fn hingemoss_read(bytes: &[u8], pdu: &mut [u64]) -> u8
     ensures { λ r. ⌜ readGives r (now (pdu .exit)) ≡ readC (now (bytes .entry)) (now (pdu .entry)) ⌝ }
 {
-    if pdu.len() != rtr_numbers::PDU_NUMBERS {
+    if pdu.len() != rtr_pdu_numbers::PDU_NUMBERS {
         return 9;
     }
     let answer = rtr_codec::parse_rtr_pdu(bytes);
     match answer {
         ReadAnswer::Read(value, consumed) => {
-            rtr_numbers::put_pdu(value, consumed, pdu);
+            rtr_pdu_numbers::put_pdu(value, consumed, pdu);
             0
         }
         ReadAnswer::Refused(error) => error.number(),
@@ -198,7 +198,7 @@ pub extern "C" fn hingemoss_encode(
 ) -> u8
     ensures { λ r. ⌜ encodeGives r (now (written .exit)) (now (out .exit)) ≡ encodeC (now (pdu .entry)) (now (payload .entry)) (now (out .entry)) ⌝ }
 {
-    let found = rtr_numbers::pdu_of(pdu);
+    let found = rtr_pdu_numbers::pdu_of(pdu);
     match found {
         PduFound::Known(value, _) => {
             let answer = rtr_encode::encode(value, payload, out);

@@ -1,8 +1,8 @@
--- `Laws` and `Unique` are for readers and other crates; the others are the argument.
-mod Lists
+-- `Laws` and `Unique` are for readers and other crates; `Lists` and `Guesses` are what rtr_pdu_numbers shares; the others are the argument.
+pub mod Lists
+pub mod Guesses
 mod Founds
 mod Sessions
-mod Pdus
 mod Values
 pub mod Laws
 pub mod Unique

@@ -1,6 +1,6 @@
 -- `alike` decides whether two lists are one, and a loop that copies a list over one of its length leaves that list. Assumes nothing.
 use Prim.Native.Nat.{ℕ, suc, _+_, _<_}
-use mathlib.Core.Bool.{Bool, true, false, _&&_}
+use mathlib.Core.Bool.{Bool, true, false, cond, _&&_}
 use mathlib.Core.List.{List, [], _∷_, _++_, append-nil}
 use mathlib.Core.Path.{_≡_, refl, sym, ap, _∙_}
 use native.Mathlib.Numerals.{add-one}
@@ -59,3 +59,13 @@ stored-whole d s i cur e p q =
     ∙ ap (λ (k : ℕ). s ++ drop k d) q
     ∙ ap (λ (x : List ℕ). s ++ x) (drop-length d)
     ∙ append-nil s
+
+-- what was said is set where there are as many numbers as it has
+pub put-said : (n said y x : List ℕ) (k : ℕ) (r : Bool) →
+    (r ≡ eqb (length n) (length said)) × (x ≡ cond (eqb (length n) (length said)) said n) →
+    said ≡ y →
+    length y ≡ k →
+    (r ≡ eqb (length n) k) × (x ≡ cond (eqb (length n) k) y n)
+put-said n said y x k r e p q =
+    let long : length said ≡ k = ap length p ∙ q in
+    (e .0 ∙ ap (eqb (length n)) long, e .1 ∙ (λ i. cond (eqb (length n) (long i)) (p i) n))

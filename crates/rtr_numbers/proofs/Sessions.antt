@@ -1,16 +1,12 @@
 -- A session whose numbers fit is guessed from its numbers, and a guess always fits. Assumes nothing.
 use Prim.Native.Nat.{ℕ, _%_, _<_}
-use mathlib.Core.Bool.{Bool, true, false, cond}
 use mathlib.Core.List.{List}
 use mathlib.Core.Path.{_≡_, refl, ap}
 use native.Mathlib.Omega.{arith}
 use lib.Dec.{eqb}
 use lib.ListN.{getD}
-use Rattle.rtr_models.specs.Codes.{versionNumber, codeNumber}
 use Rattle.rtr_models.specs.declared.RtrProtocolVersion.{RtrProtocolVersion}
-use Rattle.rtr_models.specs.declared.RtrProtocolVersion.the-variants.{V0, V1}
 use Rattle.rtr_models.specs.declared.RtrErrorCode.{RtrErrorCode}
-use Rattle.rtr_models.specs.declared.RtrErrorCode.the-variants.{CorruptData, InternalError, NoDataAvailable, InvalidRequest, UnsupportedProtocolVersion, UnsupportedPduType, WithdrawalOfUnknownRecord, DuplicateAnnouncementReceived, UnexpectedProtocolVersion}
 use Rattle.rtr_codec.specs.declared.RtrError.{RtrError}
 use Rattle.rtr_codec.specs.declared.RtrError.the-variants.{IncompletePdu, InvalidProtocolVersion, InvalidPduType, InvalidLength, RouterKeyInV0, InvalidPrefixLength, InvalidErrorCode, InvalidUtf8}
 use Rattle.rtr_stream.specs.declared.StreamError.{StreamError}
@@ -22,23 +18,9 @@ use Rattle.rtr_receiver.specs.declared.LiveTable.{LiveTable}
 use Rattle.rtr_receiver.specs.declared.Note.{Note}
 use Rattle.rtr_receiver.specs.declared.Session.{Session}
 use Rattle.rtr_numbers.specs.Numbers.{numbersOf, sessionNumbers}
-use Rattle.rtr_numbers.specs.Back.{looseVersion, looseCode, looseError, looseStop, loosePhase, looseTable, looseNote, looseSession}
+use Rattle.rtr_numbers.specs.Back.{looseError, looseStop, loosePhase, looseTable, looseNote, looseSession}
+use Rattle.rtr_numbers.proofs.Guesses.{version-back, code-back, either-way}
 use Rattle.rtr_numbers.specs.Ranges.{ErrorFits, StopFits, PhaseFits, TableFits, NoteFits, SessionFits}
-
-pub version-back : (v : RtrProtocolVersion) → looseVersion (versionNumber v) ≡ v
-version-back V0 = refl
-version-back V1 = refl
-
-pub code-back : (c : RtrErrorCode) → looseCode (codeNumber c) ≡ c
-code-back CorruptData = refl
-code-back InternalError = refl
-code-back NoDataAvailable = refl
-code-back InvalidRequest = refl
-code-back UnsupportedProtocolVersion = refl
-code-back UnsupportedPduType = refl
-code-back WithdrawalOfUnknownRecord = refl
-code-back DuplicateAnnouncementReceived = refl
-code-back UnexpectedProtocolVersion = refl
 
 -- ---- Back from numbers
 
@@ -110,11 +92,6 @@ session-back s h =
     λ i. record { version = version i; phase = phase i; table = table i; note = note i; live = s .live; working = s .working; held = s .held }
 
 -- ---- A guess fits
-
--- what holds of both holds of the one that a test picks
-pub either-way : {A : Type 0} (P : A → Type 0) (b : Bool) (x y : A) → P x → P y → P (cond b x y)
-either-way P true x y p q = p
-either-way P false x y p q = q
 
 error-fits : (k a b c : ℕ) → ErrorFits (looseError k a b c)
 unfolding looseError

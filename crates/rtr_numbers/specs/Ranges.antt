@@ -1,11 +1,6 @@
 -- What a value of a Rattle type always has: each number fits its type (8, 16 or 32 bits; a `usize` has the 64 bits that a number here has).
 -- Such values come back from their numbers: proofs/Laws.antt.
 use Prim.Native.Nat.{ℕ, _<_}
-use Rattle.rtr_models.specs.declared.Interval.{Interval}
-use Rattle.rtr_models.specs.declared.RtrProtocolVersion.{RtrProtocolVersion}
-use Rattle.rtr_models.specs.declared.RtrProtocolVersion.the-variants.{V0, V1}
-use Rattle.rtr_models.specs.declared.RtrPdu.{RtrPdu}
-use Rattle.rtr_models.specs.declared.RtrPdu.the-variants.{SerialNotify, SerialQuery, ResetQuery, CacheResponse, IPv4Prefix, IPv6Prefix, EndOfData, CacheReset, RouterKey, ErrorReport}
 use Rattle.rtr_codec.specs.declared.RtrError.{RtrError}
 use Rattle.rtr_codec.specs.declared.RtrError.the-variants.{IncompletePdu, InvalidProtocolVersion, InvalidPduType, InvalidLength, RouterKeyInV0, InvalidPrefixLength, InvalidErrorCode, InvalidUtf8}
 use Rattle.rtr_stream.specs.declared.StreamError.{StreamError}
@@ -24,8 +19,6 @@ Fits16 n = n < 65536
 
 abbrev pub Fits32 : ℕ → Type 0
 Fits32 n = n < 4294967296
-
--- ---- A session
 
 -- a refusal's values
 abbrev pub ErrorFits : RtrError → Type 0
@@ -74,38 +67,3 @@ pub record SessionFits (s : Session) : Type 0 where
   pub phase : PhaseFits (s .phase)
   pub table : TableFits (s .table)
   pub note : NoteFits (s .note)
-
--- ---- A PDU
-
--- an interval of an End of Data: none in version 0, one in version 1 (a value that mixes them has the numbers of another)
-abbrev pub IntervalFits : RtrProtocolVersion → Interval → Type 0
-IntervalFits V0 Interval.Absent = Unit
-IntervalFits V0 (Interval.Seconds n) = ⊥
-IntervalFits V1 Interval.Absent = ⊥
-IntervalFits V1 (Interval.Seconds n) = Fits32 n
-
--- a PDU whose numbers fit, and whose intervals are those of its version
-abbrev pub PduFits : RtrPdu → Type 0
-PduFits (SerialNotify p) = Fits16 (p .«session_id») × Fits32 (p .«serial_number»)
-PduFits (SerialQuery p) = Fits16 (p .«session_id») × Fits32 (p .«serial_number»)
-PduFits (ResetQuery p) = Unit
-PduFits (CacheResponse p) = Fits16 (p .«session_id»)
-PduFits (IPv4Prefix p) = Fits8 (p .flags) × Fits8 (p .«prefix_length») × Fits8 (p .«max_length») × Fits32 (p .prefix) × Fits32 (p .asn)
-PduFits (IPv6Prefix p) =
-    Fits8 (p .flags)
-    × Fits8 (p .«prefix_length»)
-    × Fits8 (p .«max_length»)
-    × Fits32 (p .prefix .w0)
-    × Fits32 (p .prefix .w1)
-    × Fits32 (p .prefix .w2)
-    × Fits32 (p .prefix .w3)
-    × Fits32 (p .asn)
-PduFits (EndOfData p) =
-    Fits16 (p .«session_id»)
-    × Fits32 (p .«serial_number»)
-    × IntervalFits (p .version) (p .«refresh_interval»)
-    × IntervalFits (p .version) (p .«retry_interval»)
-    × IntervalFits (p .version) (p .«expire_interval»)
-PduFits (CacheReset p) = Unit
-PduFits (RouterKey p) = Fits8 (p .flags) × Fits32 (p .asn)
-PduFits (ErrorReport p) = Unit

@@ -1,5 +1,5 @@
-// Session records and PDUs as plain numbers, both ways, for a host that has no Rattle types: 18 numbers are a session, 12 are a PDU. What
-// is read back is written again and compared, so numbers that are nobody's are told from every other.
+// Session records as plain numbers, both ways, for a host that has no Rattle types: 18 numbers are a session. What is read back is written
+// again and compared, so numbers that are nobody's are told from every other. PDUs: rtr_pdu_numbers.
 use rtr_codec::RtrError;
 use rtr_models::*;
 use rtr_receiver::LiveTable;
@@ -18,24 +18,16 @@ ghost use lib.ListN.{length, getD};
 ghost use Rattle.rtr_codec.specs.Answers.{refusal};
 ghost use Rattle.rtr_stream.specs.Search.{streamRefusal};
 ghost use Rattle.rtr_receiver.specs.Promises.{stopSaid, stoppedBy, stageOf};
-ghost use Rattle.rtr_numbers.specs.Numbers.{tableOr, tableNumber, noteNumber, noteSession, noteSerial, sessionNumbers, pduNumbers, endSeconds, valueOf};
-ghost use Rattle.rtr_numbers.specs.Back.{alike, looseVersion, looseCode, looseError, looseStop, loosePhase, looseTable, looseNote, looseSession, looseInterval, loosePlace, looseNotify, looseQuery, looseResponse, looseIPv4, looseIPv6, looseEnd, looseKey, looseReport, loosePdu, sessionOf, pduOf};
+ghost use Rattle.rtr_numbers.specs.Numbers.{tableOr, tableNumber, noteNumber, noteSession, noteSerial, sessionNumbers, valueOf};
+ghost use Rattle.rtr_numbers.specs.Back.{alike, looseVersion, looseCode, looseError, looseStop, loosePhase, looseTable, looseNote, looseSession, sessionOf};
 ghost use Rattle.rtr_numbers.specs.Private.{phaseNumbers};
 
-// How many numbers a session and a PDU are.
+// How many numbers a session is.
 pub const SESSION_NUMBERS: usize = 18;
-
-pub const PDU_NUMBERS: usize = 12;
 
 // The session that has these numbers, if one has.
 pub enum SessionFound {
     Known(Session),
-    Unknown,
-}
-
-// The PDU that has these numbers, with the bytes that it took, if one has.
-pub enum PduFound {
-    Known(RtrPdu, usize),
     Unknown,
 }
 
@@ -90,7 +82,7 @@ fn size(n: u64) -> usize
 }
 
 // The number at a place, 0 where there is none.
-fn at(numbers: &[u64], i: usize) -> u64
+pub fn at(numbers: &[u64], i: usize) -> u64
     ensures { λ r. ⌜ r ≡ getD (now (numbers .entry)) i 0 ⌝ }
 {
     if i < numbers.len() {
@@ -101,18 +93,23 @@ fn at(numbers: &[u64], i: usize) -> u64
 
 // ---- Lists of numbers
 
-fn put_all(numbers: &mut [u64], said: &[u64])
-    requires { ⌜ length (now said) ≡ length (now numbers) ⌝ }
-    ensures { λ _. ⌜ now (numbers .exit) ≡ now (said .entry) ⌝ }
+// Sets the numbers lent to those said where there are as many; else nothing is set.
+pub fn put_numbers(numbers: &mut [u64], said: &[u64]) -> bool
+    ensures { λ r. ⌜ (r ≡ eqb (length (now (numbers .entry))) (length (now (said .entry)))) × (now (numbers .exit) ≡ cond (eqb (length (now (numbers .entry))) (length (now (said .entry)))) (now (said .entry)) (now (numbers .entry))) ⌝ }
 {
+    if numbers.len() != said.len() {
+        return false;
+    }
     let mut i = 0;
     while i < said.len() {
         numbers[i] = said[i];
         i += 1;
     }
+    true
 }
 
-fn is_alike(a: &[u64], b: &[u64]) -> bool
+// Whether two lists of numbers are the same.
+pub fn is_alike(a: &[u64], b: &[u64]) -> bool
     ensures { λ r. ⌜ r ≡ alike (now (a .entry)) (now (b .entry)) ⌝ }
 {
     if a.len() != b.len() {
@@ -296,7 +293,7 @@ fn note_serial(note: Note) -> u64
     }
 }
 
-fn session_numbers(s: Session) -> [u64; 18]
+fn session_numbers(s: Session) -> [u64; SESSION_NUMBERS]
     ensures { λ r. ⌜ r ≡ sessionNumbers s ⌝ }
 {
     let version = s.version;
@@ -331,17 +328,14 @@ fn session_numbers(s: Session) -> [u64; 18]
 pub fn put_session(s: Session, numbers: &mut [u64]) -> bool
     ensures { λ r. ⌜ (r ≡ eqb (length (now (numbers .entry))) 18) × (now (numbers .exit) ≡ cond (eqb (length (now (numbers .entry))) 18) (sessionNumbers s) (now (numbers .entry))) ⌝ }
 {
-    if numbers.len() != SESSION_NUMBERS {
-        return false;
-    }
     let said = session_numbers(s);
-    put_all(numbers, &said);
-    true
+    put_numbers(numbers, &said)
 }
 
 // ---- A session from numbers: a guess, then the comparison
 
-fn loose_version(n: u64) -> RtrProtocolVersion
+// Version 0, or else version 1.
+pub fn loose_version(n: u64) -> RtrProtocolVersion
     ensures { λ r. ⌜ r ≡ looseVersion n ⌝ }
 {
     if n == 0 {
@@ -350,7 +344,8 @@ fn loose_version(n: u64) -> RtrProtocolVersion
     RtrProtocolVersion::V1
 }
 
-fn loose_code(n: u64) -> RtrErrorCode
+// The error code of a number, or else the first.
+pub fn loose_code(n: u64) -> RtrErrorCode
     ensures { λ r. ⌜ r ≡ looseCode n ⌝ }
 {
     let found = RtrErrorCode::from_u16(low16(n));
@@ -468,402 +463,4 @@ pub fn session_of(numbers: &[u64]) -> SessionFound
         return SessionFound::Known(s);
     }
     SessionFound::Unknown
-}
-
-// ---- A PDU's numbers, one function for each kind
-
-fn serial_notify_numbers(p: RtrSerialNotify, consumed: usize) -> [u64; 12]
-    ensures { λ r. ⌜ r ≡ pduNumbers (RtrPdu.SerialNotify p) consumed ⌝ }
-{
-    let version = p.version;
-    [
-        0,
-        wide8(version.to_u8()),
-        wide(consumed),
-        wide16(p.session_id),
-        wide32(p.serial_number),
-        0,
-        0,
-        0,
-        0,
-        0,
-        0,
-        0,
-    ]
-}
-
-fn serial_query_numbers(p: RtrSerialQuery, consumed: usize) -> [u64; 12]
-    ensures { λ r. ⌜ r ≡ pduNumbers (RtrPdu.SerialQuery p) consumed ⌝ }
-{
-    let version = p.version;
-    [
-        1,
-        wide8(version.to_u8()),
-        wide(consumed),
-        wide16(p.session_id),
-        wide32(p.serial_number),
-        0,
-        0,
-        0,
-        0,
-        0,
-        0,
-        0,
-    ]
-}
-
-fn reset_query_numbers(p: RtrResetQuery, consumed: usize) -> [u64; 12]
-    ensures { λ r. ⌜ r ≡ pduNumbers (RtrPdu.ResetQuery p) consumed ⌝ }
-{
-    let version = p.version;
-    [
-        2,
-        wide8(version.to_u8()),
-        wide(consumed),
-        0,
-        0,
-        0,
-        0,
-        0,
-        0,
-        0,
-        0,
-        0,
-    ]
-}
-
-fn cache_response_numbers(p: RtrCacheResponse, consumed: usize) -> [u64; 12]
-    ensures { λ r. ⌜ r ≡ pduNumbers (RtrPdu.CacheResponse p) consumed ⌝ }
-{
-    let version = p.version;
-    [
-        3,
-        wide8(version.to_u8()),
-        wide(consumed),
-        wide16(p.session_id),
-        0,
-        0,
-        0,
-        0,
-        0,
-        0,
-        0,
-        0,
-    ]
-}
-
-fn ipv4_prefix_numbers(p: RtrIPv4Prefix, consumed: usize) -> [u64; 12]
-    ensures { λ r. ⌜ r ≡ pduNumbers (RtrPdu.IPv4Prefix p) consumed ⌝ }
-{
-    let version = p.version;
-    [
-        4,
-        wide8(version.to_u8()),
-        wide(consumed),
-        wide8(p.flags),
-        wide8(p.prefix_length),
-        wide8(p.max_length),
-        wide32(p.prefix),
-        wide32(p.asn),
-        0,
-        0,
-        0,
-        0,
-    ]
-}
-
-fn ipv6_prefix_numbers(p: RtrIPv6Prefix, consumed: usize) -> [u64; 12]
-    ensures { λ r. ⌜ r ≡ pduNumbers (RtrPdu.IPv6Prefix p) consumed ⌝ }
-{
-    let version = p.version;
-    let prefix = p.prefix;
-    [
-        6,
-        wide8(version.to_u8()),
-        wide(consumed),
-        wide8(p.flags),
-        wide8(p.prefix_length),
-        wide8(p.max_length),
-        wide32(prefix.w0),
-        wide32(prefix.w1),
-        wide32(prefix.w2),
-        wide32(prefix.w3),
-        wide32(p.asn),
-        0,
-    ]
-}
-
-// An interval as it is encoded.
-fn seconds(version: RtrProtocolVersion, default: u32, interval: Interval) -> u64
-    ensures { λ r. ⌜ r ≡ endSeconds version default interval ⌝ }
-{
-    match version {
-        RtrProtocolVersion::V0 => 0,
-        RtrProtocolVersion::V1 => wide32(interval.or(default)),
-    }
-}
-
-fn end_of_data_numbers(p: RtrEndOfData, consumed: usize) -> [u64; 12]
-    ensures { λ r. ⌜ r ≡ pduNumbers (RtrPdu.EndOfData p) consumed ⌝ }
-{
-    let version = p.version;
-    let refresh = p.refresh_interval;
-    let retry = p.retry_interval;
-    let expire = p.expire_interval;
-    [
-        7,
-        wide8(version.to_u8()),
-        wide(consumed),
-        wide16(p.session_id),
-        wide32(p.serial_number),
-        seconds(version, RtrEndOfData::DEFAULT_REFRESH, refresh),
-        seconds(version, RtrEndOfData::DEFAULT_RETRY, retry),
-        seconds(version, RtrEndOfData::DEFAULT_EXPIRE, expire),
-        0,
-        0,
-        0,
-        0,
-    ]
-}
-
-fn cache_reset_numbers(p: RtrCacheReset, consumed: usize) -> [u64; 12]
-    ensures { λ r. ⌜ r ≡ pduNumbers (RtrPdu.CacheReset p) consumed ⌝ }
-{
-    let version = p.version;
-    [
-        8,
-        wide8(version.to_u8()),
-        wide(consumed),
-        0,
-        0,
-        0,
-        0,
-        0,
-        0,
-        0,
-        0,
-        0,
-    ]
-}
-
-fn router_key_numbers(p: RtrRouterKey, consumed: usize) -> [u64; 12]
-    ensures { λ r. ⌜ r ≡ pduNumbers (RtrPdu.RouterKey p) consumed ⌝ }
-{
-    let version = p.version;
-    let key = p.subject_key_identifier;
-    let info = p.subject_public_key_info;
-    [
-        9,
-        wide8(version.to_u8()),
-        wide(consumed),
-        wide8(p.flags),
-        wide(key.start),
-        wide(key.len),
-        wide32(p.asn),
-        wide(info.start),
-        wide(info.len),
-        0,
-        0,
-        0,
-    ]
-}
-
-fn error_report_numbers(p: RtrErrorReport, consumed: usize) -> [u64; 12]
-    ensures { λ r. ⌜ r ≡ pduNumbers (RtrPdu.ErrorReport p) consumed ⌝ }
-{
-    let version = p.version;
-    let code = p.error_code;
-    let copy = p.erroneous_pdu;
-    let text = p.error_text;
-    [
-        10,
-        wide8(version.to_u8()),
-        wide(consumed),
-        wide16(code.to_u16()),
-        wide(copy.start),
-        wide(copy.len),
-        wide(text.start),
-        wide(text.len),
-        0,
-        0,
-        0,
-        0,
-    ]
-}
-
-fn pdu_numbers(pdu: RtrPdu, consumed: usize) -> [u64; 12]
-    ensures { λ r. ⌜ r ≡ pduNumbers pdu consumed ⌝ }
-{
-    match pdu {
-        RtrPdu::SerialNotify(p) => serial_notify_numbers(p, consumed),
-        RtrPdu::SerialQuery(p) => serial_query_numbers(p, consumed),
-        RtrPdu::ResetQuery(p) => reset_query_numbers(p, consumed),
-        RtrPdu::CacheResponse(p) => cache_response_numbers(p, consumed),
-        RtrPdu::IPv4Prefix(p) => ipv4_prefix_numbers(p, consumed),
-        RtrPdu::IPv6Prefix(p) => ipv6_prefix_numbers(p, consumed),
-        RtrPdu::EndOfData(p) => end_of_data_numbers(p, consumed),
-        RtrPdu::CacheReset(p) => cache_reset_numbers(p, consumed),
-        RtrPdu::RouterKey(p) => router_key_numbers(p, consumed),
-        RtrPdu::ErrorReport(p) => error_report_numbers(p, consumed),
-    }
-}
-
-// Sets the 12 numbers to the PDU's; where not 12 are lent, nothing is set.
-pub fn put_pdu(pdu: RtrPdu, consumed: usize, numbers: &mut [u64]) -> bool
-    ensures { λ r. ⌜ (r ≡ eqb (length (now (numbers .entry))) 12) × (now (numbers .exit) ≡ cond (eqb (length (now (numbers .entry))) 12) (pduNumbers pdu consumed) (now (numbers .entry))) ⌝ }
-{
-    if numbers.len() != PDU_NUMBERS {
-        return false;
-    }
-    let said = pdu_numbers(pdu, consumed);
-    put_all(numbers, &said);
-    true
-}
-
-// ---- A PDU from numbers: a guess, then the comparison
-
-fn loose_interval(version: RtrProtocolVersion, n: u64) -> Interval
-    ensures { λ r. ⌜ r ≡ looseInterval version n ⌝ }
-{
-    match version {
-        RtrProtocolVersion::V0 => Interval::Absent,
-        RtrProtocolVersion::V1 => Interval::Seconds(low32(n)),
-    }
-}
-
-fn loose_place(n: &[u64], start: usize, len: usize) -> Place
-    ensures { λ r. ⌜ r ≡ loosePlace (now (n .entry)) start len ⌝ }
-{
-    Place {
-        start: size(at(n, start)),
-        len: size(at(n, len)),
-    }
-}
-
-fn loose_notify(version: RtrProtocolVersion, n: &[u64]) -> RtrPdu
-    ensures { λ r. ⌜ r ≡ RtrPdu.SerialNotify (looseNotify version (now (n .entry))) ⌝ }
-{
-    RtrPdu::SerialNotify(RtrSerialNotify {
-        version,
-        session_id: low16(at(n, 3)),
-        serial_number: low32(at(n, 4)),
-    })
-}
-
-fn loose_query(version: RtrProtocolVersion, n: &[u64]) -> RtrPdu
-    ensures { λ r. ⌜ r ≡ RtrPdu.SerialQuery (looseQuery version (now (n .entry))) ⌝ }
-{
-    RtrPdu::SerialQuery(RtrSerialQuery {
-        version,
-        session_id: low16(at(n, 3)),
-        serial_number: low32(at(n, 4)),
-    })
-}
-
-fn loose_response(version: RtrProtocolVersion, n: &[u64]) -> RtrPdu
-    ensures { λ r. ⌜ r ≡ RtrPdu.CacheResponse (looseResponse version (now (n .entry))) ⌝ }
-{
-    RtrPdu::CacheResponse(RtrCacheResponse {
-        version,
-        session_id: low16(at(n, 3)),
-    })
-}
-
-fn loose_ipv4(version: RtrProtocolVersion, n: &[u64]) -> RtrPdu
-    ensures { λ r. ⌜ r ≡ RtrPdu.IPv4Prefix (looseIPv4 version (now (n .entry))) ⌝ }
-{
-    RtrPdu::IPv4Prefix(RtrIPv4Prefix {
-        version,
-        flags: low8(at(n, 3)),
-        prefix_length: low8(at(n, 4)),
-        max_length: low8(at(n, 5)),
-        prefix: low32(at(n, 6)),
-        asn: low32(at(n, 7)),
-    })
-}
-
-fn loose_ipv6(version: RtrProtocolVersion, n: &[u64]) -> RtrPdu
-    ensures { λ r. ⌜ r ≡ RtrPdu.IPv6Prefix (looseIPv6 version (now (n .entry))) ⌝ }
-{
-    RtrPdu::IPv6Prefix(RtrIPv6Prefix {
-        version,
-        flags: low8(at(n, 3)),
-        prefix_length: low8(at(n, 4)),
-        max_length: low8(at(n, 5)),
-        prefix: Ipv6Addr {
-            w0: low32(at(n, 6)),
-            w1: low32(at(n, 7)),
-            w2: low32(at(n, 8)),
-            w3: low32(at(n, 9)),
-        },
-        asn: low32(at(n, 10)),
-    })
-}
-
-fn loose_end(version: RtrProtocolVersion, n: &[u64]) -> RtrPdu
-    ensures { λ r. ⌜ r ≡ RtrPdu.EndOfData (looseEnd version (now (n .entry))) ⌝ }
-{
-    RtrPdu::EndOfData(RtrEndOfData {
-        version,
-        session_id: low16(at(n, 3)),
-        serial_number: low32(at(n, 4)),
-        refresh_interval: loose_interval(version, at(n, 5)),
-        retry_interval: loose_interval(version, at(n, 6)),
-        expire_interval: loose_interval(version, at(n, 7)),
-    })
-}
-
-fn loose_key(version: RtrProtocolVersion, n: &[u64]) -> RtrPdu
-    ensures { λ r. ⌜ r ≡ RtrPdu.RouterKey (looseKey version (now (n .entry))) ⌝ }
-{
-    RtrPdu::RouterKey(RtrRouterKey {
-        version,
-        flags: low8(at(n, 3)),
-        subject_key_identifier: loose_place(n, 4, 5),
-        asn: low32(at(n, 6)),
-        subject_public_key_info: loose_place(n, 7, 8),
-    })
-}
-
-fn loose_report(version: RtrProtocolVersion, n: &[u64]) -> RtrPdu
-    ensures { λ r. ⌜ r ≡ RtrPdu.ErrorReport (looseReport version (now (n .entry))) ⌝ }
-{
-    RtrPdu::ErrorReport(RtrErrorReport {
-        version,
-        error_code: loose_code(at(n, 3)),
-        erroneous_pdu: loose_place(n, 4, 5),
-        error_text: loose_place(n, 6, 7),
-    })
-}
-
-fn loose_pdu(n: &[u64]) -> RtrPdu
-    ensures { λ r. ⌜ r ≡ loosePdu (looseVersion (getD (now (n .entry)) 1 0)) (now (n .entry)) ⌝ }
-{
-    let version = loose_version(at(n, 1));
-    let kind = at(n, 0);
-    match kind {
-        0 => loose_notify(version, n),
-        1 => loose_query(version, n),
-        2 => RtrPdu::ResetQuery(RtrResetQuery { version }),
-        3 => loose_response(version, n),
-        4 => loose_ipv4(version, n),
-        6 => loose_ipv6(version, n),
-        7 => loose_end(version, n),
-        8 => RtrPdu::CacheReset(RtrCacheReset { version }),
-        9 => loose_key(version, n),
-        _ => loose_report(version, n),
-    }
-}
-
-// The PDU that has these numbers; Unknown where none has them.
-pub fn pdu_of(numbers: &[u64]) -> PduFound
-    ensures { λ r. ⌜ r ≡ pduOf (now (numbers .entry)) ⌝ }
-{
-    let pdu = loose_pdu(numbers);
-    let consumed = size(at(numbers, 2));
-    let said = pdu_numbers(pdu, consumed);
-    if is_alike(&said, numbers) {
-        return PduFound::Known(pdu, consumed);
-    }
-    PduFound::Unknown
 }

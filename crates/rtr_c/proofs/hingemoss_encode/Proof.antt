@@ -4,10 +4,6 @@ use Rattle.rtr_c.proofs.Steps.{encode-known, encode-unknown}
 use borrow.Author.Needs.{needs}
 use Rattle.rtr_c.proofs.hingemoss_encode.Statement.{statement}
 use Rattle.rtr_c.proofs.hingemoss_encode.Tie as tie
-use Rattle.rtr_c.proofs.encode_amount.Reads as encode-amount-reads
-use Rattle.rtr_c.proofs.encode_number.Reads as encode-number-reads
-use Rattle.rtr_encode.proofs.encode.Reads as encode-reads
-use Rattle.rtr_numbers.proofs.pdu_of.Reads as pdu-of-reads
 
 pdu-of-requires : tie.Need-pdu-of-requires
 pdu-of-requires c κs = search needs

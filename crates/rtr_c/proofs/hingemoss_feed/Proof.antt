@@ -4,10 +4,6 @@ use Rattle.rtr_c.proofs.Steps.{feed-known, feed-unknown}
 use borrow.Author.Needs.{needs}
 use Rattle.rtr_c.proofs.hingemoss_feed.Statement.{statement}
 use Rattle.rtr_c.proofs.hingemoss_feed.Tie as tie
-use Rattle.rtr_c.proofs.feed_number.Reads as feed-number-reads
-use Rattle.rtr_numbers.proofs.put_session.Reads as put-session-reads
-use Rattle.rtr_numbers.proofs.session_of.Reads as session-of-reads
-use Rattle.rtr_receiver.proofs.feed.Reads as feed-reads
 
 session-of-requires : tie.Need-session-of-requires
 session-of-requires c κs = search needs

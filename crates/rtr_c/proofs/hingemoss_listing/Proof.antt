@@ -4,10 +4,6 @@ use Rattle.rtr_c.proofs.Steps.{listing-known, listing-unknown}
 use borrow.Author.Needs.{needs}
 use Rattle.rtr_c.proofs.hingemoss_listing.Statement.{statement}
 use Rattle.rtr_c.proofs.hingemoss_listing.Tie as tie
-use Rattle.rtr_c.proofs.list_amount.Reads as list-amount-reads
-use Rattle.rtr_c.proofs.list_number.Reads as list-number-reads
-use Rattle.rtr_listing.proofs.listing.Reads as listing-reads
-use Rattle.rtr_numbers.proofs.session_of.Reads as session-of-reads
 
 session-of-requires : tie.Need-session-of-requires
 session-of-requires c κs = search needs

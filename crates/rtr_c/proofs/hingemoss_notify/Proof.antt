@@ -4,10 +4,6 @@ use Rattle.rtr_c.proofs.Steps.{notify-known, notify-unknown}
 use borrow.Author.Needs.{needs}
 use Rattle.rtr_c.proofs.hingemoss_notify.Statement.{statement}
 use Rattle.rtr_c.proofs.hingemoss_notify.Tie as tie
-use Rattle.rtr_c.proofs.notify_compared.Reads as notify-compared-reads
-use Rattle.rtr_c.proofs.notify_number.Reads as notify-number-reads
-use Rattle.rtr_numbers.proofs.session_of.Reads as session-of-reads
-use Rattle.rtr_receiver.proofs.notify.Reads as notify-reads
 
 session-of-requires : tie.Need-session-of-requires
 session-of-requires c κs = search needs

@@ -7,9 +7,6 @@ use Rattle.rtr_c.proofs.Steps.{read-accepted, read-refused}
 use borrow.Author.Needs.{needs}
 use Rattle.rtr_c.proofs.hingemoss_read.Statement.{statement}
 use Rattle.rtr_c.proofs.hingemoss_read.Tie as tie
-use Rattle.rtr_codec.proofs.RtrError.number.Reads as number-reads
-use Rattle.rtr_codec.proofs.parse_rtr_pdu.Reads as parse-rtr-pdu-reads
-use Rattle.rtr_numbers.proofs.put_pdu.Reads as put-pdu-reads
 
 returns : tie.Need-returns
 unfolding readC

@@ -5,8 +5,6 @@ use Rattle.rtr_numbers.specs.Numbers.{valueOf}
 use borrow.Author.Needs.{needs}
 use Rattle.rtr_c.proofs.hingemoss_read_value.Statement.{statement}
 use Rattle.rtr_c.proofs.hingemoss_read_value.Tie as tie
-use Rattle.rtr_codec.proofs.parse_rtr_pdu.Reads as parse-rtr-pdu-reads
-use Rattle.rtr_numbers.proofs.error_value.Reads as error-value-reads
 
 parse-rtr-pdu-requires : tie.Need-parse-rtr-pdu-requires
 parse-rtr-pdu-requires c κs = search needs

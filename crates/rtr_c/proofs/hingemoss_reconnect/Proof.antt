@@ -4,10 +4,6 @@ use Rattle.rtr_c.proofs.Steps.{reconnect-known, reconnect-unknown}
 use borrow.Author.Needs.{needs}
 use Rattle.rtr_c.proofs.hingemoss_reconnect.Statement.{statement}
 use Rattle.rtr_c.proofs.hingemoss_reconnect.Tie as tie
-use Rattle.rtr_c.proofs.reconnect_number.Reads as reconnect-number-reads
-use Rattle.rtr_numbers.proofs.put_session.Reads as put-session-reads
-use Rattle.rtr_numbers.proofs.session_of.Reads as session-of-reads
-use Rattle.rtr_receiver.proofs.reconnect.Reads as reconnect-reads
 
 session-of-requires : tie.Need-session-of-requires
 session-of-requires c κs = search needs

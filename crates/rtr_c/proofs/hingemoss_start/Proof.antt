@@ -6,9 +6,6 @@ use Rattle.rtr_c.proofs.Steps.{start-unknown, start-started, start-refu
 use borrow.Author.Needs.{needs}
 use Rattle.rtr_c.proofs.hingemoss_start.Statement.{statement}
 use Rattle.rtr_c.proofs.hingemoss_start.Tie as tie
-use Rattle.rtr_models.proofs.RtrProtocolVersion.from_u8.Reads as from-u8-reads
-use Rattle.rtr_numbers.proofs.put_session.Reads as put-session-reads
-use Rattle.rtr_receiver.proofs.start.Reads as start-reads
 
 returns : tie.Need-returns
 unfolding startC

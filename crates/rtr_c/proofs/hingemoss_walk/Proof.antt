@@ -4,10 +4,6 @@ use Rattle.rtr_c.proofs.Steps.{walk-walked, walk-refused}
 use borrow.Author.Needs.{needs}
 use Rattle.rtr_c.proofs.hingemoss_walk.Statement.{statement}
 use Rattle.rtr_c.proofs.hingemoss_walk.Tie as tie
-use Rattle.rtr_c.proofs.end_number.Reads as end-number-reads
-use Rattle.rtr_c.proofs.end_value.Reads as end-value-reads
-use Rattle.rtr_codec.proofs.RtrError.number.Reads as number-reads
-use Rattle.rtr_walk.proofs.walk.Reads as walk-reads
 
 walk-requires : tie.Need-walk-requires
 walk-requires c κs = search needs

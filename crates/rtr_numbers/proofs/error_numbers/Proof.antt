@@ -2,11 +2,6 @@
 use borrow.Author.Needs.{needs}
 use Rattle.rtr_numbers.proofs.error_numbers.Statement.{statement}
 use Rattle.rtr_numbers.proofs.error_numbers.Tie as tie
-use Rattle.rtr_numbers.proofs.stopped.Reads as stopped-reads
-use Rattle.rtr_numbers.proofs.wide.Reads as wide-reads
-use Rattle.rtr_numbers.proofs.wide16.Reads as wide16-reads
-use Rattle.rtr_numbers.proofs.wide32.Reads as wide32-reads
-use Rattle.rtr_numbers.proofs.wide8.Reads as wide8-reads
 
 enum-known-error : tie.Need-enum-known-error
 enum-known-error c = search needs

@@ -9,7 +9,6 @@ use Rattle.rtr_numbers.proofs.Values.{stop-value, no-more-values}
 use borrow.Author.Needs.{needs}
 use Rattle.rtr_numbers.proofs.error_value.Statement.{statement}
 use Rattle.rtr_numbers.proofs.error_value.Tie as tie
-use Rattle.rtr_numbers.proofs.error_numbers.Reads as error-numbers-reads
 
 error-numbers-requires : tie.Need-error-numbers-requires
 error-numbers-requires c κs = search needs

@@ -5,8 +5,6 @@ use Rattle.rtr_numbers.specs.Back.{codeOr}
 use borrow.Author.Needs.{needs}
 use Rattle.rtr_numbers.proofs.loose_code.Statement.{statement}
 use Rattle.rtr_numbers.proofs.loose_code.Tie as tie
-use Rattle.rtr_models.proofs.RtrErrorCode.from_u16.Reads as from-u16-reads
-use Rattle.rtr_numbers.proofs.low16.Reads as low16-reads
 
 low16-requires : tie.Need-low16-requires
 low16-requires c κs = search needs

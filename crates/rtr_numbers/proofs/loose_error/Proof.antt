@@ -4,10 +4,6 @@ use Rattle.rtr_numbers.specs.Back.{looseError}
 use borrow.Author.Needs.{needs}
 use Rattle.rtr_numbers.proofs.loose_error.Statement.{statement}
 use Rattle.rtr_numbers.proofs.loose_error.Tie as tie
-use Rattle.rtr_numbers.proofs.low16.Reads as low16-reads
-use Rattle.rtr_numbers.proofs.low32.Reads as low32-reads
-use Rattle.rtr_numbers.proofs.low8.Reads as low8-reads
-use Rattle.rtr_numbers.proofs.size.Reads as size-reads
 
 size-requires : tie.Need-size-requires
 size-requires c κs = search needs

@@ -5,9 +5,6 @@ use Rattle.rtr_numbers.specs.Back.{loosePhase}
 use borrow.Author.Needs.{needs}
 use Rattle.rtr_numbers.proofs.loose_phase.Statement.{statement}
 use Rattle.rtr_numbers.proofs.loose_phase.Tie as tie
-use Rattle.rtr_numbers.proofs.at.Reads as at-reads
-use Rattle.rtr_numbers.proofs.loose_stop.Reads as loose-stop-reads
-use Rattle.rtr_numbers.proofs.low16.Reads as low16-reads
 
 at-requires : tie.Need-at-requires
 at-requires c κs = search needs

@@ -5,12 +5,6 @@ use Rattle.rtr_numbers.specs.Back.{looseVersion, looseSession}
 use borrow.Author.Needs.{needs}
 use Rattle.rtr_numbers.proofs.loose_session.Statement.{statement}
 use Rattle.rtr_numbers.proofs.loose_session.Tie as tie
-use Rattle.rtr_numbers.proofs.at.Reads as at-reads
-use Rattle.rtr_numbers.proofs.loose_note.Reads as loose-note-reads
-use Rattle.rtr_numbers.proofs.loose_phase.Reads as loose-phase-reads
-use Rattle.rtr_numbers.proofs.loose_table.Reads as loose-table-reads
-use Rattle.rtr_numbers.proofs.loose_version.Reads as loose-version-reads
-use Rattle.rtr_numbers.proofs.size.Reads as size-reads
 
 at-requires : tie.Need-at-requires
 at-requires c κs = search needs

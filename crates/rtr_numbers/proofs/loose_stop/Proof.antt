@@ -4,9 +4,6 @@ use Rattle.rtr_numbers.specs.Back.{looseStop}
 use borrow.Author.Needs.{needs}
 use Rattle.rtr_numbers.proofs.loose_stop.Statement.{statement}
 use Rattle.rtr_numbers.proofs.loose_stop.Tie as tie
-use Rattle.rtr_numbers.proofs.loose_code.Reads as loose-code-reads
-use Rattle.rtr_numbers.proofs.loose_error.Reads as loose-error-reads
-use Rattle.rtr_numbers.proofs.low32.Reads as low32-reads
 
 low32-requires : tie.Need-low32-requires
 low32-requires c κs = search needs

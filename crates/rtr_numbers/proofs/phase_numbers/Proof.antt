@@ -2,9 +2,6 @@
 use borrow.Author.Needs.{needs}
 use Rattle.rtr_numbers.proofs.phase_numbers.Statement.{statement}
 use Rattle.rtr_numbers.proofs.phase_numbers.Tie as tie
-use Rattle.rtr_numbers.proofs.going.Reads as going-reads
-use Rattle.rtr_numbers.proofs.stop_numbers.Reads as stop-numbers-reads
-use Rattle.rtr_numbers.proofs.wide16.Reads as wide16-reads
 
 enum-told : tie.Need-enum-told
 enum-told c = search needs

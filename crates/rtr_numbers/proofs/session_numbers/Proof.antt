@@ -7,17 +7,6 @@ use Rattle.rtr_numbers.specs.declared.PhaseNumbers.{PhaseNumbers}
 use borrow.Author.Needs.{needs}
 use Rattle.rtr_numbers.proofs.session_numbers.Statement.{statement}
 use Rattle.rtr_numbers.proofs.session_numbers.Tie as tie
-use Rattle.rtr_models.proofs.RtrProtocolVersion.to_u8.Reads as to-u8-reads
-use Rattle.rtr_numbers.proofs.note_number.Reads as note-number-reads
-use Rattle.rtr_numbers.proofs.note_serial.Reads as note-serial-reads
-use Rattle.rtr_numbers.proofs.note_session.Reads as note-session-reads
-use Rattle.rtr_numbers.proofs.phase_numbers.Reads as phase-numbers-reads
-use Rattle.rtr_numbers.proofs.table_number.Reads as table-number-reads
-use Rattle.rtr_numbers.proofs.table_or.Reads as table-or-reads
-use Rattle.rtr_numbers.proofs.wide.Reads as wide-reads
-use Rattle.rtr_numbers.proofs.wide16.Reads as wide16-reads
-use Rattle.rtr_numbers.proofs.wide32.Reads as wide32-reads
-use Rattle.rtr_numbers.proofs.wide8.Reads as wide8-reads
 
 phase-numbers-requires : tie.Need-phase-numbers-requires
 phase-numbers-requires c κs = search needs

@@ -8,9 +8,6 @@ use Rattle.rtr_numbers.proofs.Founds.{session-by-test}
 use borrow.Author.Needs.{needs}
 use Rattle.rtr_numbers.proofs.session_of.Statement.{statement}
 use Rattle.rtr_numbers.proofs.session_of.Tie as tie
-use Rattle.rtr_numbers.proofs.is_alike.Reads as is-alike-reads
-use Rattle.rtr_numbers.proofs.loose_session.Reads as loose-session-reads
-use Rattle.rtr_numbers.proofs.session_numbers.Reads as session-numbers-reads
 
 loose-session-requires : tie.Need-loose-session-requires
 loose-session-requires c κs = search needs

@@ -2,10 +2,6 @@
 use borrow.Author.Needs.{needs}
 use Rattle.rtr_numbers.proofs.stop_numbers.Statement.{statement}
 use Rattle.rtr_numbers.proofs.stop_numbers.Tie as tie
-use Rattle.rtr_models.proofs.RtrErrorCode.to_u16.Reads as to-u16-reads
-use Rattle.rtr_numbers.proofs.stopped.Reads as stopped-reads
-use Rattle.rtr_numbers.proofs.stream_numbers.Reads as stream-numbers-reads
-use Rattle.rtr_numbers.proofs.wide16.Reads as wide16-reads
 
 enum-known-stop : tie.Need-enum-known-stop
 enum-known-stop c = search needs

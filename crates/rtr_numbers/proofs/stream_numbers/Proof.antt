@@ -2,9 +2,6 @@
 use borrow.Author.Needs.{needs}
 use Rattle.rtr_numbers.proofs.stream_numbers.Statement.{statement}
 use Rattle.rtr_numbers.proofs.stream_numbers.Tie as tie
-use Rattle.rtr_numbers.proofs.error_numbers.Reads as error-numbers-reads
-use Rattle.rtr_numbers.proofs.stopped.Reads as stopped-reads
-use Rattle.rtr_numbers.proofs.wide32.Reads as wide32-reads
 
 enum-known-error : tie.Need-enum-known-error
 enum-known-error c = search needs
