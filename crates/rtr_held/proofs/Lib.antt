@@ -1,0 +1,10 @@
+mod Whole
+mod Lent
+mod InPlaceFeed
+mod InPlaceAsk
+mod InPlaceReconnect
+mod InPlaceNotify
+mod ThroughFeed
+mod ThroughAsk
+mod ThroughReconnect
+mod ThroughNotify

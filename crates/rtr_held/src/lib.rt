@@ -1,0 +1,161 @@
+// A session record that is lent: a long-running host keeps one, lends it to each call, and finds it updated in place. Each call takes the record apart,
+// makes the receiver's by-value call and puts the record that comes back in its place, so it promises what that call promises, of the record at exit.
+// The calls ending in `_through` take the record by value and lend it: whoever calls them needs no walk by hand.
+use rtr_receiver::AskAnswer;
+use rtr_receiver::AskedSession;
+use rtr_receiver::Done;
+use rtr_receiver::Fed;
+use rtr_receiver::NotifyAnswer;
+use rtr_receiver::ReconnectAnswer;
+use rtr_receiver::Reconnected;
+use rtr_receiver::Session;
+use rtr_receiver::change_ask;
+use rtr_receiver::feed;
+use rtr_receiver::full_ask;
+use rtr_receiver::notify;
+use rtr_receiver::reconnect;
+ghost use mathlib.Core.Path.{_≡_};
+ghost use Rattle.rtr_receiver.specs.Promises.{feedSays, fedSaid, fullAskSays, changeAskSays, askSaid, reconnectSays, reconnectSaid, notifySays, notifySaid};
+
+// ---- In place
+
+// Feeds a piece to the receiver whose record is lent.
+pub fn feed_in_place(
+    session: &mut Session,
+    live: &mut [u32],
+    working: &mut [u32],
+    hold: &mut [u8],
+    piece: &[u8],
+) -> Done
+    ensures { λ r. ⌜ fedSaid (record { session = now (session .exit); done = r }) (now (live .exit)) (now (working .exit)) (now (hold .exit)) ≡ feedSays 1024 (now (session .entry)) (now (live .entry)) (now (working .entry)) (now (hold .entry)) (now (piece .entry)) ⌝ }
+{
+    let fed = feed(*session, live, working, hold, piece);
+    *session = fed.session;
+    fed.done
+}
+
+// Asks for the whole table.
+pub fn full_ask_in_place(
+    session: &mut Session,
+    live: &[u32],
+    working: &[u32],
+    hold: &[u8],
+    out: &mut [u8],
+) -> AskAnswer
+    ensures { λ r. ⌜ askSaid (record { session = now (session .exit); answer = r }) (now (live .entry)) (now (working .entry)) (now (hold .entry)) (now (out .exit)) ≡ fullAskSays 1024 (now (session .entry)) (now (live .entry)) (now (working .entry)) (now (hold .entry)) (now (out .entry)) ⌝ }
+{
+    let asked = full_ask(*session, live, working, hold, out);
+    *session = asked.session;
+    asked.answer
+}
+
+// Asks for what changed.
+pub fn change_ask_in_place(
+    session: &mut Session,
+    live: &[u32],
+    working: &[u32],
+    hold: &[u8],
+    out: &mut [u8],
+) -> AskAnswer
+    ensures { λ r. ⌜ askSaid (record { session = now (session .exit); answer = r }) (now (live .entry)) (now (working .entry)) (now (hold .entry)) (now (out .exit)) ≡ changeAskSays 1024 (now (session .entry)) (now (live .entry)) (now (working .entry)) (now (hold .entry)) (now (out .entry)) ⌝ }
+{
+    let asked = change_ask(*session, live, working, hold, out);
+    *session = asked.session;
+    asked.answer
+}
+
+// A new connection.
+pub fn reconnect_in_place(
+    session: &mut Session,
+    live: &[u32],
+    working: &mut [u32],
+    hold: &[u8],
+) -> ReconnectAnswer
+    ensures { λ r. ⌜ reconnectSaid (record { session = now (session .exit); answer = r }) (now (live .entry)) (now (working .exit)) (now (hold .entry)) ≡ reconnectSays 1024 (now (session .entry)) (now (live .entry)) (now (working .entry)) (now (hold .entry)) ⌝ }
+{
+    let connected = reconnect(*session, live, working, hold);
+    *session = connected.session;
+    connected.answer
+}
+
+// Whether the last Serial Notify tells of something newer: the record is only read.
+pub fn notify_of(session: &Session, live: &[u32], working: &[u32], hold: &[u8]) -> NotifyAnswer
+    ensures { λ r. ⌜ notifySaid r ≡ notifySays 1024 (now (session .entry)) (now (live .entry)) (now (working .entry)) (now (hold .entry)) ⌝ }
+{
+    notify(*session, live, working, hold)
+}
+
+// ---- By value again, through the reference
+
+pub fn feed_through(
+    session: Session,
+    live: &mut [u32],
+    working: &mut [u32],
+    hold: &mut [u8],
+    piece: &[u8],
+) -> Fed
+    ensures { λ r. ⌜ fedSaid r (now (live .exit)) (now (working .exit)) (now (hold .exit)) ≡ feedSays 1024 session (now (live .entry)) (now (working .entry)) (now (hold .entry)) (now (piece .entry)) ⌝ }
+{
+    let mut lent = session;
+    let done = feed_in_place(&mut lent, live, working, hold, piece);
+    Fed {
+        session: lent,
+        done,
+    }
+}
+
+pub fn full_ask_through(
+    session: Session,
+    live: &[u32],
+    working: &[u32],
+    hold: &[u8],
+    out: &mut [u8],
+) -> AskedSession
+    ensures { λ r. ⌜ askSaid r (now (live .entry)) (now (working .entry)) (now (hold .entry)) (now (out .exit)) ≡ fullAskSays 1024 session (now (live .entry)) (now (working .entry)) (now (hold .entry)) (now (out .entry)) ⌝ }
+{
+    let mut lent = session;
+    let answer = full_ask_in_place(&mut lent, live, working, hold, out);
+    AskedSession {
+        session: lent,
+        answer,
+    }
+}
+
+pub fn change_ask_through(
+    session: Session,
+    live: &[u32],
+    working: &[u32],
+    hold: &[u8],
+    out: &mut [u8],
+) -> AskedSession
+    ensures { λ r. ⌜ askSaid r (now (live .entry)) (now (working .entry)) (now (hold .entry)) (now (out .exit)) ≡ changeAskSays 1024 session (now (live .entry)) (now (working .entry)) (now (hold .entry)) (now (out .entry)) ⌝ }
+{
+    let mut lent = session;
+    let answer = change_ask_in_place(&mut lent, live, working, hold, out);
+    AskedSession {
+        session: lent,
+        answer,
+    }
+}
+
+pub fn reconnect_through(
+    session: Session,
+    live: &[u32],
+    working: &mut [u32],
+    hold: &[u8],
+) -> Reconnected
+    ensures { λ r. ⌜ reconnectSaid r (now (live .entry)) (now (working .exit)) (now (hold .entry)) ≡ reconnectSays 1024 session (now (live .entry)) (now (working .entry)) (now (hold .entry)) ⌝ }
+{
+    let mut lent = session;
+    let answer = reconnect_in_place(&mut lent, live, working, hold);
+    Reconnected {
+        session: lent,
+        answer,
+    }
+}
+
+pub fn notify_through(session: Session, live: &[u32], working: &[u32], hold: &[u8]) -> NotifyAnswer
+    ensures { λ r. ⌜ notifySaid r ≡ notifySays 1024 session (now (live .entry)) (now (working .entry)) (now (hold .entry)) ⌝ }
+{
+    notify_of(&session, live, working, hold)
+}
