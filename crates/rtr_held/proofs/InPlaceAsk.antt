@@ -1,4 +1,5 @@
--- The walk of a call that is lent the record, three `&` slices and a `&mut` slice.
+-- The walk of a function that is lent a record by `&mut` beside three `&` slices and a `&mut` slice, over any record and answer that are moved whole (Whole.antt), and any callee. The borrow is opened and stays open over the call: the record is copied
+-- into a local and passed by value; of what comes back the first field is stored whole over the record, and the borrow is closed at it. What the slices own goes to the callee (`asked`) and what the callee leaves of them to the exit (`exits`), unread.
 -- Assumes nothing.
 use mathlib.Core.Path.{refl}
 use Prim.Native.Nat.{ℕ, _<_, _^_}
@@ -34,12 +35,12 @@ module _ (S D : Whole) (F : Both S D) (ρ : Ty) (σ1 : Ty) (σ2 : Ty) (σ3 : Ty)
     params = 5;
     locals = local (D .ty) valueLocal ∷ local (tyRef (named 0) mut ρ) valueLocal ∷ local (σ1) valueLocal ∷ local (σ2) valueLocal ∷ local (σ3) valueLocal ∷ local (lentSlice (named 4) ε4) valueLocal ∷ local (pairTy (F .name) (S .ty) (D .ty)) valueLocal ∷ local (S .ty) valueLocal ∷ local (tyRef erased mut ε4) valueLocal ∷ local (lentSlice erased ε4) valueLocal ∷ [];
     body = seq (assign (place 7 []) (rvOpd (copy (place 1 (deref (S .ty) ∷ [])))))
-      (seq (assign (place 8 []) (addrOf (place 5 (field 0 ∷ deref ε4 ∷ []))))
-      (seq (assign (place 9 []) (aggregate (copy (place 8 []) ∷ copy (place 5 (field 1 ∷ [])) ∷ [])))
-      (seq (call f (copy (place 7 []) ∷ copy (place 2 []) ∷ copy (place 3 []) ∷ copy (place 4 []) ∷ copy (place 9 []) ∷ []) (place 6 []))
-      (seq (assign (place 1 (deref (S .ty) ∷ [])) (rvOpd (copy (place 6 (field 0 ∷ [])))))
-      (seq (assign (place 0 []) (rvOpd (copy (place 6 (field 1 ∷ [])))))
-      (return))))));
+        (seq (assign (place 8 []) (addrOf (place 5 (field 0 ∷ deref ε4 ∷ []))))
+        (seq (assign (place 9 []) (aggregate (copy (place 8 []) ∷ copy (place 5 (field 1 ∷ [])) ∷ [])))
+        (seq (call f (copy (place 7 []) ∷ copy (place 2 []) ∷ copy (place 3 []) ∷ copy (place 4 []) ∷ copy (place 9 []) ∷ []) (place 6 []))
+        (seq (assign (place 1 (deref (S .ty) ∷ [])) (rvOpd (copy (place 6 (field 0 ∷ [])))))
+        (seq (assign (place 0 []) (rvOpd (copy (place 6 (field 1 ∷ [])))))
+        (return))))));
   }
 
   module _ {M : Type 1} (𝓤 : URA M) (H : Heap 𝓤) (A : Atoms 𝓤) (W : Given 𝓤 H A) (known : Known S) (answer-known : Known D) (κ : Lft) (q : Share) (b o : ℕ) (γ : GName) (h : S .Denot) (u1 : Val) (t1 : Fits σ1 u1) (u2 : Val) (t2 : Fits σ2 u2) (u3 : Val) (t3 : Fits σ3 u3) (b4 o4 n4 : ℕ) (f4 : n4 < 2 ^ 64)

@@ -1,4 +1,5 @@
--- The walk of a call that is lent the record, three `&mut` slices and a `&` slice.
+-- The walk of a function that is lent a record by `&mut` beside three `&mut` slices and a `&` slice, over any record and answer that are moved whole (Whole.antt), and any callee. The borrow is opened and stays open over the call: the record is copied
+-- into a local and passed by value; of what comes back the first field is stored whole over the record, and the borrow is closed at it. What the slices own goes to the callee (`asked`) and what the callee leaves of them to the exit (`exits`), unread.
 -- Assumes nothing.
 use mathlib.Core.Path.{refl}
 use Prim.Native.Nat.{ℕ, _<_, _^_}
@@ -34,16 +35,16 @@ module _ (S D : Whole) (F : Both S D) (ρ : Ty) (ε1 : Ty) (ε2 : Ty) (ε3 : Ty)
     params = 5;
     locals = local (D .ty) valueLocal ∷ local (tyRef (named 0) mut ρ) valueLocal ∷ local (lentSlice (named 1) ε1) valueLocal ∷ local (lentSlice (named 2) ε2) valueLocal ∷ local (lentSlice (named 3) ε3) valueLocal ∷ local (σ4) valueLocal ∷ local (pairTy (F .name) (S .ty) (D .ty)) valueLocal ∷ local (S .ty) valueLocal ∷ local (tyRef erased mut ε1) valueLocal ∷ local (lentSlice erased ε1) valueLocal ∷ local (tyRef erased mut ε2) valueLocal ∷ local (lentSlice erased ε2) valueLocal ∷ local (tyRef erased mut ε3) valueLocal ∷ local (lentSlice erased ε3) valueLocal ∷ [];
     body = seq (assign (place 7 []) (rvOpd (copy (place 1 (deref (S .ty) ∷ [])))))
-      (seq (assign (place 8 []) (addrOf (place 2 (field 0 ∷ deref ε1 ∷ []))))
-      (seq (assign (place 9 []) (aggregate (copy (place 8 []) ∷ copy (place 2 (field 1 ∷ [])) ∷ [])))
-      (seq (assign (place 10 []) (addrOf (place 3 (field 0 ∷ deref ε2 ∷ []))))
-      (seq (assign (place 11 []) (aggregate (copy (place 10 []) ∷ copy (place 3 (field 1 ∷ [])) ∷ [])))
-      (seq (assign (place 12 []) (addrOf (place 4 (field 0 ∷ deref ε3 ∷ []))))
-      (seq (assign (place 13 []) (aggregate (copy (place 12 []) ∷ copy (place 4 (field 1 ∷ [])) ∷ [])))
-      (seq (call f (copy (place 7 []) ∷ copy (place 9 []) ∷ copy (place 11 []) ∷ copy (place 13 []) ∷ copy (place 5 []) ∷ []) (place 6 []))
-      (seq (assign (place 1 (deref (S .ty) ∷ [])) (rvOpd (copy (place 6 (field 0 ∷ [])))))
-      (seq (assign (place 0 []) (rvOpd (copy (place 6 (field 1 ∷ [])))))
-      (return))))))))));
+        (seq (assign (place 8 []) (addrOf (place 2 (field 0 ∷ deref ε1 ∷ []))))
+        (seq (assign (place 9 []) (aggregate (copy (place 8 []) ∷ copy (place 2 (field 1 ∷ [])) ∷ [])))
+        (seq (assign (place 10 []) (addrOf (place 3 (field 0 ∷ deref ε2 ∷ []))))
+        (seq (assign (place 11 []) (aggregate (copy (place 10 []) ∷ copy (place 3 (field 1 ∷ [])) ∷ [])))
+        (seq (assign (place 12 []) (addrOf (place 4 (field 0 ∷ deref ε3 ∷ []))))
+        (seq (assign (place 13 []) (aggregate (copy (place 12 []) ∷ copy (place 4 (field 1 ∷ [])) ∷ [])))
+        (seq (call f (copy (place 7 []) ∷ copy (place 9 []) ∷ copy (place 11 []) ∷ copy (place 13 []) ∷ copy (place 5 []) ∷ []) (place 6 []))
+        (seq (assign (place 1 (deref (S .ty) ∷ [])) (rvOpd (copy (place 6 (field 0 ∷ [])))))
+        (seq (assign (place 0 []) (rvOpd (copy (place 6 (field 1 ∷ [])))))
+        (return))))))))));
   }
 
   module _ {M : Type 1} (𝓤 : URA M) (H : Heap 𝓤) (A : Atoms 𝓤) (W : Given 𝓤 H A) (known : Known S) (answer-known : Known D) (κ : Lft) (q : Share) (b o : ℕ) (γ : GName) (h : S .Denot) (b1 o1 n1 : ℕ) (f1 : n1 < 2 ^ 64) (b2 o2 n2 : ℕ) (f2 : n2 < 2 ^ 64) (b3 o3 n3 : ℕ) (f3 : n3 < 2 ^ 64) (u4 : Val) (t4 : Fits σ4 u4)

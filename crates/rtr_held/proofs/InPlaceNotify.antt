@@ -1,4 +1,5 @@
--- T
+-- The walk of a function that is lent a record by `&` beside three `&` slices, over any record and answer that are moved whole (Whole.antt), and any callee. The borrow is looked into, the record is copied into a local, the borrow is shut,
+-- and the callee is called on the copy. What the slices own goes to the callee (`asked`), unread.
 -- Assumes nothing.
 use mathlib.Core.Path.{refl}
 use Prim.Native.Nat.{ℕ}
@@ -30,8 +31,8 @@ module _ (S D : Whole) (ρ : Ty) (σ1 : Ty) (σ2 : Ty) (σ3 : Ty) (f : Name) whe
     params = 4;
     locals = local (D .ty) valueLocal ∷ local (tyRef (named 0) imm ρ) valueLocal ∷ local (σ1) valueLocal ∷ local (σ2) valueLocal ∷ local (σ3) valueLocal ∷ local (S .ty) valueLocal ∷ [];
     body = seq (assign (place 5 []) (rvOpd (copy (place 1 (deref (S .ty) ∷ [])))))
-      (seq (call f (copy (place 5 []) ∷ copy (place 2 []) ∷ copy (place 3 []) ∷ copy (place 4 []) ∷ []) (place 0 []))
-      (return));
+        (seq (call f (copy (place 5 []) ∷ copy (place 2 []) ∷ copy (place 3 []) ∷ copy (place 4 []) ∷ []) (place 0 []))
+        (return));
   }
 
   module _ {M : Type 1} (𝓤 : URA M) (H : Heap 𝓤) (A : Atoms 𝓤) (W : Given 𝓤 H A) (known : Known S) (answer-known : Known D) (κ : Lft) (q : Share) (b o : ℕ) (γ : GName) (h : S .Denot) (u1 : Val) (t1 : Fits σ1 u1) (u2 : Val) (t2 : Fits σ2 u2) (u3 : Val) (t3 : Fits σ3 u3)

@@ -1,4 +1,5 @@
--- The walk of a call that is lent the record, a `&`, a `&mut` and a `&` slice.
+-- The walk of a function that is lent a record by `&mut` beside a `&`, a `&mut` and a `&` slice, over any record and answer that are moved whole (Whole.antt), and any callee. The borrow is opened and stays open over the call: the record is copied
+-- into a local and passed by value; of what comes back the first field is stored whole over the record, and the borrow is closed at it. What the slices own goes to the callee (`asked`) and what the callee leaves of them to the exit (`exits`), unread.
 -- Assumes nothing.
 use mathlib.Core.Path.{refl}
 use Prim.Native.Nat.{ℕ, _<_, _^_}
@@ -34,12 +35,12 @@ module _ (S D : Whole) (F : Both S D) (ρ : Ty) (σ1 : Ty) (ε2 : Ty) (σ3 : Ty)
     params = 4;
     locals = local (D .ty) valueLocal ∷ local (tyRef (named 0) mut ρ) valueLocal ∷ local (σ1) valueLocal ∷ local (lentSlice (named 2) ε2) valueLocal ∷ local (σ3) valueLocal ∷ local (pairTy (F .name) (S .ty) (D .ty)) valueLocal ∷ local (S .ty) valueLocal ∷ local (tyRef erased mut ε2) valueLocal ∷ local (lentSlice erased ε2) valueLocal ∷ [];
     body = seq (assign (place 6 []) (rvOpd (copy (place 1 (deref (S .ty) ∷ [])))))
-      (seq (assign (place 7 []) (addrOf (place 3 (field 0 ∷ deref ε2 ∷ []))))
-      (seq (assign (place 8 []) (aggregate (copy (place 7 []) ∷ copy (place 3 (field 1 ∷ [])) ∷ [])))
-      (seq (call f (copy (place 6 []) ∷ copy (place 2 []) ∷ copy (place 8 []) ∷ copy (place 4 []) ∷ []) (place 5 []))
-      (seq (assign (place 1 (deref (S .ty) ∷ [])) (rvOpd (copy (place 5 (field 0 ∷ [])))))
-      (seq (assign (place 0 []) (rvOpd (copy (place 5 (field 1 ∷ [])))))
-      (return))))));
+        (seq (assign (place 7 []) (addrOf (place 3 (field 0 ∷ deref ε2 ∷ []))))
+        (seq (assign (place 8 []) (aggregate (copy (place 7 []) ∷ copy (place 3 (field 1 ∷ [])) ∷ [])))
+        (seq (call f (copy (place 6 []) ∷ copy (place 2 []) ∷ copy (place 8 []) ∷ copy (place 4 []) ∷ []) (place 5 []))
+        (seq (assign (place 1 (deref (S .ty) ∷ [])) (rvOpd (copy (place 5 (field 0 ∷ [])))))
+        (seq (assign (place 0 []) (rvOpd (copy (place 5 (field 1 ∷ [])))))
+        (return))))));
   }
 
   module _ {M : Type 1} (𝓤 : URA M) (H : Heap 𝓤) (A : Atoms 𝓤) (W : Given 𝓤 H A) (known : Known S) (answer-known : Known D) (κ : Lft) (q : Share) (b o : ℕ) (γ : GName) (h : S .Denot) (u1 : Val) (t1 : Fits σ1 u1) (b2 o2 n2 : ℕ) (f2 : n2 < 2 ^ 64) (u3 : Val) (t3 : Fits σ3 u3)

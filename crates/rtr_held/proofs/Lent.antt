@@ -178,4 +178,3 @@ reconnected = record {
   made = λ s d p g. LL.owes C.the-type C′.the-laws (record { session = s; answer = d }) (p, (g, tt));
   makes = λ 𝓤 H A. LL.makes C.the-type C′.the-plain 𝓤 H A;
 }
-

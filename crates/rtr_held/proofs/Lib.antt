@@ -1,3 +1,4 @@
+-- `Unique` is for readers and other crates; the others are the walks: `Whole` what they share, `Lent` the types they are used at, one file for each shape of parameters.
 mod Whole
 mod Lent
 mod InPlaceFeed
@@ -8,3 +9,4 @@ mod ThroughFeed
 mod ThroughAsk
 mod ThroughReconnect
 mod ThroughNotify
+pub mod Unique

@@ -1,4 +1,5 @@
--- T
+-- The walk of a function that takes a record by value and lends it by `&mut`, beside three `&` slices and a `&mut` slice, over any record and answer that are moved whole (Whole.antt), and any callee. The local is lent for a lifetime ν that the walk makes, and once
+-- ν has ended comes back at the last value that the callee says (`opened`; `Denote/Lend.antt`'s `lends-ref`, `ref-back`). What the slices own goes to the callee (`asked`) and what the callee leaves of them to the exit (`exits`), unread.
 -- Assumes nothing.
 use mathlib.Core.Path.{refl, ap, subst}
 use Prim.Native.Nat.{ℕ, _<_, _^_}
@@ -36,13 +37,13 @@ module _ (S D : Whole) (F : Both S D) (ρ : Ty) (σ1 : Ty) (σ2 : Ty) (σ3 : Ty)
     params = 5;
     locals = local (pairTy (F .name) (S .ty) (D .ty)) valueLocal ∷ local (S .ty) valueLocal ∷ local (σ1) valueLocal ∷ local (σ2) valueLocal ∷ local (σ3) valueLocal ∷ local (lentSlice (named 3) ε4) valueLocal ∷ local (S .ty) memorySlot ∷ local (D .ty) valueLocal ∷ local (tyRef erased mut ρ) valueLocal ∷ local (tyRef erased mut ε4) valueLocal ∷ local (lentSlice erased ε4) valueLocal ∷ local (S .ty) valueLocal ∷ [];
     body = seq (assign (place 6 []) (rvOpd (copy (place 1 []))))
-      (seq (assign (place 8 []) (addrOf (place 6 [])))
-      (seq (assign (place 9 []) (addrOf (place 5 (field 0 ∷ deref ε4 ∷ []))))
-      (seq (assign (place 10 []) (aggregate (copy (place 9 []) ∷ copy (place 5 (field 1 ∷ [])) ∷ [])))
-      (seq (call f (copy (place 8 []) ∷ copy (place 2 []) ∷ copy (place 3 []) ∷ copy (place 4 []) ∷ copy (place 10 []) ∷ []) (place 7 []))
-      (seq (assign (place 11 []) (rvOpd (copy (place 6 []))))
-      (seq (assign (place 0 []) (aggregate (copy (place 11 []) ∷ copy (place 7 []) ∷ [])))
-      (return)))))));
+        (seq (assign (place 8 []) (addrOf (place 6 [])))
+        (seq (assign (place 9 []) (addrOf (place 5 (field 0 ∷ deref ε4 ∷ []))))
+        (seq (assign (place 10 []) (aggregate (copy (place 9 []) ∷ copy (place 5 (field 1 ∷ [])) ∷ [])))
+        (seq (call f (copy (place 8 []) ∷ copy (place 2 []) ∷ copy (place 3 []) ∷ copy (place 4 []) ∷ copy (place 10 []) ∷ []) (place 7 []))
+        (seq (assign (place 11 []) (rvOpd (copy (place 6 []))))
+        (seq (assign (place 0 []) (aggregate (copy (place 11 []) ∷ copy (place 7 []) ∷ [])))
+        (return)))))));
   }
 
   module _ {M : Type 1} (𝓤 : URA M) (H : Heap 𝓤) (A : Atoms 𝓤) (W : Given 𝓤 H A) (known : Known S) (answer-known : Known D) (h : S .Denot) (g : IsWhole S h) (u1 : Val) (t1 : Fits σ1 u1) (u2 : Val) (t2 : Fits σ2 u2) (u3 : Val) (t3 : Fits σ3 u3) (b4 o4 n4 : ℕ) (f4 : n4 < 2 ^ 64)

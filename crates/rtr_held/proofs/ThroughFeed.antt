@@ -1,4 +1,5 @@
--- T
+-- The walk of a function that takes a record by value and lends it by `&mut`, beside three `&mut` slices and a `&` slice, over any record and answer that are moved whole (Whole.antt), and any callee. The local is lent for a lifetime ν that the walk makes, and once
+-- ν has ended comes back at the last value that the callee says (`opened`; `Denote/Lend.antt`'s `lends-ref`, `ref-back`). What the slices own goes to the callee (`asked`) and what the callee leaves of them to the exit (`exits`), unread.
 -- Assumes nothing.
 use mathlib.Core.Path.{refl, ap, subst}
 use Prim.Native.Nat.{ℕ, _<_, _^_}
@@ -36,17 +37,17 @@ module _ (S D : Whole) (F : Both S D) (ρ : Ty) (ε1 : Ty) (ε2 : Ty) (ε3 : Ty)
     params = 5;
     locals = local (pairTy (F .name) (S .ty) (D .ty)) valueLocal ∷ local (S .ty) valueLocal ∷ local (lentSlice (named 0) ε1) valueLocal ∷ local (lentSlice (named 1) ε2) valueLocal ∷ local (lentSlice (named 2) ε3) valueLocal ∷ local (σ4) valueLocal ∷ local (S .ty) memorySlot ∷ local (D .ty) valueLocal ∷ local (tyRef erased mut ρ) valueLocal ∷ local (tyRef erased mut ε1) valueLocal ∷ local (lentSlice erased ε1) valueLocal ∷ local (tyRef erased mut ε2) valueLocal ∷ local (lentSlice erased ε2) valueLocal ∷ local (tyRef erased mut ε3) valueLocal ∷ local (lentSlice erased ε3) valueLocal ∷ local (S .ty) valueLocal ∷ [];
     body = seq (assign (place 6 []) (rvOpd (copy (place 1 []))))
-      (seq (assign (place 8 []) (addrOf (place 6 [])))
-      (seq (assign (place 9 []) (addrOf (place 2 (field 0 ∷ deref ε1 ∷ []))))
-      (seq (assign (place 10 []) (aggregate (copy (place 9 []) ∷ copy (place 2 (field 1 ∷ [])) ∷ [])))
-      (seq (assign (place 11 []) (addrOf (place 3 (field 0 ∷ deref ε2 ∷ []))))
-      (seq (assign (place 12 []) (aggregate (copy (place 11 []) ∷ copy (place 3 (field 1 ∷ [])) ∷ [])))
-      (seq (assign (place 13 []) (addrOf (place 4 (field 0 ∷ deref ε3 ∷ []))))
-      (seq (assign (place 14 []) (aggregate (copy (place 13 []) ∷ copy (place 4 (field 1 ∷ [])) ∷ [])))
-      (seq (call f (copy (place 8 []) ∷ copy (place 10 []) ∷ copy (place 12 []) ∷ copy (place 14 []) ∷ copy (place 5 []) ∷ []) (place 7 []))
-      (seq (assign (place 15 []) (rvOpd (copy (place 6 []))))
-      (seq (assign (place 0 []) (aggregate (copy (place 15 []) ∷ copy (place 7 []) ∷ [])))
-      (return)))))))))));
+        (seq (assign (place 8 []) (addrOf (place 6 [])))
+        (seq (assign (place 9 []) (addrOf (place 2 (field 0 ∷ deref ε1 ∷ []))))
+        (seq (assign (place 10 []) (aggregate (copy (place 9 []) ∷ copy (place 2 (field 1 ∷ [])) ∷ [])))
+        (seq (assign (place 11 []) (addrOf (place 3 (field 0 ∷ deref ε2 ∷ []))))
+        (seq (assign (place 12 []) (aggregate (copy (place 11 []) ∷ copy (place 3 (field 1 ∷ [])) ∷ [])))
+        (seq (assign (place 13 []) (addrOf (place 4 (field 0 ∷ deref ε3 ∷ []))))
+        (seq (assign (place 14 []) (aggregate (copy (place 13 []) ∷ copy (place 4 (field 1 ∷ [])) ∷ [])))
+        (seq (call f (copy (place 8 []) ∷ copy (place 10 []) ∷ copy (place 12 []) ∷ copy (place 14 []) ∷ copy (place 5 []) ∷ []) (place 7 []))
+        (seq (assign (place 15 []) (rvOpd (copy (place 6 []))))
+        (seq (assign (place 0 []) (aggregate (copy (place 15 []) ∷ copy (place 7 []) ∷ [])))
+        (return)))))))))));
   }
 
   module _ {M : Type 1} (𝓤 : URA M) (H : Heap 𝓤) (A : Atoms 𝓤) (W : Given 𝓤 H A) (known : Known S) (answer-known : Known D) (h : S .Denot) (g : IsWhole S h) (b1 o1 n1 : ℕ) (f1 : n1 < 2 ^ 64) (b2 o2 n2 : ℕ) (f2 : n2 < 2 ^ 64) (b3 o3 n3 : ℕ) (f3 : n3 < 2 ^ 64) (u4 : Val) (t4 : Fits σ4 u4)

@@ -1,4 +1,5 @@
--- T
+-- The walk of a function that takes a record by value and lends it by `&`, beside three `&` slices, over any record and answer that are moved whole (Whole.antt), and any callee. The local is lent for a lifetime ν that the walk makes
+-- (`Denote/Lend.antt`'s `lends-shr`), and comes back as it was once ν has ended.
 -- Assumes nothing.
 use mathlib.Core.Path.{refl}
 use Prim.Native.Nat.{ℕ}
@@ -33,9 +34,9 @@ module _ (S D : Whole) (ρ : Ty) (σ1 : Ty) (σ2 : Ty) (σ3 : Ty) (f : Name) whe
     params = 4;
     locals = local (D .ty) valueLocal ∷ local (S .ty) valueLocal ∷ local (σ1) valueLocal ∷ local (σ2) valueLocal ∷ local (σ3) valueLocal ∷ local (S .ty) memorySlot ∷ local (tyRef erased imm ρ) valueLocal ∷ [];
     body = seq (assign (place 5 []) (rvOpd (copy (place 1 []))))
-      (seq (assign (place 6 []) (addrOf (place 5 [])))
-      (seq (call f (copy (place 6 []) ∷ copy (place 2 []) ∷ copy (place 3 []) ∷ copy (place 4 []) ∷ []) (place 0 []))
-      (return)));
+        (seq (assign (place 6 []) (addrOf (place 5 [])))
+        (seq (call f (copy (place 6 []) ∷ copy (place 2 []) ∷ copy (place 3 []) ∷ copy (place 4 []) ∷ []) (place 0 []))
+        (return)));
   }
 
   module _ {M : Type 1} (𝓤 : URA M) (H : Heap 𝓤) (A : Atoms 𝓤) (W : Given 𝓤 H A) (known : Known S) (answer-known : Known D) (h : S .Denot) (g : IsWhole S h) (u1 : Val) (t1 : Fits σ1 u1) (u2 : Val) (t2 : Fits σ2 u2) (u3 : Val) (t3 : Fits σ3 u3)

@@ -1,4 +1,5 @@
--- T
+-- The walk of a function that takes a record by value and lends it by `&mut`, beside a `&`, a `&mut` and a `&` slice, over any record and answer that are moved whole (Whole.antt), and any callee. The local is lent for a lifetime ν that the walk makes, and once
+-- ν has ended comes back at the last value that the callee says (`opened`; `Denote/Lend.antt`'s `lends-ref`, `ref-back`). What the slices own goes to the callee (`asked`) and what the callee leaves of them to the exit (`exits`), unread.
 -- Assumes nothing.
 use mathlib.Core.Path.{refl, ap, subst}
 use Prim.Native.Nat.{ℕ, _<_, _^_}
@@ -36,13 +37,13 @@ module _ (S D : Whole) (F : Both S D) (ρ : Ty) (σ1 : Ty) (ε2 : Ty) (σ3 : Ty)
     params = 4;
     locals = local (pairTy (F .name) (S .ty) (D .ty)) valueLocal ∷ local (S .ty) valueLocal ∷ local (σ1) valueLocal ∷ local (lentSlice (named 1) ε2) valueLocal ∷ local (σ3) valueLocal ∷ local (S .ty) memorySlot ∷ local (D .ty) valueLocal ∷ local (tyRef erased mut ρ) valueLocal ∷ local (tyRef erased mut ε2) valueLocal ∷ local (lentSlice erased ε2) valueLocal ∷ local (S .ty) valueLocal ∷ [];
     body = seq (assign (place 5 []) (rvOpd (copy (place 1 []))))
-      (seq (assign (place 7 []) (addrOf (place 5 [])))
-      (seq (assign (place 8 []) (addrOf (place 3 (field 0 ∷ deref ε2 ∷ []))))
-      (seq (assign (place 9 []) (aggregate (copy (place 8 []) ∷ copy (place 3 (field 1 ∷ [])) ∷ [])))
-      (seq (call f (copy (place 7 []) ∷ copy (place 2 []) ∷ copy (place 9 []) ∷ copy (place 4 []) ∷ []) (place 6 []))
-      (seq (assign (place 10 []) (rvOpd (copy (place 5 []))))
-      (seq (assign (place 0 []) (aggregate (copy (place 10 []) ∷ copy (place 6 []) ∷ [])))
-      (return)))))));
+        (seq (assign (place 7 []) (addrOf (place 5 [])))
+        (seq (assign (place 8 []) (addrOf (place 3 (field 0 ∷ deref ε2 ∷ []))))
+        (seq (assign (place 9 []) (aggregate (copy (place 8 []) ∷ copy (place 3 (field 1 ∷ [])) ∷ [])))
+        (seq (call f (copy (place 7 []) ∷ copy (place 2 []) ∷ copy (place 9 []) ∷ copy (place 4 []) ∷ []) (place 6 []))
+        (seq (assign (place 10 []) (rvOpd (copy (place 5 []))))
+        (seq (assign (place 0 []) (aggregate (copy (place 10 []) ∷ copy (place 6 []) ∷ [])))
+        (return)))))));
   }
 
   module _ {M : Type 1} (𝓤 : URA M) (H : Heap 𝓤) (A : Atoms 𝓤) (W : Given 𝓤 H A) (known : Known S) (answer-known : Known D) (h : S .Denot) (g : IsWhole S h) (u1 : Val) (t1 : Fits σ1 u1) (b2 o2 n2 : ℕ) (f2 : n2 < 2 ^ 64) (u3 : Val) (t3 : Fits σ3 u3)
