@@ -32,13 +32,16 @@ pub record ReadLeft : Type 0 where
   pub answer : ℕ
   pub pdu : List ℕ
 
+-- what the answer and the memory that it leaves say
 abbrev pub readGives : ℕ → List ℕ → ReadLeft
 readGives answer pdu = record { answer = answer; pdu = pdu }
 
+-- what a read says and leaves
 abbrev pub readLeft : Verdict → List ℕ → ReadLeft
 readLeft (Verdict.accepted pdu consumed) numbers = readGives 0 (pduNumbers pdu consumed)
 readLeft (Verdict.refused number values) numbers = readGives number numbers
 
+-- the promise of `hingemoss_read`
 unfoldable pub readC : List ℕ → List ℕ → ReadLeft
 readC bytes numbers = cond (eqb (length numbers) 12) (readLeft (read crate bytes) numbers) (readGives 9 numbers)
 
@@ -48,6 +51,7 @@ pub record EncodeLeft : Type 0 where
   pub written : ℕ
   pub out : List ℕ
 
+-- what the answer and the memory that it leaves say
 abbrev pub encodeGives : ℕ → ℕ → List ℕ → EncodeLeft
 encodeGives answer written out = record { answer = answer; written = written; out = out }
 
@@ -56,13 +60,16 @@ abbrev pub amountOf : Writing → ℕ
 amountOf (Writing.written n) = n
 amountOf (Writing.refused number values) = getD values 0 0
 
+-- what an encoding says and leaves
 abbrev pub encodeLeft : Encoded → EncodeLeft
 encodeLeft e = encodeGives (numberOf (e .says)) (amountOf (e .says)) (e .out)
 
+-- a PDU that was found is encoded
 abbrev pub encodeFound : PduFound → List ℕ → List ℕ → EncodeLeft
 encodeFound (PduFound.Known pdu consumed) payload out = encodeLeft (encode crate pdu payload out)
 encodeFound PduFound.Unknown payload out = encodeGives 22 0 out
 
+-- the promise of `hingemoss_encode`
 unfoldable pub encodeC : List ℕ → List ℕ → List ℕ → EncodeLeft
 encodeC numbers payload out = encodeFound (pduOf numbers) payload out
 
@@ -73,9 +80,11 @@ pub record WalkLeft : Type 0 where
   pub end : ℕ
   pub value : ℕ
 
+-- what the answer and the memory that it leaves say
 abbrev pub walkGives : ℕ → ℕ → ℕ → ℕ → WalkLeft
 walkGives answer level end value = record { answer = answer; level = level; end = end; value = value }
 
+-- an end's number
 abbrev pub endNumber : End → ℕ
 endNumber (End.plain type) = 0
 endNumber End.empty = 1
@@ -89,10 +98,12 @@ endValue End.empty = 0
 endValue (End.refusedBy number) = number
 endValue End.tooDeep = 0
 
+-- what a walk says
 abbrev pub walkLeft : WalkVerdict → WalkLeft
 walkLeft (WalkVerdict.walked level end) = walkGives 0 level (endNumber end) (endValue end)
 walkLeft (WalkVerdict.refused number values) = walkGives number 0 0 0
 
+-- the promise of `hingemoss_walk`
 unfoldable pub walkC : List ℕ → WalkLeft
 walkC bytes = walkLeft (walk crate bytes)
 
@@ -103,17 +114,21 @@ pub record StartLeft : Type 0 where
   pub live : List ℕ
   pub working : List ℕ
 
+-- what the answer and the memory that it leaves say
 abbrev pub startGives : ℕ → List ℕ → List ℕ → List ℕ → StartLeft
 startGives answer session live working = record { answer = answer; session = session; live = live; working = working }
 
+-- what a start says and leaves
 abbrev pub startLeft : StartSays → List ℕ → StartLeft
 startLeft (StartSays.started left) session = startGives 0 (leftNumbers left) (left .live) (left .working)
 startLeft (StartSays.refusedStart number live working) session = startGives number session live working
 
+-- a version that was found is started
 abbrev pub startFound : VersionFound → List ℕ → List ℕ → List ℕ → List ℕ → StartLeft
 startFound (VersionFound.Known version) session live working hold = startLeft (startSays 1024 version live working hold) session
 startFound VersionFound.Unknown session live working hold = startGives 22 session live working
 
+-- the promise of `hingemoss_start`
 unfoldable pub startC : ℕ → List ℕ → List ℕ → List ℕ → List ℕ → StartLeft
 startC version session live working hold =
     cond (eqb (length session) 18) (startFound (versionFound version) session live working hold) (startGives 22 session live working)
@@ -124,19 +139,24 @@ pub record AskLeft : Type 0 where
   pub session : List ℕ
   pub out : List ℕ
 
+-- what the answer and the memory that it leaves say
 abbrev pub askGives : ℕ → List ℕ → List ℕ → AskLeft
 askGives answer session out = record { answer = answer; session = session; out = out }
 
+-- what an ask says and leaves
 abbrev pub askLeft : AskSays → AskLeft
 askLeft a = askGives (numberOf (a .says)) (leftNumbers (a .left)) (a .out)
 
+-- a session that was found asks
 abbrev pub askFound : (Session → AskSays) → SessionFound → List ℕ → List ℕ → AskLeft
 askFound ask (SessionFound.Known s) session out = askLeft (ask s)
 askFound ask SessionFound.Unknown session out = askGives 22 session out
 
+-- the promise of `hingemoss_full_ask`
 unfoldable pub fullAskC : List ℕ → List ℕ → List ℕ → List ℕ → List ℕ → AskLeft
 fullAskC session live working hold out = askFound (λ s. fullAskSays 1024 s live working hold out) (sessionOf session) session out
 
+-- the promise of `hingemoss_change_ask`
 unfoldable pub changeAskC : List ℕ → List ℕ → List ℕ → List ℕ → List ℕ → AskLeft
 changeAskC session live working hold out = askFound (λ s. changeAskSays 1024 s live working hold out) (sessionOf session) session out
 
@@ -154,6 +174,7 @@ pub record FeedLeft : Type 0 where
 abbrev pub heldOf : ℕ → List ℕ → List ℕ → List ℕ
 heldOf answer session hold = cond (eqb answer 22) hold (take (getD session 17 0) hold)
 
+-- what the answer and the memory that it leaves say
 abbrev pub feedGives : ℕ → List ℕ → List ℕ → List ℕ → List ℕ → ℕ → ℕ → FeedLeft
 feedGives answer session live working hold taken updates =
     record {
@@ -166,10 +187,12 @@ feedGives answer session live working hold taken updates =
       updates = updates;
     }
 
+-- a stop's number, or 0
 abbrev pub endingNumber : Ending → ℕ
 endingNumber Ending.goesOn = 0
 endingNumber (Ending.stops number values) = number
 
+-- what a feed says and leaves
 abbrev pub feedLeft : FeedSays → FeedLeft
 feedLeft (FeedSays.fed taken updates ending left) =
     record {
@@ -192,10 +215,12 @@ feedLeft (FeedSays.refusedFeed number taken updates left hold) =
       updates = updates;
     }
 
+-- a session that was found is fed
 abbrev pub feedFound : SessionFound → List ℕ → List ℕ → List ℕ → List ℕ → List ℕ → FeedLeft
 feedFound (SessionFound.Known s) session live working hold piece = feedLeft (feedSays 1024 s live working hold piece)
 feedFound SessionFound.Unknown session live working hold piece = feedGives 22 session live working hold 0 0
 
+-- the promise of `hingemoss_feed`
 unfoldable pub feedC : List ℕ → List ℕ → List ℕ → List ℕ → List ℕ → FeedLeft
 feedC session live working hold piece = feedFound (sessionOf session) session live working hold piece
 
@@ -211,16 +236,20 @@ pub record ReconnectLeft : Type 0 where
   pub session : List ℕ
   pub working : List ℕ
 
+-- what the answer and the memory that it leaves say
 abbrev pub reconnectGives : ℕ → List ℕ → List ℕ → ReconnectLeft
 reconnectGives answer session working = record { answer = answer; session = session; working = working }
 
+-- what a reconnect says and leaves
 abbrev pub reconnectLeft : ReconnectSays → ReconnectLeft
 reconnectLeft r = reconnectGives (r .number) (leftNumbers (r .left)) (r .left .working)
 
+-- a session that was found is reconnected
 abbrev pub reconnectFound : SessionFound → List ℕ → List ℕ → List ℕ → List ℕ → ReconnectLeft
 reconnectFound (SessionFound.Known s) session live working hold = reconnectLeft (reconnectSays 1024 s live working hold)
 reconnectFound SessionFound.Unknown session live working hold = reconnectGives 22 session working
 
+-- the promise of `hingemoss_reconnect`
 unfoldable pub reconnectC : List ℕ → List ℕ → List ℕ → List ℕ → ReconnectLeft
 reconnectC session live working hold = reconnectFound (sessionOf session) session live working hold
 
@@ -229,9 +258,11 @@ pub record NotifyLeft : Type 0 where
   pub answer : ℕ
   pub compared : ℕ
 
+-- what the answer and the memory that it leaves say
 abbrev pub notifyGives : ℕ → ℕ → NotifyLeft
 notifyGives answer compared = record { answer = answer; compared = compared }
 
+-- a comparison's number
 abbrev pub comparedNumber : Notified → ℕ
 comparedNumber Notified.none = 0
 comparedNumber Notified.otherSession = 1
@@ -240,14 +271,17 @@ comparedNumber Notified.newer = 3
 comparedNumber Notified.older = 4
 comparedNumber Notified.undefined = 5
 
+-- what a comparison says
 abbrev pub notifyLeft : NotifySays → NotifyLeft
 notifyLeft (NotifySays.compares n) = notifyGives 0 (comparedNumber n)
 notifyLeft (NotifySays.refusedNotify number) = notifyGives number 0
 
+-- a session that was found is compared
 abbrev pub notifyFound : SessionFound → List ℕ → List ℕ → List ℕ → NotifyLeft
 notifyFound (SessionFound.Known s) live working hold = notifyLeft (notifySays 1024 s live working hold)
 notifyFound SessionFound.Unknown live working hold = notifyGives 22 0
 
+-- the promise of `hingemoss_notify`
 unfoldable pub notifyC : List ℕ → List ℕ → List ℕ → List ℕ → NotifyLeft
 notifyC session live working hold = notifyFound (sessionOf session) live working hold
 
@@ -261,6 +295,7 @@ notifyNumber NotifyAnswer.Older = 0
 notifyNumber NotifyAnswer.Undefined = 0
 notifyNumber NotifyAnswer.NotAReceiver = 22
 
+-- the comparison's number of the code's answer, 0 on 22
 abbrev pub notifyCompared : NotifyAnswer → ℕ
 notifyCompared NotifyAnswer.None = 0
 notifyCompared NotifyAnswer.OtherSession = 1
@@ -275,5 +310,6 @@ abbrev pub listingFound : SessionFound → List ℕ → List ℕ → EncodeLeft
 listingFound (SessionFound.Known s) live out = encodeLeft (listingSays 1024 s live out)
 listingFound SessionFound.Unknown live out = encodeGives 22 0 out
 
+-- the promise of `hingemoss_listing`
 unfoldable pub listingC : List ℕ → List ℕ → List ℕ → EncodeLeft
 listingC session live out = listingFound (sessionOf session) live out

@@ -40,9 +40,11 @@ sessionIf s n = cond (alike (sessionNumbers s) n) (SessionFound.Known s) Session
 abbrev pub low8 : ℕ → ℕ
 low8 n = n % 256
 
+-- of 16 bits
 abbrev pub low16 : ℕ → ℕ
 low16 n = n % 65536
 
+-- of 32 bits
 abbrev pub low32 : ℕ → ℕ
 low32 n = n % 4294967296
 
@@ -55,6 +57,7 @@ abbrev pub codeOr : CodeFound → RtrErrorCode
 codeOr (CodeFound.Known code) = code
 codeOr CodeFound.Unknown = CorruptData
 
+-- the code of a number's 16 bits, or else the first
 abbrev pub looseCode : ℕ → RtrErrorCode
 looseCode n = codeOr (codeFound (low16 n))
 
@@ -92,6 +95,7 @@ loosePhase n =
     (cond (eqb (getD n 1 0) 5) (Phase.Loading LoadKind.Change (low16 (getD n 2 0)))
     (Phase.Stopped (looseStop (getD n 2 0) (getD n 3 0) (getD n 4 0) (getD n 5 0))))))))
 
+-- no table where number 6 is 0, else one of the numbers behind it
 unfoldable pub looseTable : List ℕ → LiveTable
 looseTable n =
     cond (eqb (getD n 6 0) 0) LiveTable.NoTable
@@ -104,9 +108,11 @@ looseTable n =
       expire = low32 (getD n 11 0);
     }))
 
+-- no note where number 12 is 0, else one of the two numbers behind it
 unfoldable pub looseNote : List ℕ → Note
 looseNote n = cond (eqb (getD n 12 0) 0) Note.NoNote (Note.Noted (low16 (getD n 13 0)) (low32 (getD n 14 0)))
 
+-- each part from its numbers
 unfoldable pub looseSession : List ℕ → Session
 looseSession n =
     record {

@@ -48,6 +48,7 @@ abbrev pub tableNumber : LiveTable → ℕ
 tableNumber LiveTable.NoTable = 0
 tableNumber (LiveTable.Known t) = 1
 
+-- what a table says, or zeros
 abbrev pub tableOr : LiveTable → Table
 tableOr LiveTable.NoTable = record { session = 0; serial = 0; refresh = 0; retry = 0; expire = 0 }
 tableOr (LiveTable.Known t) = t
@@ -57,10 +58,12 @@ abbrev pub noteNumber : Note → ℕ
 noteNumber Note.NoNote = 0
 noteNumber (Note.Noted session serial) = 1
 
+-- a note's session, or 0
 abbrev pub noteSession : Note → ℕ
 noteSession Note.NoNote = 0
 noteSession (Note.Noted session serial) = session
 
+-- a note's serial, or 0
 abbrev pub noteSerial : Note → ℕ
 noteSerial Note.NoNote = 0
 noteSerial (Note.Noted session serial) = serial

@@ -14,9 +14,11 @@ use Rattle.rtr_receiver.specs.declared.Session.{Session}
 abbrev pub Fits8 : ℕ → Type 0
 Fits8 n = n < 256
 
+-- of 16 bits
 abbrev pub Fits16 : ℕ → Type 0
 Fits16 n = n < 65536
 
+-- of 32 bits
 abbrev pub Fits32 : ℕ → Type 0
 Fits32 n = n < 4294967296
 

@@ -33,18 +33,23 @@ abbrev pub looseInterval : RtrProtocolVersion → ℕ → Interval
 looseInterval V0 n = Interval.Absent
 looseInterval V1 n = Interval.Seconds (low32 n)
 
+-- a place from the numbers of its start and its length
 abbrev pub loosePlace : List ℕ → ℕ → ℕ → Place
 loosePlace n i j = record { start = getD n i 0; len = getD n j 0 }
 
+-- a Serial Notify from the numbers behind the first three
 abbrev pub looseNotify : RtrProtocolVersion → List ℕ → RtrSerialNotify
 looseNotify version n = record { version = version; «session_id» = low16 (getD n 3 0); «serial_number» = low32 (getD n 4 0) }
 
+-- a Serial Query
 abbrev pub looseQuery : RtrProtocolVersion → List ℕ → RtrSerialQuery
 looseQuery version n = record { version = version; «session_id» = low16 (getD n 3 0); «serial_number» = low32 (getD n 4 0) }
 
+-- a Cache Response
 abbrev pub looseResponse : RtrProtocolVersion → List ℕ → RtrCacheResponse
 looseResponse version n = record { version = version; «session_id» = low16 (getD n 3 0) }
 
+-- an IPv4 Prefix
 abbrev pub looseIPv4 : RtrProtocolVersion → List ℕ → RtrIPv4Prefix
 looseIPv4 version n =
     record {
@@ -56,6 +61,7 @@ looseIPv4 version n =
       asn = low32 (getD n 7 0);
     }
 
+-- an IPv6 Prefix
 abbrev pub looseIPv6 : RtrProtocolVersion → List ℕ → RtrIPv6Prefix
 looseIPv6 version n =
     record {
@@ -67,6 +73,7 @@ looseIPv6 version n =
       asn = low32 (getD n 10 0);
     }
 
+-- an End of Data, with the intervals of its version
 abbrev pub looseEnd : RtrProtocolVersion → List ℕ → RtrEndOfData
 looseEnd version n =
     record {
@@ -78,6 +85,7 @@ looseEnd version n =
       «expire_interval» = looseInterval version (getD n 7 0);
     }
 
+-- a Router Key
 abbrev pub looseKey : RtrProtocolVersion → List ℕ → RtrRouterKey
 looseKey version n =
     record {
@@ -88,6 +96,7 @@ looseKey version n =
       «subject_public_key_info» = loosePlace n 7 8;
     }
 
+-- an Error Report
 abbrev pub looseReport : RtrProtocolVersion → List ℕ → RtrErrorReport
 looseReport version n =
     record {
