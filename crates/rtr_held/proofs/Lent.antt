@@ -29,7 +29,14 @@ use Rattle.rtr_receiver.proofs.AskedSession as Q
 use Rattle.rtr_receiver.proofs.AskedSession.Laws as Q′
 use Rattle.rtr_receiver.proofs.Reconnected as C
 use Rattle.rtr_receiver.proofs.Reconnected.Laws as C′
+use Rattle.rtr_codec.specs.declared.ReadAnswer.{ReadAnswer}
+use Rattle.rtr_codec.specs.declared.RunRead.{RunRead}
+use Rattle.rtr_codec.proofs.ReadAnswer as P
+use Rattle.rtr_codec.proofs.ReadAnswer.Laws as P′
+use Rattle.rtr_codec.proofs.RunRead as U
+use Rattle.rtr_codec.proofs.RunRead.Laws as U′
 use Rattle.rtr_held.proofs.Whole.{Whole, Known, Both}
+use Rattle.rtr_held.proofs.RunNext.{number}
 
 -- the session record
 abbrev pub session : Whole
@@ -177,4 +184,40 @@ reconnected = record {
   fits = λ 𝓤 H A W r w is. LL.lawful C.the-type C′.the-laws 𝓤 H A W .typed r _ is .0;
   made = λ s d p g. LL.owes C.the-type C′.the-laws (record { session = s; answer = d }) (p, (g, tt));
   makes = λ 𝓤 H A. LL.makes C.the-type C′.the-plain 𝓤 H A;
+}
+
+-- what reading at a place gives
+abbrev pub read-answer : Whole
+read-answer = record {
+  Denot = ReadAnswer;
+  ty = P′.mir;
+  written = P.the-row .written;
+  reaches = P.the-row .reaches;
+  own = P.the-row .own;
+  exit = P.the-row .exit;
+  coded = P.the-row .coded;
+  val = EL.val P.the-type P′.the-laws;
+}
+
+pub read-answer-known : Known read-answer
+read-answer-known = record {
+  tells = EL.tells P.the-type P′.the-laws;
+  typed = λ 𝓤 H A W s v g. EL.lawful P.the-type P′.the-laws 𝓤 H A W tt .typed s _ g .0;
+  makes = λ 𝓤 H A. EL.makes P.the-type P′.the-plain 𝓤 H A;
+  copies = λ 𝓤 H A W. EL.copy P.the-type P′.the-copy 𝓤 H A W;
+}
+
+abbrev pub run-read : Both read-answer number
+run-read = record {
+  name = U.struct .name;
+  struct = U.the-row;
+  one = λ (r : RunRead). r .answer;
+  other = λ (r : RunRead). r .next;
+  make = λ s d. record { answer = s; next = d };
+  told = λ r w is. ap only (LL.tells U.the-type U′.the-laws r _ is);
+  first-is = λ r w is. LL.owed U.the-type U′.the-laws r _ is .0;
+  second-is = λ r w is. LL.owed U.the-type U′.the-laws r _ is .1 .0;
+  fits = λ 𝓤 H A W r w is. LL.lawful U.the-type U′.the-laws 𝓤 H A W .typed r _ is .0;
+  made = λ s d p g. LL.owes U.the-type U′.the-laws (record { answer = s; next = d }) (p, (g, tt));
+  makes = λ 𝓤 H A. LL.makes U.the-type U′.the-plain 𝓤 H A;
 }

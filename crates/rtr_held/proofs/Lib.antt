@@ -9,4 +9,5 @@ mod ThroughFeed
 mod ThroughAsk
 mod ThroughReconnect
 mod ThroughNotify
+mod RunNext
 pub mod Unique

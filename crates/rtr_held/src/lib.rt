@@ -1,6 +1,9 @@
 // A session record that is lent: a long-running host keeps one, lends it to each call, and finds it updated in place. Each call takes the record apart,
 // makes the receiver's by-value call and puts the record that comes back in its place, so it promises what that call promises, of the record at exit.
-// The calls ending in `_through` take the record by value and lend it: whoever calls them needs no walk by hand.
+// The calls ending in `_through` take the record by value and lend it: whoever calls them needs no walk by hand. The run reader keeps captured bytes
+// together with a place in them; `rtr_codec::read_at` is the same over plain parameters.
+use rtr_codec::ReadAnswer;
+use rtr_codec::read_at;
 use rtr_receiver::AskAnswer;
 use rtr_receiver::AskedSession;
 use rtr_receiver::Done;
@@ -15,6 +18,8 @@ use rtr_receiver::full_ask;
 use rtr_receiver::notify;
 use rtr_receiver::reconnect;
 ghost use mathlib.Core.Path.{_≡_};
+ghost use Rattle.rtr_codec.specs.Reading.{crate};
+ghost use Rattle.rtr_codec.specs.Run.{readAt, runSaid};
 ghost use Rattle.rtr_receiver.specs.Promises.{feedSays, fedSaid, fullAskSays, changeAskSays, askSaid, reconnectSays, reconnectSaid, notifySays, notifySaid};
 
 // ---- In place
@@ -158,4 +163,36 @@ pub fn notify_through(session: Session, live: &[u32], working: &[u32], hold: &[u
     ensures { λ r. ⌜ notifySaid r ≡ notifySays 1024 session (now (live .entry)) (now (working .entry)) (now (hold .entry)) ⌝ }
 {
     notify_of(&session, live, working, hold)
+}
+
+// ---- The run reader
+
+// Captured bytes and the place to read on from.
+pub struct RtrRun<'a> {
+    pub bytes: &'a [u8],
+    pub at: usize,
+}
+
+// From the first byte on.
+pub fn run_of<'a>(bytes: &'a [u8]) -> RtrRun<'a>
+    ensures { λ r. ⌜ (r .bytes ≡ bytes .entry) × (r .at ≡ 0) ⌝ }
+{
+    RtrRun { bytes, at: 0 }
+}
+
+// The place that is read next.
+pub fn place_of<'a>(run: RtrRun<'a>) -> usize
+    ensures { λ r. ⌜ r ≡ run .entry .at ⌝ }
+{
+    run.at
+}
+
+// The next PDU, and the place behind it; or the refusal, with the place unmoved: at or past the end 1 (0, 8).
+pub fn next_pdu<'s, 'a>(run: &'s mut RtrRun<'a>) -> ReadAnswer
+    ensures { λ r. ⌜ (runSaid (record { answer = r; next = now (run .exit) .at }) ≡ readAt crate (now (now (run .entry) .bytes)) (now (run .entry) .at))
+        × (now (run .exit) .bytes ≡ now (run .entry) .bytes) ⌝ }
+{
+    let read = read_at(run.bytes, run.at);
+    run.at = read.next;
+    read.answer
 }
