@@ -1,0 +1,60 @@
+-- `rtr_hosts::all_announced` is safe and ends: the measure is what is left of the pieces, and the lent memory keeps its lengths. Assumes nothing.
+use borrow.Author.Needs.{needs}
+use Prim.Native.Nat.{_≤_, _-_}
+use mathlib.Core.Path.{_≡_}
+use lib.ListN.{length}
+use Rattle.rtr_hosts.proofs.all_announced.Statement.{statement}
+use Rattle.rtr_hosts.proofs.all_announced.Tie as tie
+
+abbrev Inv-loop : tie.InvT-loop
+Inv-loop lent live₀ working₀ hold₀ log₀ r₀ i₀ live working hold log r i = (i ≤ 3000) × ((length live ≡ length live₀) × ((length working ≡ length working₀) × ((length hold ≡ length hold₀) × (length log ≡ length log₀))))
+
+abbrev μ-loop : tie.MeasureT-loop
+μ-loop lent live₀ working₀ hold₀ log₀ r₀ i₀ live working hold log r i = 3000 - i
+
+loop-holds : tie.Need-loop-holds Inv-loop μ-loop
+loop-holds c = search needs
+
+announced-requires : tie.Need-announced-requires Inv-loop μ-loop
+announced-requires c κs = search needs
+
+add-i : tie.Need-add-i Inv-loop μ-loop
+add-i c = search needs
+
+loop-less : tie.Need-loop-less Inv-loop μ-loop
+loop-less c = search needs
+
+loop-again : tie.Need-loop-again Inv-loop μ-loop
+loop-again c = search needs
+
+same-length : tie.Need-same-length Inv-loop μ-loop
+same-length c = search needs
+
+same-length-2 : tie.Need-same-length-2 Inv-loop μ-loop
+same-length-2 c = search needs
+
+same-length-3 : tie.Need-same-length-3 Inv-loop μ-loop
+same-length-3 c = search needs
+
+same-length-4 : tie.Need-same-length-4 Inv-loop μ-loop
+same-length-4 c = search needs
+
+returns : tie.Need-returns Inv-loop μ-loop
+returns c = search needs
+
+pub all-announced-spec : {M : Type 1} → statement M
+all-announced-spec =
+    tie.close
+    (tie.spec
+    Inv-loop
+    μ-loop
+    loop-holds
+    announced-requires
+    add-i
+    loop-less
+    loop-again
+    same-length
+    same-length-2
+    same-length-3
+    same-length-4
+    returns)
