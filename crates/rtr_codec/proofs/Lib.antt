@@ -9,3 +9,4 @@ mod Behind
 mod Departs
 mod Runs
 mod Text
+mod Plain

@@ -7,3 +7,4 @@ pub mod Layout
 pub mod Bytes
 pub mod Answers
 pub mod Run
+pub mod Plain

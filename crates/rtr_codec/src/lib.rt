@@ -2,6 +2,7 @@
 // 01's order, and copies nothing: payloads are handed over by place. The promise is an equation with `read` of specs/, at the crate's
 // reading; no contract can say how long it takes.
 use rtr_models::*;
+ghost use mathlib.Core.Bool.{true};
 ghost use mathlib.Core.Path.{_≡_};
 ghost use Prim.Native.Nat.{_+_, _≤_, _<_};
 ghost use lib.ListN.{length};
@@ -10,6 +11,7 @@ ghost use Rattle.rtr_codec.specs.Reading.{crate};
 ghost use Rattle.rtr_codec.specs.Read.{read, needed, headerLength, Framed, readSerialNotify, readSerialQuery, readResetQuery, readCacheResponse, readIPv4Prefix, readIPv6Prefix, readEndOfData, readCacheReset, readRouterKey, capped, readText, readEncapsulated, readErrorReport, readAs, readTyped};
 ghost use Rattle.rtr_models.specs.Codes.{typeFound};
 ghost use Rattle.rtr_codec.specs.Answers.{verdict, refusal, numberOf};
+ghost use Rattle.rtr_codec.specs.Plain.{PlainPrefix};
 ghost use Rattle.rtr_codec.specs.Run.{readAt, runSaid};
 
 // ---- Answers
@@ -219,6 +221,27 @@ fn parse_cache_response(input: &[u8], version: RtrProtocolVersion, actual: u32) 
     ReadAnswer::Read(pdu, actual as usize)
 }
 
+// Type 4's numbers, once its lengths are in rule.
+fn ipv4_fields(input: &[u8], version: RtrProtocolVersion) -> ReadAnswer
+    requires { ⌜ Framed 20 (now input) × ((number (now input) 9 1 ≤ number (now input) 10 1) × (number (now input) 10 1 ≤ 32)) ⌝ }
+    ensures { λ r. ⌜ verdict r ≡ readIPv4Prefix version (now (input .entry)) ⌝ }
+{
+    let prefix_length = be8(input, 9);
+    let max_length = be8(input, 10);
+    let flags = be8(input, 8);
+    let prefix = be32(input, 12);
+    let asn = be32(input, 16);
+    let pdu = RtrPdu::IPv4Prefix(RtrIPv4Prefix {
+        version,
+        flags,
+        prefix_length,
+        max_length,
+        prefix,
+        asn,
+    });
+    ReadAnswer::Read(pdu, 20)
+}
+
 // Type 4: byte 11 is not looked at.
 fn parse_ipv4_prefix(input: &[u8], version: RtrProtocolVersion, actual: u32) -> ReadAnswer
     requires { ⌜ Framed actual (now input) ⌝ }
@@ -235,10 +258,24 @@ fn parse_ipv4_prefix(input: &[u8], version: RtrProtocolVersion, actual: u32) -> 
     if max_length > 32 {
         return invalid_prefix_length(prefix_length, max_length, 32);
     }
+    ipv4_fields(input, version)
+}
+
+// Type 6's numbers, once its lengths are in rule.
+fn ipv6_fields(input: &[u8], version: RtrProtocolVersion) -> ReadAnswer
+    requires { ⌜ Framed 32 (now input) × ((number (now input) 9 1 ≤ number (now input) 10 1) × (number (now input) 10 1 ≤ 128)) ⌝ }
+    ensures { λ r. ⌜ verdict r ≡ readIPv6Prefix version (now (input .entry)) ⌝ }
+{
+    let prefix_length = be8(input, 9);
+    let max_length = be8(input, 10);
     let flags = be8(input, 8);
-    let prefix = be32(input, 12);
-    let asn = be32(input, 16);
-    let pdu = RtrPdu::IPv4Prefix(RtrIPv4Prefix {
+    let w0 = be32(input, 12);
+    let w1 = be32(input, 16);
+    let w2 = be32(input, 20);
+    let w3 = be32(input, 24);
+    let asn = be32(input, 28);
+    let prefix = Ipv6Addr { w0, w1, w2, w3 };
+    let pdu = RtrPdu::IPv6Prefix(RtrIPv6Prefix {
         version,
         flags,
         prefix_length,
@@ -246,7 +283,7 @@ fn parse_ipv4_prefix(input: &[u8], version: RtrProtocolVersion, actual: u32) -> 
         prefix,
         asn,
     });
-    ReadAnswer::Read(pdu, actual as usize)
+    ReadAnswer::Read(pdu, 32)
 }
 
 // Type 6: byte 11 is not looked at.
@@ -265,22 +302,7 @@ fn parse_ipv6_prefix(input: &[u8], version: RtrProtocolVersion, actual: u32) -> 
     if max_length > 128 {
         return invalid_prefix_length(prefix_length, max_length, 128);
     }
-    let flags = be8(input, 8);
-    let w0 = be32(input, 12);
-    let w1 = be32(input, 16);
-    let w2 = be32(input, 20);
-    let w3 = be32(input, 24);
-    let asn = be32(input, 28);
-    let prefix = Ipv6Addr { w0, w1, w2, w3 };
-    let pdu = RtrPdu::IPv6Prefix(RtrIPv6Prefix {
-        version,
-        flags,
-        prefix_length,
-        max_length,
-        prefix,
-        asn,
-    });
-    ReadAnswer::Read(pdu, actual as usize)
+    ipv6_fields(input, version)
 }
 
 // Type 7 in version 0: session and serial.
@@ -504,8 +526,8 @@ fn parse_typed(input: &[u8], version: RtrProtocolVersion, actual: u32) -> ReadAn
     }
 }
 
-// One PDU from the front of any bytes: completeness is tested before all else.
-pub fn parse_rtr_pdu(input: &[u8]) -> ReadAnswer
+// One PDU of any kind: completeness is tested before all else.
+fn parse_any(input: &[u8]) -> ReadAnswer
     ensures { λ r. ⌜ verdict r ≡ read crate (now (input .entry)) ⌝ }
 {
     if input.len() < RTR_HEADER_LEN {
@@ -530,6 +552,42 @@ pub fn parse_rtr_pdu(input: &[u8]) -> ReadAnswer
             version_byte,
         )),
     }
+}
+
+// A whole prefix of version 1 with its lengths in rule stands at the front. That nothing else is one nobody has to know.
+fn is_plain(input: &[u8], pdu_type: u8, n: u32, limit: u8) -> bool
+    requires { ⌜ 11 ≤ n ⌝ }
+    ensures { λ r. ⌜ (r ≡ true → PlainPrefix «pdu_type» n limit (now (input .entry))) ⌝ }
+{
+    if input.len() < n as usize {
+        return false;
+    }
+    if be8(input, 1) != pdu_type {
+        return false;
+    }
+    if be8(input, 0) != 1 {
+        return false;
+    }
+    if be32(input, 4) != n {
+        return false;
+    }
+    if be8(input, 10) > limit {
+        return false;
+    }
+    be8(input, 9) <= be8(input, 10)
+}
+
+// One PDU from the front of any bytes. Prefixes, nearly all that a cache sends, come first: the compiler then stores their answer where it goes.
+pub fn parse_rtr_pdu(input: &[u8]) -> ReadAnswer
+    ensures { λ r. ⌜ verdict r ≡ read crate (now (input .entry)) ⌝ }
+{
+    if is_plain(input, 4, RTR_IPV4_PREFIX_LEN, 32) {
+        return ipv4_fields(input, RtrProtocolVersion::V1);
+    }
+    if is_plain(input, 6, RTR_IPV6_PREFIX_LEN, 128) {
+        return ipv6_fields(input, RtrProtocolVersion::V1);
+    }
+    parse_any(input)
 }
 
 // How many bytes there must be before bytes are answered by anything but 1: the header's 8, then as many as it names.

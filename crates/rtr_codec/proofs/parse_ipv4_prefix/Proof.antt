@@ -50,29 +50,11 @@ returns-3 c =
       c .invalid-prefix-length2 .ensures,
     )
 
-be8-requires-3 : tie.Need-be8-requires-3
-be8-requires-3 c κs = search needs
-
-be32-requires : tie.Need-be32-requires
-be32-requires c κs = search needs
-
-be32-requires-2 : tie.Need-be32-requires-2
-be32-requires-2 c κs = search needs
+ipv4-fields-requires : tie.Need-ipv4-fields-requires
+ipv4-fields-requires c κs = search needs
 
 returns-4 : tie.Need-returns-4
-unfolding readIPv4Prefix
-returns-4 c =
-    simp (
-      ← c .before .before .before .before .before .before .before .before .before .pre .0,
-      eq-eqb _ _ (c .before .before .before .before .before .before .before .if1 .left),
-      ← c .before .before .before .before .before .before .be8 .ensures,
-      ← c .before .before .before .before .before .be82 .ensures,
-      le-leb _ _ (c .before .before .before .before .if2 .left),
-      le-leb _ _ (c .before .before .before .if3 .left),
-      c .before .before .be83 .ensures,
-      c .before .be32 .ensures,
-      c .be322 .ensures,
-    )
+returns-4 c = c .ipv4-fields .ensures
 
 pub parse-ipv4-prefix-spec : {M : Type 1} → statement M
 parse-ipv4-prefix-spec =
@@ -86,7 +68,5 @@ parse-ipv4-prefix-spec =
     returns-2
     invalid-prefix-length-requires-2
     returns-3
-    be8-requires-3
-    be32-requires
-    be32-requires-2
+    ipv4-fields-requires
     returns-4)

@@ -50,41 +50,11 @@ returns-3 c =
       c .invalid-prefix-length2 .ensures,
     )
 
-be8-requires-3 : tie.Need-be8-requires-3
-be8-requires-3 c κs = search needs
-
-be32-requires : tie.Need-be32-requires
-be32-requires c κs = search needs
-
-be32-requires-2 : tie.Need-be32-requires-2
-be32-requires-2 c κs = search needs
-
-be32-requires-3 : tie.Need-be32-requires-3
-be32-requires-3 c κs = search needs
-
-be32-requires-4 : tie.Need-be32-requires-4
-be32-requires-4 c κs = search needs
-
-be32-requires-5 : tie.Need-be32-requires-5
-be32-requires-5 c κs = search needs
+ipv6-fields-requires : tie.Need-ipv6-fields-requires
+ipv6-fields-requires c κs = search needs
 
 returns-4 : tie.Need-returns-4
-unfolding readIPv6Prefix
-returns-4 c =
-    simp (
-      ← c .before .before .before .before .before .before .before .before .before .before .before .before .pre .0,
-      eq-eqb _ _ (c .before .before .before .before .before .before .before .before .before .before .if1 .left),
-      ← c .before .before .before .before .before .before .before .before .before .be8 .ensures,
-      ← c .before .before .before .before .before .before .before .before .be82 .ensures,
-      le-leb _ _ (c .before .before .before .before .before .before .before .if2 .left),
-      le-leb _ _ (c .before .before .before .before .before .before .if3 .left),
-      c .before .before .before .before .before .be83 .ensures,
-      c .before .before .before .before .be32 .ensures,
-      c .before .before .before .be322 .ensures,
-      c .before .before .be323 .ensures,
-      c .before .be324 .ensures,
-      c .be325 .ensures,
-    )
+returns-4 c = c .ipv6-fields .ensures
 
 pub parse-ipv6-prefix-spec : {M : Type 1} → statement M
 parse-ipv6-prefix-spec =
@@ -98,10 +68,5 @@ parse-ipv6-prefix-spec =
     returns-2
     invalid-prefix-length-requires-2
     returns-3
-    be8-requires-3
-    be32-requires
-    be32-requires-2
-    be32-requires-3
-    be32-requires-4
-    be32-requires-5
+    ipv6-fields-requires
     returns-4)

@@ -1,65 +1,35 @@
--- `parse_rtr_pdu` gives what `read` says: both tests for missing bytes, then the version by its table. Assumes nothing.
-use borrow.Author.Tests.{le-leb, lt-leb}
-use Rattle.rtr_codec.specs.Read.{read, readVersioned, headerLength}
+-- `parse_rtr_pdu` gives what `read` says: the quick way comes to the plain one (Plain.antt), and what it passes over is read the plain way. Assumes nothing.
+use mathlib.Core.Path.{sym, _∙_}
 use borrow.Author.Needs.{needs}
+use Rattle.rtr_codec.specs.Reading.{crate}
+use Rattle.rtr_codec.proofs.Plain.{plain-ipv4, plain-ipv6}
 use Rattle.rtr_codec.proofs.parse_rtr_pdu.Statement.{statement}
 use Rattle.rtr_codec.proofs.parse_rtr_pdu.Tie as tie
 
+is-plain-requires : tie.Need-is-plain-requires
+is-plain-requires c κs = search needs
+
+ipv4-fields-requires : tie.Need-ipv4-fields-requires
+ipv4-fields-requires c κs = let p = c .before .is-plain .ensures (c .if1 .taken) in (p .0, p .1 .1 .1)
+
 returns : tie.Need-returns
-unfolding read
-returns c =
-    simp (lt-leb _ _ (c .if1 .taken))
+returns c = c .ipv4-fields .ensures ∙ sym (plain-ipv4 crate _ _ _ (c .before .before .is-plain .ensures (c .before .if1 .taken)))
 
-be32-requires : tie.Need-be32-requires
-be32-requires c κs = search needs
+is-plain-requires-2 : tie.Need-is-plain-requires-2
+is-plain-requires-2 c κs = search needs
 
-cast-length-usize : tie.Need-cast-length-usize
-cast-length-usize c = search needs
+ipv6-fields-requires : tie.Need-ipv6-fields-requires
+ipv6-fields-requires c κs = let p = c .before .is-plain2 .ensures (c .if2 .taken) in (p .0, p .1 .1 .1)
 
 returns-2 : tie.Need-returns-2
-unfolding read headerLength
-returns-2 c =
-    simp (le-leb _ _ (c .before .before .if1 .left), ← c .before .be32 .ensures, lt-leb _ _ (c .if2 .taken))
+returns-2 c = c .ipv6-fields .ensures ∙ sym (plain-ipv6 crate _ _ _ (c .before .before .is-plain2 .ensures (c .before .if2 .taken)))
 
-be8-requires : tie.Need-be8-requires
-be8-requires c κs = search needs
-
-from-u8-requires : tie.Need-from-u8-requires
-from-u8-requires c κs = search needs
-
-enum-known-found : tie.Need-enum-known-found
-enum-known-found c = search needs
-
-parse-typed-requires : tie.Need-parse-typed-requires
-unfolding headerLength
-parse-typed-requires c κs =
-    search needs
-
-enum-told : tie.Need-enum-told
-enum-told c = search needs
+parse-any-requires : tie.Need-parse-any-requires
+parse-any-requires c κs = search needs
 
 returns-3 : tie.Need-returns-3
-unfolding read readVersioned headerLength
-returns-3 c =
-    simp (le-leb _ _ (c .before .before .before .before .before .before .before .before .if1 .left), ← c .before .before .before .before .before .before .before .be32 .ensures, le-leb _ _ (c .before .before .before .before .before .before .if2 .left), ← c .before .before .before .before .before .be8 .ensures, ← c .before .before .before .before .from-u8 .ensures, c .before .before .found .given .1) (c .parse-typed .ensures)
-
-returns-4 : tie.Need-returns-4
-unfolding read readVersioned headerLength
-returns-4 c =
-    simp (le-leb _ _ (c .before .before .before .before .before .before .if1 .left), ← c .before .before .before .before .before .be32 .ensures, le-leb _ _ (c .before .before .before .before .if2 .left), ← c .before .before .before .be8 .ensures, ← c .before .before .from-u8 .ensures, c .enum-told .given .1)
+returns-3 c = c .parse-any .ensures
 
 pub parse-rtr-pdu-spec : {M : Type 1} → statement M
 parse-rtr-pdu-spec =
-    tie.close
-    (tie.spec
-    returns
-    be32-requires
-    cast-length-usize
-    returns-2
-    be8-requires
-    from-u8-requires
-    enum-known-found
-    parse-typed-requires
-    enum-told
-    returns-3
-    returns-4)
+    tie.close (tie.spec is-plain-requires ipv4-fields-requires returns is-plain-requires-2 ipv6-fields-requires returns-2 parse-any-requires returns-3)
