@@ -10,4 +10,5 @@ mod ThroughAsk
 mod ThroughReconnect
 mod ThroughNotify
 mod RunNext
+mod ReadRun
 pub mod Unique

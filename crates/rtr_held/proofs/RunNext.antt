@@ -40,7 +40,7 @@ abbrev pub number : Whole
 number = record { Denot = ℕ; ty = tyInt w64; written = usize .written; reaches = usize .reaches; own = usize .own; exit = usize .exit; coded = usize .coded; val = vint w64 }
 
 -- 'a, and the struct's type at it
-abbrev α : Lft → NamedLft
+abbrev pub α : Lft → NamedLft
 α κ′ = record { mir = named 1; lft = κ′ }
 
 abbrev pub B : Lft → RattleType

@@ -3,6 +3,7 @@
 // The calls ending in `_through` take the record by value and lend it: whoever calls them needs no walk by hand. The run reader keeps captured bytes
 // together with a place in them; `rtr_codec::read_at` is the same over plain parameters.
 use rtr_codec::ReadAnswer;
+use rtr_codec::RunRead;
 use rtr_codec::read_at;
 use rtr_receiver::AskAnswer;
 use rtr_receiver::AskedSession;
@@ -195,4 +196,16 @@ pub fn next_pdu<'s, 'a>(run: &'s mut RtrRun<'a>) -> ReadAnswer
     let read = read_at(run.bytes, run.at);
     run.at = read.next;
     read.answer
+}
+
+// The same from a place, with no run to keep: makes one, lends it, and gives back the answer and its place.
+pub fn read_run(bytes: &[u8], at: usize) -> RunRead
+    ensures { λ r. ⌜ runSaid r ≡ readAt crate (now (bytes .entry)) at ⌝ }
+{
+    let mut run = RtrRun { bytes, at };
+    let answer = next_pdu(&mut run);
+    RunRead {
+        answer,
+        next: run.at,
+    }
 }
