@@ -43,7 +43,10 @@ use Rattle.rtr_held.proofs.change_ask_through as change-ask-through
 use Rattle.rtr_held.proofs.reconnect_through as reconnect-through
 use Rattle.rtr_held.proofs.notify_through as notify-through
 use Rattle.rtr_held.specs.declared.RtrRun.{RtrRun}
+use Rattle.rtr_held.proofs.run_of as run-of
+use Rattle.rtr_held.proofs.place_of as place-of
 use Rattle.rtr_held.proofs.next_pdu as next-pdu
+use Rattle.rtr_held.proofs.read_run as read-run
 
 abbrev Slice : Type 0
 Slice = RefT (List ℕ)
@@ -159,3 +162,32 @@ next-pdu-unique κs x y y′ r r′ p p′ =
     let one = read-at-unique κs (now x .bytes, (now x .at, tt)) (record { answer = r; next = now y .at }) (record { answer = r′; next = now y′ .at }) (now x .bytes, (now x .at, tt)) (now x .bytes, (now x .at, tt)) (p .0) (p′ .0) in
     let bytes : now y .bytes ≡ now y′ .bytes = p .1 ∙ sym (p′ .1) in
     ((λ i. record { bytes = bytes i; at = one i .next }), ap (λ (z : RunRead). z .answer) one)
+
+-- `read_run` is `read_at` by its contract alone
+pub read-run-says : {M : Type 1} (𝓤 : URA M) (H : Heap 𝓤) (A : Atoms 𝓤) (mem : Memory → SProp 𝓤) (run : Routine → Fun 𝓤) (κs : Lfts 1) (x : Slice) (n : ℕ) (r : RunRead) →
+    read-run.ensures-1 𝓤 H κs A mem run x n (record { entry = x; exit = x }) (record { entry = n; exit = n }) r ≡ fact 𝓤 (read-at.Post κs (x, (n, tt)) r (x, (n, tt)))
+read-run-says 𝓤 H A mem run κs x n r = refl
+
+pub read-run-unique : (κs : Lfts 1) (x : Slice) (n : ℕ) (r r′ : RunRead) → read-at.Post κs (x, (n, tt)) r (x, (n, tt)) → read-at.Post κs (x, (n, tt)) r′ (x, (n, tt)) → r ≡ r′
+read-run-unique κs x n r r′ p p′ = read-at-unique κs (x, (n, tt)) r r′ (x, (n, tt)) (x, (n, tt)) p p′
+
+-- `run_of` is the run of these bytes at 0, and `place_of` the run's place
+abbrev pub run-held : Slice → RtrRun → Type 0
+run-held x r = (r .bytes ≡ x) × (r .at ≡ 0)
+
+pub run-of-says : {M : Type 1} (𝓤 : URA M) (H : Heap 𝓤) (A : Atoms 𝓤) (mem : Memory → SProp 𝓤) (run : Routine → Fun 𝓤) (κs : Lfts 1) (x : Slice) (r : RtrRun) →
+    run-of.ensures-1 𝓤 H κs A mem run x (record { entry = x; exit = x }) r ≡ fact 𝓤 (run-held x r)
+run-of-says 𝓤 H A mem run κs x r = refl
+
+pub run-of-unique : (x : Slice) (r r′ : RtrRun) → run-held x r → run-held x r′ → r ≡ r′
+run-of-unique x r r′ p p′ =
+    let bytes : r .bytes ≡ r′ .bytes = p .0 ∙ sym (p′ .0) in
+    let at : r .at ≡ r′ .at = p .1 ∙ sym (p′ .1) in
+    λ i. record { bytes = bytes i; at = at i }
+
+pub place-of-says : {M : Type 1} (𝓤 : URA M) (H : Heap 𝓤) (A : Atoms 𝓤) (mem : Memory → SProp 𝓤) (run : Routine → Fun 𝓤) (κs : Lfts 1) (x : RtrRun) (y : _) (n : ℕ) →
+    place-of.ensures-1 𝓤 H κs A mem run x (record { entry = x; exit = y }) n ≡ fact 𝓤 (n ≡ x .at)
+place-of-says 𝓤 H A mem run κs x y n = refl
+
+pub place-of-unique : (x : RtrRun) (n n′ : ℕ) → n ≡ x .at → n′ ≡ x .at → n ≡ n′
+place-of-unique x n n′ p p′ = p ∙ sym p′
