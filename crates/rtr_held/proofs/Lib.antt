@@ -11,4 +11,5 @@ mod ThroughReconnect
 mod ThroughNotify
 mod RunNext
 mod ReadRun
+mod RunAsk
 pub mod Unique

@@ -37,7 +37,7 @@ use Rattle.rtr_held.specs.declared.RtrRun.{RtrRun}
 use Rattle.rtr_held.proofs.RtrRun as T
 use Rattle.rtr_held.proofs.RtrRun.Laws as T′
 use Rattle.rtr_held.proofs.Whole.{Whole, row, IsWhole, Known, Both, pair, pairTy}
-use Rattle.rtr_held.proofs.RunNext.{number, α, B, slice, mach}
+use Rattle.rtr_held.proofs.RunNext.{number, α, B, slice, mach, place-fits}
 
 -- the share of κ's token that the loan has, and the callee's
 abbrev pub lent-share : Share → Share
@@ -111,9 +111,6 @@ module _ (D : Whole) (F : Both D number) (ρ : Ty) (f : Name) where
         qed W (‵ (partAt (B κ) fullShare s l 0) ∷ []) ∵ fpick ! (λ vs. fsplit ! $ spelt ! (B κ) (Is (B κ)) (shows 𝓤 H A (B κ)) (LL.vals (T.the-type (α κ)) (T′.the-laws (α κ))) (LL.tells (T.the-type (α κ)) (T′.the-laws (α κ))) fullShare s vs l 0 $
         use1 W (‵ (fat fullShare (T′.mir erased) l 0 (mach s))) (W .laws .raw-at fullShare (T′.mir erased) l 0 (mach s)) $ done !)
 
-    place-fits : (s : RtrRun) → Is (B κ) s (mach s ∷ []) → s .at < 2 ^ 64
-    place-fits s g = LL.owed (T.the-type (α κ)) (T′.the-laws (α κ)) s _ g .1 .0 .1
-
     pub walk : ((ν l : ℕ) (γ : GName) → ent 𝓤 (mean 𝓤 H A (i ν l γ)) (C f (vptr l 0 ∷ []) (Back ν l γ)))
         → ((ν l : ℕ) (γ : GName) → ent 𝓤 (⋆ 𝓤 H A (Lent ν ∷ ‵ (Ref ν l γ) ∷ [])) (mean 𝓤 H A (i ν l γ)))
         → ((ν l : ℕ) (γ : GName) (d : D .Denot) → ent 𝓤 (Rest ν l γ d) (mean 𝓤 H A (some (λ (s : RtrRun). ‵ (fres γ (B κ .coded .code s)) ⊛ raw (After d s)))))
@@ -144,8 +141,8 @@ module _ (D : Whole) (F : Both D number) (ρ : Ty) (f : Name) where
         move ! (0 ∷ 5 ∷ 3 ∷ []) $ use3 W (later (‵ (partAt (B κ) fullShare s l3 0))) (ref-back 𝓤 H A W (B κ) (ν ∷ κ) γ s l3 0) $ await ! tt $
         use1 W (‵ (fat fullShare (T′.mir erased) l3 0 (mach s)) ⊛ ‵ (B κ .own s (mach s ∷ []))) (lies-out s l3) $ split ! $ move ! (1 ∷ []) $ peeks ! (B κ) (Is (B κ)) (shows 𝓤 H A (B κ)) s (mach s ∷ []) (λ g.
         -- [what the run owns; its cell; the tokens; what the answer owns; what is said; what the bytes own; the locals]
-        assigns ! (of-opd ! (load ! (from ! (fld ! refl (stop !))) (look-in ! 1 (sub ! 1 refl (whole !))))) (from ! (stop !)) (init ! 6 refl (tt, record { fits = place-fits s g })) $
-        assigns ! (agg ! (and-then ! (load ! (from ! (stop !)) (look ! 10 refl)) (and-then ! (load ! (from ! (stop !)) (look ! 6 refl)) (no-more !)))) (from ! (stop !)) (init ! 17 refl (F .fits 𝓤 H A W (F .make d (s .at)) _ (F .made d (s .at) (subst (Is (row D) d) (answer-known .tells d _ is) is) (refl, place-fits s g)))) $
+        assigns ! (of-opd ! (load ! (from ! (fld ! refl (stop !))) (look-in ! 1 (sub ! 1 refl (whole !))))) (from ! (stop !)) (init ! 6 refl (tt, record { fits = place-fits κ s g })) $
+        assigns ! (agg ! (and-then ! (load ! (from ! (stop !)) (look ! 10 refl)) (and-then ! (load ! (from ! (stop !)) (look ! 6 refl)) (no-more !)))) (from ! (stop !)) (init ! 17 refl (F .fits 𝓤 H A W (F .make d (s .at)) _ (F .made d (s .at) (subst (Is (row D) d) (answer-known .tells d _ is) is) (refl, place-fits κ s g)))) $
         returns ! (look ! 17 refl) $ forget ! 6 refl $ forget ! 8 refl $ forget ! 10 refl $ forget ! 1 refl $ forget ! 13 refl $ forget ! 15 refl $ forget ! 17 refl $
         move ! (17 ∷ 18 ∷ []) $ free1 ! $ move ! (15 ∷ 16 ∷ []) $ free1 ! $ move ! (13 ∷ 14 ∷ []) $ free1 ! $ move ! (1 ∷ 12 ∷ []) $ free1 ! $ move ! (9 ∷ 10 ∷ []) $ free1 ! $ move ! (7 ∷ 8 ∷ []) $ free1 ! $ move ! (5 ∷ 6 ∷ []) $ free1 ! $ free0 ! $
-        keep ! (1 ∷ 3 ∷ 4 ∷ []) $ by ! (exits d s (subst (Is (row D) d) (answer-known .tells d _ is) is) (place-fits s g))))))))))))))))
+        keep ! (1 ∷ 3 ∷ 4 ∷ []) $ by ! (exits d s (subst (Is (row D) d) (answer-known .tells d _ is) is) (place-fits κ s g))))))))))))))))

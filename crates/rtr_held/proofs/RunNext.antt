@@ -56,6 +56,19 @@ mach h = T′.lowered h
 abbrev pub at-place : RtrRun → ℕ → RtrRun
 at-place h n = record { bytes = h .bytes; at = n }
 
+-- what whoever holds a run knows of its fields
+pub place-fits : (κ′ : Lft) (h : RtrRun) → Is (B κ′) h (mach h ∷ []) → h .at < 2 ^ 64
+place-fits κ′ h g = LL.owed (T.the-type (α κ′)) (T′.the-laws (α κ′)) h _ g .1 .0 .1
+
+pub room : (κ′ : Lft) (h : RtrRun) → Is (B κ′) h (mach h ∷ []) → length (h .bytes .now) < 2 ^ 64
+room κ′ h g = LL.owed (T.the-type (α κ′)) (T′.the-laws (α κ′)) h _ g .0 .0 .1 .0
+
+-- what a run owns is kept, with a copy of what its bytes own
+pub lends : {M : Type 1} (𝓤 : URA M) (H : Heap 𝓤) (A : Atoms 𝓤) (W : Given 𝓤 H A) (κ′ : Lft) (h : RtrRun) → ent 𝓤 (sem 𝓤 H A (B κ′ .own h (mach h ∷ []))) (mean 𝓤 H A (‵ (B κ′ .own h (mach h ∷ [])) ⊛ ‵ (ShrSlice (named 1) κ′ u8 .own (h .bytes) (slice h ∷ []))))
+lends 𝓤 H A W κ′ h =
+    qed W (‵ (B κ′ .own h (mach h ∷ [])) ∷ []) ∵ use1 W (‵ (B κ′ .own h (mach h ∷ [])) ⊛ ‵ (B κ′ .own h (mach h ∷ []))) (LL.copy (T.the-type (α κ′)) (T′.the-copy (α κ′)) 𝓤 H A W .twice h (mach h ∷ [])) $ split ! $ frame ! $
+    use1 W (given (mach h ∷ [] ≡ mach h ∷ []) (‵ (all-own (T.the-type (α κ′) .parts) (T′.the-laws (α κ′)) (h .bytes, (h .at, tt))))) (own-open 𝓤 H A W (T.the-type (α κ′)) (T′.the-laws (α κ′)) (h .bytes, (h .at, tt)) (mach h)) $ learn ! (λ _. fsplit ! $ move ! (1 ∷ []) $ drop ! $ done !)
+
 module _ (D : Whole) (F : Both D number) (ρ : Ty) (f : Name) where
   -- the code
   abbrev pub code : Fn
@@ -77,18 +90,6 @@ module _ (D : Whole) (F : Both D number) (ρ : Ty) (f : Name) where
     abbrev pub Back : Val → SProp 𝓤
     Back w = mean 𝓤 H A (later (some (λ (r : F .struct .Denot). (toks ⊛ ‵ (F .struct .own r (w ∷ []))) ⊛ raw (Rest r))))
 
-    -- what whoever holds the run knows of its fields
-    n-fits : Is (B κ′) h (mach h ∷ []) → h .at < 2 ^ 64
-    n-fits g = LL.owed (T.the-type (α κ′)) (T′.the-laws (α κ′)) h _ g .1 .0 .1
-
-    room : Is (B κ′) h (mach h ∷ []) → length (h .bytes .now) < 2 ^ 64
-    room g = LL.owed (T.the-type (α κ′)) (T′.the-laws (α κ′)) h _ g .0 .0 .1 .0
-
-    lends : ent 𝓤 (sem 𝓤 H A (B κ′ .own h (mach h ∷ []))) (mean 𝓤 H A (‵ (B κ′ .own h (mach h ∷ [])) ⊛ ‵ (ShrSlice (named 1) κ′ u8 .own (h .bytes) (slice h ∷ []))))
-    lends =
-        qed W (‵ (B κ′ .own h (mach h ∷ [])) ∷ []) ∵ use1 W (‵ (B κ′ .own h (mach h ∷ [])) ⊛ ‵ (B κ′ .own h (mach h ∷ []))) (LL.copy (T.the-type (α κ′)) (T′.the-copy (α κ′)) 𝓤 H A W .twice h (mach h ∷ [])) $ split ! $ frame ! $
-        use1 W (given (mach h ∷ [] ≡ mach h ∷ []) (‵ (all-own (T.the-type (α κ′) .parts) (T′.the-laws (α κ′)) (h .bytes, (h .at, tt))))) (own-open 𝓤 H A W (T.the-type (α κ′)) (T′.the-laws (α κ′)) (h .bytes, (h .at, tt)) (mach h)) $ learn ! (λ _. fsplit ! $ move ! (1 ∷ []) $ drop ! $ done !)
-
     again : (n : ℕ) → n < 2 ^ 64 → ent 𝓤 (sem 𝓤 H A (B κ′ .own h (mach h ∷ []))) (sem 𝓤 H A (B κ′ .own (at-place h n) (mach (at-place h n) ∷ [])))
     again n ok = qed W (‵ (B κ′ .own h (mach h ∷ [])) ∷ []) ∵ owned ! usize (Is usize) (uint-makes 𝓤 H A W w64) n _ (refl, ok) $ move ! (1 ∷ 0 ∷ []) $ by ! (own-put 𝓤 H A W (T.the-type (α κ′)) (T′.the-laws (α κ′)) 1 (h .bytes, (h .at, tt)) n (mach h))
 
@@ -105,11 +106,11 @@ module _ (D : Whole) (F : Both D number) (ρ : Ty) (f : Name) where
         use1 W (‵ (fat fullShare (T′.mir erased) b o (mach h))) (W .laws .raw-at fullShare (T′.mir erased) b o (mach h)) $
         move ! (1 ∷ []) $ peeks ! (B κ′) (Is (B κ′)) (shows 𝓤 H A (B κ′)) h (mach h ∷ []) (λ g. move ! (1 ∷ 0 ∷ []) $
         -- [the run's cell; what it owns; the open borrow; obs; auth; the tokens; true; _4; …; _3; …; _2; …; _1; …; room for _0; …]
-        assigns ! (of-opd ! (load ! (from ! (hop ! (look ! 13 refl) (fld ! refl (stop !)))) (look-in ! 0 (sub ! 0 refl (whole !))))) (from ! (stop !)) (init ! 9 refl (tt, (tt, (record { fits = room g }, tt)))) $
-        assigns ! (of-opd ! (load ! (from ! (hop ! (look ! 13 refl) (fld ! refl (stop !)))) (look-in ! 0 (sub ! 1 refl (whole !))))) (from ! (stop !)) (init ! 7 refl (tt, record { fits = n-fits g })) $
+        assigns ! (of-opd ! (load ! (from ! (hop ! (look ! 13 refl) (fld ! refl (stop !)))) (look-in ! 0 (sub ! 0 refl (whole !))))) (from ! (stop !)) (init ! 9 refl (tt, (tt, (record { fits = room κ′ h g }, tt)))) $
+        assigns ! (of-opd ! (load ! (from ! (hop ! (look ! 13 refl) (fld ! refl (stop !)))) (look-in ! 0 (sub ! 1 refl (whole !))))) (from ! (stop !)) (init ! 7 refl (tt, record { fits = place-fits κ′ h g })) $
         -- the call, with a copy of what the bytes own
-        move ! (1 ∷ []) $ use1 W (‵ (B κ′ .own h (mach h ∷ [])) ⊛ ‵ (ShrSlice (named 1) κ′ u8 .own (h .bytes) (slice h ∷ []))) lends $ split ! $
-        move ! (1 ∷ 6 ∷ []) $ use2 W i (asked (n-fits g)) $
+        move ! (1 ∷ []) $ use1 W (‵ (B κ′ .own h (mach h ∷ [])) ⊛ ‵ (ShrSlice (named 1) κ′ u8 .own (h .bytes) (slice h ∷ []))) (lends 𝓤 H A W κ′ h) $ split ! $
+        move ! (1 ∷ 6 ∷ []) $ use2 W i (asked (place-fits κ′ h g)) $
         -- [what the callee asks; what the run owns; its cell; the open borrow; obs; auth; true; _4; …; _3; …; _2; …; _1; …; room for _0; …]
         calls-from ! fm i (slice h ∷ vint w64 (h .at) ∷ []) Back met (and-then ! (load ! (from ! (stop !)) (look ! 9 refl)) (and-then ! (load ! (from ! (stop !)) (look ! 7 refl)) (no-more !))) (λ w.
         use1 W (later (some (λ (r : F .struct .Denot). (toks ⊛ ‵ (F .struct .own r (w ∷ []))) ⊛ raw (Rest r)))) (id⊢ 𝓤 _) $ await ! tt $ pick ! (λ r. split ! $ split ! $

@@ -1,5 +1,6 @@
 -- Each contract of this crate, as Rattle reads it off the source, is the by-value call's (`.._says`, by computation): of the record's exit content and the answer where the record is lent, of what is returned where it is lent on. So the
 -- by-value call's uniqueness is this crate's too: one answer, one content of the record and one of lent memory (of the hold up to the held count, and all of it under 22). A promise that is weakened breaks this file. Assumes nothing.
+use mathlib.Core.Bool.{Bool}
 use mathlib.Core.List.{List}
 use mathlib.Core.Path.{_≡_, refl, sym, ap, _∙_}
 use Prim.Native.Nat.{ℕ}
@@ -45,6 +46,10 @@ use Rattle.rtr_held.proofs.notify_through as notify-through
 use Rattle.rtr_held.specs.declared.RtrRun.{RtrRun}
 use Rattle.rtr_held.proofs.run_of as run-of
 use Rattle.rtr_held.proofs.place_of as place-of
+use Rattle.rtr_held.proofs.rest_at.Reads as rest-at
+use Rattle.rtr_held.proofs.done_at.Reads as done-at
+use Rattle.rtr_held.proofs.rest_of as rest-of
+use Rattle.rtr_held.proofs.is_done as is-done
 use Rattle.rtr_held.proofs.next_pdu as next-pdu
 use Rattle.rtr_held.proofs.read_run as read-run
 
@@ -191,3 +196,18 @@ place-of-says 𝓤 H A mem run κs x y n = refl
 
 pub place-of-unique : (x : RtrRun) (n n′ : ℕ) → n ≡ x .at → n′ ≡ x .at → n ≡ n′
 place-of-unique x n n′ p p′ = p ∙ sym p′
+
+-- `rest_of` and `is_done` are `rest_at` and `done_at` at the run's bytes and place
+pub rest-of-says : {M : Type 1} (𝓤 : URA M) (H : Heap 𝓤) (A : Atoms 𝓤) (mem : Memory → SProp 𝓤) (run : Routine → Fun 𝓤) (κs : Lfts 1) (x : RtrRun) (y : _) (n : ℕ) →
+    rest-of.ensures-1 𝓤 H κs A mem run x (record { entry = x; exit = y }) n ≡ fact 𝓤 (rest-at.Post κs (x .bytes, (x .at, tt)) n (x .bytes, (x .at, tt)))
+rest-of-says 𝓤 H A mem run κs x y n = refl
+
+pub rest-at-unique : (κs : Lfts 1) (x : Slice) (at n n′ : ℕ) → rest-at.Post κs (x, (at, tt)) n (x, (at, tt)) → rest-at.Post κs (x, (at, tt)) n′ (x, (at, tt)) → n ≡ n′
+rest-at-unique κs x at n n′ p p′ = p ∙ sym p′
+
+pub is-done-says : {M : Type 1} (𝓤 : URA M) (H : Heap 𝓤) (A : Atoms 𝓤) (mem : Memory → SProp 𝓤) (run : Routine → Fun 𝓤) (κs : Lfts 1) (x : RtrRun) (y : _) (b : Bool) →
+    is-done.ensures-1 𝓤 H κs A mem run x (record { entry = x; exit = y }) b ≡ fact 𝓤 (done-at.Post κs (x .bytes, (x .at, tt)) b (x .bytes, (x .at, tt)))
+is-done-says 𝓤 H A mem run κs x y b = refl
+
+pub done-at-unique : (κs : Lfts 1) (x : Slice) (at : ℕ) (b b′ : Bool) → done-at.Post κs (x, (at, tt)) b (x, (at, tt)) → done-at.Post κs (x, (at, tt)) b′ (x, (at, tt)) → b ≡ b′
+done-at-unique κs x at b b′ p p′ = p ∙ sym p′

@@ -1,7 +1,7 @@
 // A session record that is lent: a long-running host keeps one, lends it to each call, and finds it updated in place. Each call takes the record apart,
 // makes the receiver's by-value call and puts the record that comes back in its place, so it promises what that call promises, of the record at exit.
 // The calls ending in `_through` take the record by value and lend it: whoever calls them needs no walk by hand. The run reader keeps captured bytes
-// together with a place in them; `rtr_codec::read_at` is the same over plain parameters.
+// together with a place in them; `read_run`, `rest_at` and `done_at` are the same over plain parameters, as `rtr_codec::read_at` is.
 use rtr_codec::ReadAnswer;
 use rtr_codec::RunRead;
 use rtr_codec::read_at;
@@ -19,6 +19,9 @@ use rtr_receiver::full_ask;
 use rtr_receiver::notify;
 use rtr_receiver::reconnect;
 ghost use mathlib.Core.Path.{_≡_};
+ghost use Prim.Native.Nat.{_-_};
+ghost use lib.Dec.{leb};
+ghost use lib.ListN.{length};
 ghost use Rattle.rtr_codec.specs.Reading.{crate};
 ghost use Rattle.rtr_codec.specs.Run.{readAt, runSaid};
 ghost use Rattle.rtr_receiver.specs.Promises.{feedSays, fedSaid, fullAskSays, changeAskSays, askSaid, reconnectSays, reconnectSaid, notifySays, notifySaid};
@@ -186,6 +189,38 @@ pub fn place_of<'a>(run: RtrRun<'a>) -> usize
     ensures { λ r. ⌜ r ≡ run .entry .at ⌝ }
 {
     run.at
+}
+
+// How many bytes stand from a place on: 0 at or past the end.
+pub fn rest_at(bytes: &[u8], at: usize) -> usize
+    ensures { λ r. ⌜ r ≡ length (now (bytes .entry)) - at ⌝ }
+{
+    if at < bytes.len() {
+        bytes.len() - at
+    } else {
+        0
+    }
+}
+
+// Whether a place is at or past the end.
+pub fn done_at(bytes: &[u8], at: usize) -> bool
+    ensures { λ r. ⌜ r ≡ leb (length (now (bytes .entry))) at ⌝ }
+{
+    bytes.len() <= at
+}
+
+// How many bytes a run has left.
+pub fn rest_of<'a>(run: RtrRun<'a>) -> usize
+    ensures { λ r. ⌜ r ≡ length (now (run .entry .bytes)) - run .entry .at ⌝ }
+{
+    rest_at(run.bytes, run.at)
+}
+
+// Whether a run has nothing left.
+pub fn is_done<'a>(run: RtrRun<'a>) -> bool
+    ensures { λ r. ⌜ r ≡ leb (length (now (run .entry .bytes))) (run .entry .at) ⌝ }
+{
+    done_at(run.bytes, run.at)
 }
 
 // The next PDU, and the place behind it; or the refusal, with the place unmoved: at or past the end 1 (0, 8).
