@@ -1,19 +1,20 @@
--- Eight bytes as one word, and ASCII bytes in a text. A byte is ASCII where it has no highest bit (`low-byte`). In a word under the mask of the
--- highest bits, a byte on top of lower ones meets its own part of the mask (`top-byte`), so the bytes that lie below the masked word's
--- trailing zeros are ASCII (`run-byte`). In a text each of them is a character, so how far it is well formed goes on behind them
--- (`ascii-further`). Assumes nothing.
-use Prim.Native.Nat.{ℕ, zero, suc, _+_, _*_, _/_, _%_, _^_, _≤_, _<_, zero-le}
+-- Eight bytes as one word, and ASCII bytes in a text. A byte is ASCII where it has no highest bit (`low-byte`). Under the mask of the highest
+-- bits a byte's part of the word is its highest bit, so where that part is 0 the byte is ASCII (`masked-byte`); and it is 0 below the word's
+-- trailing zeros (`below-trailing`) and within its leading ones (`above-leading`). In a text each ASCII byte is a character, so how far it is
+-- well formed goes on behind them (`ascii-further`). Assumes nothing.
+use Prim.Native.Nat.{ℕ, zero, suc, _+_, _-_, _*_, _/_, _%_, _^_, _≤_, _<_, zero-le}
 use mathlib.Core.Path.{_≡_, refl, sym, ap, _∙_}
+use mathlib.Core.Logic.{_⊎_, inl, inr}
 use mathlib.Core.Bool.{true}
 use mathlib.Core.List.{List, [], _∷_}
-use native.Mathlib.Nat.{suc-ne-zero, not-suc-le-zero, mod-lt, mod-one, add-zero, le-of-suc-le-suc}
+use native.Mathlib.Nat.{suc-ne-zero, not-suc-le-zero, mod-lt, mod-one, add-zero, le-of-suc-le-suc, lt-of-lt-of-le, eq-zero-or-pos}
 use native.Mathlib.Omega.{arith}
 use borrow.Author.Tests.{le-leb}
 use lib.ListN.{length, drop, getD}
-use lib.Pow.{pow-pos, shl-shr, shr-le, shr-lt, shr-mod, split, high, mod-pow-add, mod-mod-pow}
+use lib.Pow.{pow-pos, pow-mono, shr-le, shr-lt, shr-mod, split, high, field, mod-pow-add, mod-mod-pow}
 use lib.Pow as pow
-use lib.Bits.{bitAnd, and-block, and-high, and-mod}
-use lib.Count.{trailingZeros, under}
+use lib.Bits.{bitAnd, and-high, and-shr, and-mod}
+use lib.Count.{trailingZeros, leadingZeros, leading-length, under}
 use Rattle.rtr_text.specs.Utf8.{Range, _to_, rows, begins, character, wellFormedUpTo}
 use Rattle.rtr_text.proofs.Rows.{range-at, row-fits}
 use Rattle.rtr_text.proofs.Steps.{up-to-further}
@@ -24,6 +25,14 @@ ascii = 0x00 to 0x7f
 -- a byte where it stands in a text
 ascii-at : (text : List ℕ) (at : ℕ) → at < length text → getD text at 0 < 0x80 → true ≡ begins (ascii ∷ []) (drop at text)
 ascii-at text at h b = rw (range-at ascii text at h, le-leb 0 (getD text at 0) zero-le, le-leb (getD text at 0) 0x7f (omega arith))
+
+-- a run and then another
+pub ascii-on : (text : List ℕ) (at k j : ℕ) → ((i : ℕ) → i < k → getD text (at + i) 0 < 0x80) → ((i : ℕ) → i < j → getD text (at + k + i) 0 < 0x80) → (i : ℕ) → i < k + j → getD text (at + i) 0 < 0x80
+ascii-on text at k j a b i l = by (eq-zero-or-pos (suc i - k))
+  where
+    by : (suc i - k ≡ 0) ⊎ (0 < suc i - k) → getD text (at + i) 0 < 0x80
+    by (inl e) = a i (omega arith)
+    by (inr p) = let e : at + k + (i - k) ≡ at + i = omega arith in rw e at (b (i - k) (omega arith))
 
 -- ASCII bytes behind `at`: each is a character
 pub ascii-further : (text : List ℕ) (at k : ℕ) → wellFormedUpTo text ≡ at + wellFormedUpTo (drop at text) → at + k ≤ length text → ((i : ℕ) → i < k → getD text (at + i) 0 < 0x80) → wellFormedUpTo text ≡ at + k + wellFormedUpTo (drop (at + k) text)
@@ -37,14 +46,6 @@ ascii-further text at (suc k) i h b =
 -- a byte without its highest bit
 low-byte : (b : ℕ) → b < 2 ^ 8 → bitAnd b 0x80 ≡ 0 → b < 0x80
 low-byte b h e = omega (arith, and-high b 1 7, shr-mod 1 7 h, split b 7, mod-lt b (pow-pos 7))
-
--- a byte on top of a word's lowest k bits meets its own part of the mask
-top-byte : (k b low w mask : ℕ) → w ≡ b * 2 ^ k + low → low < 2 ^ k → w < 2 ^ (8 + k) → mask < 2 ^ k → bitAnd w (0x80 * 2 ^ k + mask) ≡ 0 → b < 0x80
-top-byte k b low w mask d h f m e =
-    let s : bitAnd b 0x80 * 2 ^ k + bitAnd low mask ≡ 0 = sym (and-block k b 0x80 low mask h m) ∙ rw d at e in
-    let z : bitAnd b 0x80 ≡ 0 = omega (arith, shl-shr (bitAnd b 0x80) k, shr-le (bitAnd b 0x80 * 2 ^ k) k) in
-    let l : b < 2 ^ 8 = rw (d, high b k h) at (shr-lt 8 k f) in
-    low-byte b l z
 
 one-more : (j : ℕ) → j + 1 ≡ suc j
 one-more j = omega arith
@@ -64,19 +65,36 @@ trailing-zeros (suc k) n (suc j) h = by (n % 2) refl h (trailing-zeros k (n / 2)
 pub below : (n k b low w : ℕ) → n % 2 ^ (8 + k) ≡ w → w ≡ b * 2 ^ k + low → low < 2 ^ k → n % 2 ^ k ≡ low
 below n k b low w e d h = sym (mod-mod-pow n 8 k) ∙ rw (e, d) (pow.low b k h)
 
--- a byte below the trailing zeros of a word under a mask that has its highest bit
-pub run-byte : (n all k b low w mask : ℕ) → n % 2 ^ (8 + k) ≡ w → w ≡ b * 2 ^ k + low → low < 2 ^ k → w < 2 ^ (8 + k) → mask < 2 ^ k → all % 2 ^ (8 + k) ≡ 0x80 * 2 ^ k + mask → 8 + k ≤ trailingZeros 64 (bitAnd n all) → b < 0x80
-run-byte n all k b low w mask e d h f m g t =
-    top-byte k b low w mask d h f m (sym (and-mod n all (8 + k) ∙ rw (e, g)) ∙ trailing-zeros 64 (bitAnd n all) (8 + k) t)
+-- a byte of a word, where its part of the word under a mask that has its highest bit is 0
+pub masked-byte : (n all k b low w : ℕ) → n % 2 ^ (8 + k) ≡ w → w ≡ b * 2 ^ k + low → low < 2 ^ k → all / 2 ^ k % 2 ^ 8 ≡ 0x80 → bitAnd n all / 2 ^ k % 0x100 ≡ 0 → b < 0x80
+masked-byte n all k b low w e d h m z =
+    let p : n / 2 ^ k % 2 ^ 8 ≡ b = sym (field n 8 k) ∙ rw (e, d) (high b k h) in
+    let q : bitAnd b 0x80 ≡ 0 = sym (ap (λ (x : ℕ). x % 2 ^ 8) (and-shr n all k) ∙ and-mod (n / 2 ^ k) (all / 2 ^ k) 8 ∙ rw (p, m)) ∙ z in
+    low-byte b (rw p at (mod-lt (n / 2 ^ k) (pow-pos 8))) q
+
+-- every byte's part of a word is 0 where the word is
+pub of-zero : (n k : ℕ) → n ≡ 0 → n / 2 ^ k % 0x100 ≡ 0
+of-zero n k h = omega (arith, shr-le n k)
+
+-- a byte's part of a word is 0 below the word's trailing zeros
+pub below-trailing : (n k : ℕ) → 8 + k ≤ trailingZeros 64 n → n / 2 ^ k % 0x100 ≡ 0
+below-trailing n k h = sym (field n 8 k) ∙ rw (trailing-zeros 64 n (8 + k) h) (omega (arith, shr-le 0 k))
+
+-- and so it is within its leading zeros
+pub above-leading : (n k : ℕ) → n < 2 ^ 64 → 64 ≤ k + leadingZeros 64 n → n / 2 ^ k % 0x100 ≡ 0
+above-leading n k f h =
+    let m = leading-length 64 n f in
+    let z : n / 2 ^ k < 2 ^ 0 = shr-lt 0 k (lt-of-lt-of-le (m .2) (pow-mono (omega arith))) in
+    omega arith
 
 -- a number below eight is one of eight
-pub one-of-eight : (P : ℕ → Type 0) (r : ℕ) → r ≤ 8 → (0 < r → P 0) → (1 < r → P 1) → (2 < r → P 2) → (3 < r → P 3) → (4 < r → P 4) → (5 < r → P 5) → (6 < r → P 6) → (7 < r → P 7) → (i : ℕ) → i < r → P i
-one-of-eight P r h p0 p1 p2 p3 p4 p5 p6 p7 zero l = p0 l
-one-of-eight P r h p0 p1 p2 p3 p4 p5 p6 p7 (suc zero) l = p1 l
-one-of-eight P r h p0 p1 p2 p3 p4 p5 p6 p7 (suc (suc zero)) l = p2 l
-one-of-eight P r h p0 p1 p2 p3 p4 p5 p6 p7 (suc (suc (suc zero))) l = p3 l
-one-of-eight P r h p0 p1 p2 p3 p4 p5 p6 p7 (suc (suc (suc (suc zero)))) l = p4 l
-one-of-eight P r h p0 p1 p2 p3 p4 p5 p6 p7 (suc (suc (suc (suc (suc zero))))) l = p5 l
-one-of-eight P r h p0 p1 p2 p3 p4 p5 p6 p7 (suc (suc (suc (suc (suc (suc zero)))))) l = p6 l
-one-of-eight P r h p0 p1 p2 p3 p4 p5 p6 p7 (suc (suc (suc (suc (suc (suc (suc zero))))))) l = p7 l
-one-of-eight P r h p0 p1 p2 p3 p4 p5 p6 p7 (suc (suc (suc (suc (suc (suc (suc (suc i)))))))) l = absurd (omega arith)
+pub one-of-eight : (P : ℕ → Type 0) → P 0 → P 1 → P 2 → P 3 → P 4 → P 5 → P 6 → P 7 → (i : ℕ) → i < 8 → P i
+one-of-eight P p0 p1 p2 p3 p4 p5 p6 p7 zero l = p0
+one-of-eight P p0 p1 p2 p3 p4 p5 p6 p7 (suc zero) l = p1
+one-of-eight P p0 p1 p2 p3 p4 p5 p6 p7 (suc (suc zero)) l = p2
+one-of-eight P p0 p1 p2 p3 p4 p5 p6 p7 (suc (suc (suc zero))) l = p3
+one-of-eight P p0 p1 p2 p3 p4 p5 p6 p7 (suc (suc (suc (suc zero)))) l = p4
+one-of-eight P p0 p1 p2 p3 p4 p5 p6 p7 (suc (suc (suc (suc (suc zero))))) l = p5
+one-of-eight P p0 p1 p2 p3 p4 p5 p6 p7 (suc (suc (suc (suc (suc (suc zero)))))) l = p6
+one-of-eight P p0 p1 p2 p3 p4 p5 p6 p7 (suc (suc (suc (suc (suc (suc (suc zero))))))) l = p7
+one-of-eight P p0 p1 p2 p3 p4 p5 p6 p7 (suc (suc (suc (suc (suc (suc (suc (suc i)))))))) l = absurd (omega arith)

@@ -1,8 +1,9 @@
 // Well-formed UTF-8, in place of the standard library's test: how far a text is well formed, and whether that is all of it.
 // Empty text and NUL pass. No public call has a condition; nothing is written.
 ghost use mathlib.Core.Path.{_≡_};
+ghost use mathlib.Core.Bool.{true};
 ghost use mathlib.Core.List.{[], _∷_};
-ghost use Prim.Native.Nat.{ℕ, _+_, _*_, _^_, _≤_, _<_};
+ghost use Prim.Native.Nat.{ℕ, _+_, _*_, _/_, _%_, _^_, _≤_, _<_};
 ghost use lib.ListN.{length, drop, getD};
 ghost use Rattle.rtr_text.specs.Utf8.{_to_, rows, begins, character, wellFormedUpTo, wellFormed};
 
@@ -85,12 +86,11 @@ fn on_top(low: u64, byte: u8, k: u64) -> u64
     low | ((byte as u64) << k)
 }
 
-// So many of the next eight bytes are ASCII, from the first on. The eight are one word, and a byte is ASCII where its highest bit is not set.
-// Each byte is shifted to its own place: in this form the compiler loads the word at once. That no more are ASCII nobody has to know.
-fn ascii_run(text: &[u8], at: usize) -> usize
+// The highest bits of the next eight bytes, as one word. Each byte is shifted to its own place: in this form the compiler loads the word at once.
+// A byte whose part of the word is 0 is ASCII. That no other is nobody has to know.
+fn high_bits(text: &[u8], at: usize) -> u64
     requires { ⌜ at + 8 ≤ length (now text) ⌝ }
-    ensures { λ r. ⌜ r ≤ 8 ⌝ }
-    ensures { λ r. ⌜ ((i : ℕ) → i < r → getD (now (text .entry)) (at + i) 0 < 0x80) ⌝ }
+    ensures { λ r. ⌜ ((i : ℕ) → i < 8 → r / 2 ^ (8 * i) % 0x100 ≡ 0 → getD (now (text .entry)) (at + i) 0 < 0x80) ⌝ }
 {
     let w1 = on_top(0, text[at], 0);
     let w2 = on_top(w1, text[at + 1], 8);
@@ -100,22 +100,64 @@ fn ascii_run(text: &[u8], at: usize) -> usize
     let w6 = on_top(w5, text[at + 5], 40);
     let w7 = on_top(w6, text[at + 6], 48);
     let w8 = on_top(w7, text[at + 7], 56);
-    let high = w8 & 0x8080808080808080;
+    w8 & 0x8080808080808080
+}
+
+// So many of the next eight bytes are ASCII, from the first on.
+fn ascii_run(text: &[u8], at: usize) -> usize
+    requires { ⌜ at + 8 ≤ length (now text) ⌝ }
+    ensures { λ r. ⌜ r ≤ 8 ⌝ }
+    ensures { λ r. ⌜ ((i : ℕ) → i < r → getD (now (text .entry)) (at + i) 0 < 0x80) ⌝ }
+{
+    let high = high_bits(text, at);
     let zeros = u64::trailing_zeros(high);
     (zeros / 8) as usize
 }
 
-// ASCII goes by runs. Between runs it goes by characters, and on by them until one is ASCII: only there may a run begin.
+// So many of the last eight bytes are ASCII, from the last one back.
+fn ascii_end(text: &[u8]) -> usize
+    requires { ⌜ 8 ≤ length (now text) ⌝ }
+    ensures { λ r. ⌜ ((i : ℕ) → i < length (now (text .entry)) → length (now (text .entry)) ≤ i + r → getD (now (text .entry)) i 0 < 0x80) ⌝ }
+{
+    let high = high_bits(text, text.len() - 8);
+    let zeros = u64::leading_zeros(high);
+    (zeros / 8) as usize
+}
+
+// Whether the next sixteen bytes are ASCII.
+fn is_ascii_16(text: &[u8], at: usize) -> bool
+    requires { ⌜ at + 16 ≤ length (now text) ⌝ }
+    ensures { λ r. ⌜ (r ≡ true → (i : ℕ) → i < 16 → getD (now (text .entry)) (at + i) 0 < 0x80) ⌝ }
+{
+    high_bits(text, at) == 0 && high_bits(text, at + 8) == 0
+}
+
+// ASCII goes sixteen bytes at a time while no other byte comes: in a loop of its own, where it costs least. From there it goes by runs. Between runs it goes by
+// characters, and on by them until one is ASCII: only there may a run begin. Less than eight bytes at the end of a longer text are tested with those before them.
 pub fn well_formed_up_to(text: &[u8]) -> usize
     ensures { λ r. ⌜ r ≡ wellFormedUpTo (now (text .entry)) ⌝ }
 {
     let mut at = 0;
+    while 16 <= text.len() - at {
+        if is_ascii_16(text, at) {
+            at += 16;
+        } else {
+            break;
+        }
+    }
     while at < text.len() {
-        if 8 <= text.len() - at {
+        let rest = text.len() - at;
+        if 8 <= rest {
             let k = ascii_run(text, at);
             at += k;
             if k == 8 {
                 continue;
+            }
+        } else {
+            if 8 <= text.len() {
+                if rest <= ascii_end(text) {
+                    return text.len();
+                }
             }
         }
         while at < text.len() {
