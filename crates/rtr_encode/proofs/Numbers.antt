@@ -17,13 +17,19 @@ bytes-of-32 n h =
     let b : n / 65536 % 256 ≡ n / 256 / 256 % 256 = omega arith in
     cc
 
--- four digits put together lowest first come out in that order
+-- digits put together lowest first come out in that order
 low : (x rest n : ℕ) → x < 256 → n ≡ x + rest * 256 → n % 256 ≡ x
 low x rest n h e = omega arith
 
-pub digits : (a b c d w : ℕ) → a < 256 → b < 256 → c < 256 → d < 256 → w ≡ a + b * 256 + c * 65536 + d * 16777216
+pub digits-2 : (a b w : ℕ) → a < 256 → b < 256 → w ≡ a + b * 256 → w % 256 ∷ w / 256 ∷ [] ≡ a ∷ b ∷ []
+digits-2 a b w p q e =
+    let x : w % 256 ≡ a = omega arith in
+    let y : w / 256 ≡ b = omega arith in
+    cc
+
+pub digits-4 : (a b c d w : ℕ) → a < 256 → b < 256 → c < 256 → d < 256 → w ≡ a + b * 256 + c * 65536 + d * 16777216
     → w % 256 ∷ w / 256 % 256 ∷ w / 65536 % 256 ∷ w / 16777216 ∷ [] ≡ a ∷ b ∷ c ∷ d ∷ []
-digits a b c d w p q r s e =
+digits-4 a b c d w p q r s e =
     let x : w % 256 ≡ a = omega arith in
     let y : w / 256 % 256 ≡ b = low b (c + d * 256) (w / 256) q (omega arith) in
     let z : w / 65536 % 256 ≡ c = low c d (w / 65536) r (omega arith) in

@@ -52,15 +52,17 @@ fn put16(out: &mut [u8], at: usize, n: u16)
     requires { ⌜ at + 2 ≤ length (now out) ⌝ }
     ensures { λ _. ⌜ now (out .exit) ≡ over (now (out .entry)) at (bytesOf 2 n) ⌝ }
 {
-    out[at] = (n / 256) as u8;
-    out[at + 1] = (n % 256) as u8;
+    // the bytes turned round, lowest first: in this form the compiler swaps and stores them at once
+    let w = n / 256 + n % 256 * 256;
+    out[at] = (w % 256) as u8;
+    out[at + 1] = (w / 256) as u8;
 }
 
 fn put32(out: &mut [u8], at: usize, n: u32)
     requires { ⌜ at + 4 ≤ length (now out) ⌝ }
     ensures { λ _. ⌜ now (out .exit) ≡ over (now (out .entry)) at (bytesOf 4 n) ⌝ }
 {
-    // the bytes turned round, lowest first: in this form the compiler swaps and stores them at once
+    // turned round too
     let w = n / 16777216 + n / 65536 % 256 * 256 + n / 256 % 256 * 65536 + n % 256 * 16777216;
     out[at] = (w % 256) as u8;
     out[at + 1] = (w / 256 % 256) as u8;

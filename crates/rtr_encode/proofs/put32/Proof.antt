@@ -5,7 +5,7 @@ use native.Mathlib.Omega.{arith}
 use lib.ListN.{length-set}
 use Rattle.rtr_base.specs.Over.{over}
 use Rattle.rtr_base.proofs.Overs.{stored-4}
-use Rattle.rtr_encode.proofs.Numbers.{bytes-of-32, digits}
+use Rattle.rtr_encode.proofs.Numbers.{bytes-of-32, digits-4}
 use borrow.Author.Needs.{needs}
 use Rattle.rtr_encode.proofs.put32.Statement.{statement}
 use Rattle.rtr_encode.proofs.put32.Tie as tie
@@ -71,7 +71,7 @@ returns : tie.Need-returns
 returns c =
     let a = c .args in
     stored-4 (now (a .out)) (a .at) _ _ _ _ (c .pre)
-    ∙ ap (over (now (a .out)) (a .at)) (digits _ _ _ _ _ (omega arith) (omega arith) (omega arith) (omega arith) refl ∙ bytes-of-32 (a .n) (omega arith))
+    ∙ ap (over (now (a .out)) (a .at)) (digits-4 _ _ _ _ _ (omega arith) (omega arith) (omega arith) (omega arith) refl ∙ bytes-of-32 (a .n) (omega arith))
 
 pub put32-spec : {M : Type 1} → statement M
 put32-spec =
