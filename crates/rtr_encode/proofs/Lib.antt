@@ -4,6 +4,7 @@ pub mod Departs
 pub mod Unique
 pub mod Samples
 mod Numbers
+mod Blocks
 mod Written
 mod Payloads
 mod Checks

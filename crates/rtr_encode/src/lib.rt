@@ -4,7 +4,7 @@ use rtr_models::*;
 ghost use mathlib.Core.Path.{_≡_};
 ghost use mathlib.Core.List.{[], _∷_, _++_};
 ghost use Prim.Native.Nat.{_+_, _≤_, _<_};
-ghost use lib.ListN.{length};
+ghost use lib.ListN.{length, take, drop};
 ghost use Rattle.rtr_models.specs.Codes.{versionNumber};
 ghost use Rattle.rtr_codec.specs.Reading.{crate};
 ghost use Rattle.rtr_encode.specs.Encode.{bytesOf, encode, withVersion, endOfData, keyBytes, reportBytes, lastChecks};
@@ -248,8 +248,92 @@ pub fn encode_cache_reset(pdu: RtrCacheReset, out: &mut [u8]) -> EncodeAnswer
 
 // ---- Payloads
 
-// Copies a part of a slice behind what is written.
-fn put_part(out: &mut [u8], at: usize, part: &[u8])
+// Four bytes of a slice, loaded and not yet stored.
+struct Four {
+    b0: u8,
+    b1: u8,
+    b2: u8,
+    b3: u8,
+}
+
+fn read_four(part: &[u8], i: usize) -> Four
+    requires { ⌜ i + 4 ≤ length (now part) ⌝ }
+    ensures { λ r. ⌜ r .b0 ∷ r .b1 ∷ r .b2 ∷ r .b3 ∷ [] ≡ take 4 (drop i (now (part .entry))) ⌝ }
+{
+    Four {
+        b0: part[i],
+        b1: part[i + 1],
+        b2: part[i + 2],
+        b3: part[i + 3],
+    }
+}
+
+fn put_four(out: &mut [u8], at: usize, b: Four)
+    requires { ⌜ at + 4 ≤ length (now out) ⌝ }
+    ensures { λ _. ⌜ now (out .exit) ≡ over (now (out .entry)) at (b .b0 ∷ b .b1 ∷ b .b2 ∷ b .b3 ∷ []) ⌝ }
+{
+    out[at] = b.b0;
+    out[at + 1] = b.b1;
+    out[at + 2] = b.b2;
+    out[at + 3] = b.b3;
+}
+
+// Blocks of a part, from i on: all of up to 16 bytes are loaded before any is stored, of which the compiler makes one load and one store.
+fn put_4(out: &mut [u8], at: usize, part: &[u8], i: usize)
+    requires { ⌜ (i + 4 ≤ length (now part)) × (at + 4 ≤ length (now out)) ⌝ }
+    ensures { λ _. ⌜ now (out .exit) ≡ over (now (out .entry)) at (take 4 (drop i (now (part .entry)))) ⌝ }
+{
+    put_four(out, at, read_four(part, i));
+}
+
+fn put_8(out: &mut [u8], at: usize, part: &[u8], i: usize)
+    requires { ⌜ (i + 8 ≤ length (now part)) × (at + 8 ≤ length (now out)) ⌝ }
+    ensures { λ _. ⌜ now (out .exit) ≡ over (now (out .entry)) at (take 8 (drop i (now (part .entry)))) ⌝ }
+{
+    let a = read_four(part, i);
+    let b = read_four(part, i + 4);
+    put_four(out, at, a);
+    put_four(out, at + 4, b);
+}
+
+fn put_16(out: &mut [u8], at: usize, part: &[u8], i: usize)
+    requires { ⌜ (i + 16 ≤ length (now part)) × (at + 16 ≤ length (now out)) ⌝ }
+    ensures { λ _. ⌜ now (out .exit) ≡ over (now (out .entry)) at (take 16 (drop i (now (part .entry)))) ⌝ }
+{
+    let a = read_four(part, i);
+    let b = read_four(part, i + 4);
+    let c = read_four(part, i + 8);
+    let d = read_four(part, i + 12);
+    put_four(out, at, a);
+    put_four(out, at + 4, b);
+    put_four(out, at + 8, c);
+    put_four(out, at + 12, d);
+}
+
+fn put_32(out: &mut [u8], at: usize, part: &[u8], i: usize)
+    requires { ⌜ (i + 32 ≤ length (now part)) × (at + 32 ≤ length (now out)) ⌝ }
+    ensures { λ _. ⌜ now (out .exit) ≡ over (now (out .entry)) at (take 32 (drop i (now (part .entry)))) ⌝ }
+{
+    put_16(out, at, part, i);
+    put_16(out, at + 16, part, i + 16);
+}
+
+// Block by block; the last one ends with the part, and may lie over the one before.
+fn put_long(out: &mut [u8], at: usize, part: &[u8])
+    requires { ⌜ (32 ≤ length (now part)) × (at + length (now part) ≤ length (now out)) ⌝ }
+    ensures { λ _. ⌜ now (out .exit) ≡ over (now (out .entry)) at (now (part .entry)) ⌝ }
+{
+    let last = part.len() - 32;
+    let mut i = 0;
+    while i < last {
+        put_32(out, at + i, part, i);
+        i += 32;
+    }
+    put_32(out, at + last, part, last);
+}
+
+// One by one.
+fn put_few(out: &mut [u8], at: usize, part: &[u8])
     requires { ⌜ at + length (now part) ≤ length (now out) ⌝ }
     ensures { λ _. ⌜ now (out .exit) ≡ over (now (out .entry)) at (now (part .entry)) ⌝ }
 {
@@ -258,6 +342,39 @@ fn put_part(out: &mut [u8], at: usize, part: &[u8])
         out[at + i] = part[i];
         i += 1;
     }
+}
+
+// Copies a part of a slice behind what is written: 4 to 64 bytes as a first block and a last one, which may lie over each other.
+fn put_part(out: &mut [u8], at: usize, part: &[u8])
+    requires { ⌜ at + length (now part) ≤ length (now out) ⌝ }
+    ensures { λ _. ⌜ now (out .exit) ≡ over (now (out .entry)) at (now (part .entry)) ⌝ }
+{
+    let n = part.len();
+    if n > 64 {
+        put_long(out, at, part);
+        return;
+    }
+    if n > 32 {
+        put_32(out, at, part, 0);
+        put_32(out, at + (n - 32), part, n - 32);
+        return;
+    }
+    if n >= 16 {
+        put_16(out, at, part, 0);
+        put_16(out, at + (n - 16), part, n - 16);
+        return;
+    }
+    if n >= 8 {
+        put_8(out, at, part, 0);
+        put_8(out, at + (n - 8), part, n - 8);
+        return;
+    }
+    if n >= 4 {
+        put_4(out, at, part, 0);
+        put_4(out, at + (n - 4), part, n - 4);
+        return;
+    }
+    put_few(out, at, part);
 }
 
 // Bytes 8 and 9 of a key.
@@ -284,7 +401,8 @@ fn put_router_key(
 {
     put_header(out, version, 9, 0, whole);
     put_flags(out, flags);
-    put_part(out, 10, identifier);
+    put_16(out, 10, identifier, 0);
+    put_4(out, 26, identifier, 16);
     put32(out, 30, asn);
     put_part(out, 34, info);
 }
