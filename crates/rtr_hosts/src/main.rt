@@ -1,62 +1,80 @@
-// A long-running host, played: a session record is lent to every call, thousands of feeds long, and what it is after each feed is noted. Then the
-// same bytes go to a second receiver whose record is handed on by value, and each feed is compared with the note. Two loads of 1,000 prefixes in pieces of 7.
+// A long-running host, played: a session record is lent to every call, thousands of feeds long, and the whole record is noted after each call, with what
+// the call answered. Then the same bytes go to a second receiver whose record is handed on by value, and each call is compared with the note, number by
+// number. Two loads of 1,000 prefixes, a Serial Notify and a change that withdraws half of them, in pieces of 7. At the end both rooms are compared, and
+// captured bytes are read through a run and by place, side by side.
 use libc::STDOUT_FILENO;
 use rtr_answers::put;
+use rtr_codec::read_at;
+use rtr_held::change_ask_through;
 use rtr_held::feed_through;
 use rtr_held::full_ask_through;
+use rtr_held::notify_through;
+use rtr_held::read_run;
 use rtr_held::reconnect_through;
 use rtr_models::RtrProtocolVersion;
+use rtr_numbers::is_alike;
+use rtr_numbers::put_session;
 use rtr_receiver::*;
 
 const ROOM: usize = 6144;
 
 const HOLD: usize = 64;
 
-const FEEDS: usize = 8192;
+const CALLS: usize = 8192;
 
-// A receiver, how many feeds it had, how many updates they finished, and how many came to what was noted.
+// A call's note: the session's 18 numbers, the answer's, and the two that a feed gives besides.
+const NOTE: usize = 21;
+
+const LOG: usize = 172032;
+
+// A receiver, how many calls it had, how many updates they finished, and how many came to what was noted.
 struct Seen {
     session: Session,
-    feeds: usize,
+    calls: usize,
     updates: u64,
     same: u64,
 }
 
-// ---- What is noted of a session
+// What a call gave: the session, and three numbers.
+struct Gave {
+    session: Session,
+    answer: u64,
+    taken: u64,
+    updates: u64,
+}
 
-fn phase_number(phase: Phase) -> u64 {
-    match phase {
-        Phase::Idle => 0,
-        Phase::MustReset => 1,
-        Phase::AskedFull => 2,
-        Phase::AskedChange => 3,
-        Phase::Loading(_, session) => 256 + session as u64,
-        Phase::Stopped(stop) => stop.number() as u64,
+// ---- What is noted of a call
+
+fn feed_number(answer: FeedAnswer) -> u8 {
+    match answer {
+        FeedAnswer::GoesOn => 0,
+        FeedAnswer::Stopped(stop) => stop.number(),
+        FeedAnswer::NotAReceiver => 22,
     }
 }
 
-fn table_number(table: LiveTable) -> u64 {
-    match table {
-        LiveTable::NoTable => 0,
-        LiveTable::Known(t) => 1 + t.serial as u64,
+fn notify_number(answer: NotifyAnswer) -> u64 {
+    match answer {
+        NotifyAnswer::None => 0,
+        NotifyAnswer::OtherSession => 1,
+        NotifyAnswer::Same => 2,
+        NotifyAnswer::Newer => 3,
+        NotifyAnswer::Older => 4,
+        NotifyAnswer::Undefined => 5,
+        NotifyAnswer::NotAReceiver => 22,
     }
 }
 
-fn mixed(h: u64, x: u64) -> u64 {
-    (h % 4294967296 * 31 + x % 4294967296) % 4294967296
-}
-
-fn note(fed: Fed) -> u64 {
-    let s = fed.session;
-    let d = fed.done;
-    let phase = s.phase;
-    let table = s.table;
-    let h = mixed(phase_number(phase), table_number(table));
-    let h = mixed(mixed(h, s.live as u64), s.working as u64);
-    mixed(
-        mixed(h, s.held as u64),
-        mixed(d.taken as u64, d.updates as u64),
-    )
+fn given(fed: Fed) -> Gave {
+    let session = fed.session;
+    let done = fed.done;
+    let answer = done.answer;
+    Gave {
+        session,
+        answer: feed_number(answer) as u64,
+        taken: done.taken as u64,
+        updates: done.updates as u64,
+    }
 }
 
 fn more(n: u64, m: u64) -> u64 {
@@ -64,47 +82,80 @@ fn more(n: u64, m: u64) -> u64 {
 }
 
 fn next(n: usize) -> usize {
-    if n < FEEDS { n + 1 } else { n }
+    if n < CALLS { n + 1 } else { n }
 }
 
-fn mark(log: &mut [u64], at: usize, n: u64) {
-    if at < log.len() {
-        log[at] = n;
+fn put_at(out: &mut [u64], i: usize, x: u64) {
+    if i < out.len() {
+        out[i] = x;
     }
 }
 
-fn is_marked(log: &[u64], at: usize, n: u64) -> bool {
-    if at < log.len() {
-        return log[at] == n;
+fn put_front(out: &mut [u64], session: Session) {
+    if 18 <= out.len() {
+        let _ = put_session(session, &mut out[0..18]);
+    }
+}
+
+fn put_two(out: &mut [u64], a: u64, b: u64) {
+    put_at(out, 18, a);
+    put_at(out, 19, b);
+}
+
+fn put_rest(out: &mut [u64], a: u64, b: u64, c: u64) {
+    put_two(out, a, b);
+    put_at(out, 20, c);
+}
+
+fn write_note(g: Gave, out: &mut [u64]) {
+    let session = g.session;
+    put_front(out, session);
+    put_rest(out, g.answer, g.taken, g.updates);
+}
+
+fn mark(log: &mut [u64], at: usize, g: Gave) {
+    if at < CALLS {
+        if log.len() == LOG {
+            write_note(g, &mut log[at * NOTE..at * NOTE + NOTE]);
+        }
+    }
+}
+
+fn is_marked(log: &[u64], at: usize, g: Gave) -> bool {
+    let mut said = [0u64; NOTE];
+    write_note(g, &mut said);
+    if at < CALLS {
+        if log.len() == LOG {
+            return is_alike(&said, &log[at * NOTE..at * NOTE + NOTE]);
+        }
     }
     false
 }
 
-fn after(r: Seen, fed: Fed, same: u64) -> Seen {
-    let session = fed.session;
-    let done = fed.done;
+fn after(r: Seen, g: Gave, same: u64) -> Seen {
+    let session = g.session;
     Seen {
         session,
-        feeds: next(r.feeds),
-        updates: more(r.updates, done.updates as u64),
+        calls: next(r.calls),
+        updates: more(r.updates, g.updates),
         same: more(r.same, same),
     }
 }
 
-fn compared(r: Seen, fed: Fed, log: &[u64]) -> Seen {
-    if is_marked(log, r.feeds, note(fed)) {
-        return after(r, fed, 1);
+fn compared(r: Seen, g: Gave, log: &[u64]) -> Seen {
+    if is_marked(log, r.calls, g) {
+        return after(r, g, 1);
     }
-    after(r, fed, 0)
+    after(r, g, 0)
 }
 
-// The lent receiver's feed is noted; the other's is compared.
-fn noted(lent: bool, r: Seen, fed: Fed, log: &mut [u64]) -> Seen {
+// The lent receiver's call is noted; the other's is compared.
+fn noted(lent: bool, r: Seen, g: Gave, log: &mut [u64]) -> Seen {
     if lent {
-        mark(log, r.feeds, note(fed));
-        return after(r, fed, 1);
+        mark(log, r.calls, g);
+        return after(r, g, 1);
     }
-    compared(r, fed, log)
+    compared(r, g, log)
 }
 
 // ---- Both forms of a call
@@ -123,23 +174,60 @@ fn fed_as(
     feed(s, live, working, hold, piece)
 }
 
-fn connected_as(lent: bool, s: Session, live: &[u32], working: &mut [u32], hold: &[u8]) -> Session {
-    if lent {
-        let r = reconnect_through(s, live, working, hold);
-        return r.session;
+fn plain(session: Session, answer: u64) -> Gave {
+    Gave {
+        session,
+        answer,
+        taken: 0,
+        updates: 0,
     }
-    let r = reconnect(s, live, working, hold);
-    r.session
 }
 
-fn asked_as(lent: bool, s: Session, live: &[u32], working: &[u32], hold: &[u8]) -> Session {
+fn connected_as(lent: bool, s: Session, live: &[u32], working: &mut [u32], hold: &[u8]) -> Gave {
+    if lent {
+        let r = reconnect_through(s, live, working, hold);
+        let session = r.session;
+        return plain(session, 0);
+    }
+    let r = reconnect(s, live, working, hold);
+    let session = r.session;
+    plain(session, 0)
+}
+
+fn two(a: u8, b: u8) -> u64 {
+    a as u64 * 256 + b as u64
+}
+
+// The query's type and last byte are noted as its answer.
+fn asked_as(lent: bool, s: Session, live: &[u32], working: &[u32], hold: &[u8]) -> Gave {
     let mut query = [0u8; 8];
     if lent {
         let r = full_ask_through(s, live, working, hold, &mut query);
-        return r.session;
+        let session = r.session;
+        return plain(session, two(query[1], query[7]));
     }
     let r = full_ask(s, live, working, hold, &mut query);
-    r.session
+    let session = r.session;
+    plain(session, two(query[1], query[7]))
+}
+
+fn change_asked_as(lent: bool, s: Session, live: &[u32], working: &[u32], hold: &[u8]) -> Gave {
+    let mut query = [0u8; 12];
+    if lent {
+        let r = change_ask_through(s, live, working, hold, &mut query);
+        let session = r.session;
+        return plain(session, two(query[1], query[11]));
+    }
+    let r = change_ask(s, live, working, hold, &mut query);
+    let session = r.session;
+    plain(session, two(query[1], query[11]))
+}
+
+fn notified_as(lent: bool, s: Session, live: &[u32], working: &[u32], hold: &[u8]) -> Gave {
+    if lent {
+        return plain(s, notify_number(notify_through(s, live, working, hold)));
+    }
+    plain(s, notify_number(notify(s, live, working, hold)))
 }
 
 // ---- The play
@@ -155,11 +243,11 @@ fn step(
 ) -> Seen {
     let s = r.session;
     let fed = fed_as(lent, s, live, working, hold, piece);
-    noted(lent, r, fed, log)
+    noted(lent, r, given(fed), log)
 }
 
-// The announcement of 10.x.y.0/24, its number being x and y.
-fn prefix(i: u32) -> [u8; 20] {
+// The announcement (flags 1) or withdrawal (0) of 10.x.y.0/24, its number being x and y.
+fn prefix(flags: u8, i: u32) -> [u8; 20] {
     let x = (i / 256 % 256) as u8;
     let y = (i % 256) as u8;
     [
@@ -171,7 +259,7 @@ fn prefix(i: u32) -> [u8; 20] {
         0,
         0,
         20,
-        1,
+        flags,
         24,
         24,
         0,
@@ -215,9 +303,10 @@ fn announced(
     working: &mut [u32],
     hold: &mut [u8],
     log: &mut [u64],
+    flags: u8,
     i: u32,
 ) -> Seen {
-    let pdu = prefix(i / 3);
+    let pdu = prefix(flags, i / 3);
     if i % 3 == 0 {
         return part(lent, r, live, working, hold, log, &pdu, 0, 7);
     }
@@ -234,53 +323,67 @@ fn all_announced(
     working: &mut [u32],
     hold: &mut [u8],
     log: &mut [u64],
+    flags: u8,
+    count: u32,
 ) -> Seen {
     let mut r = r;
     let mut i = 0;
-    while i < 3000 {
-        r = announced(lent, r, live, working, hold, log, i);
+    while i < count {
+        r = announced(lent, r, live, working, hold, log, flags, i);
         i += 1;
     }
     r
 }
 
-fn connected(lent: bool, r: Seen, live: &[u32], working: &mut [u32], hold: &[u8]) -> Seen {
+fn connected(
+    lent: bool,
+    r: Seen,
+    live: &[u32],
+    working: &mut [u32],
+    hold: &[u8],
+    log: &mut [u64],
+) -> Seen {
     let s = r.session;
-    let s = connected_as(lent, s, live, working, hold);
-    let session = asked_as(lent, s, live, working, hold);
-    Seen {
-        session,
-        feeds: r.feeds,
-        updates: r.updates,
-        same: r.same,
-    }
+    let g = connected_as(lent, s, live, working, hold);
+    noted(lent, r, g, log)
 }
 
-// A new connection, a full ask, and the Cache Response.
-fn begun(
-    lent: bool,
-    r: Seen,
-    live: &mut [u32],
-    working: &mut [u32],
-    hold: &mut [u8],
-    log: &mut [u64],
-) -> Seen {
-    let response = [1u8, 3, 0, 7, 0, 0, 0, 8];
-    let r = connected(lent, r, live, working, hold);
-    step(lent, r, live, working, hold, log, &response)
+fn asked(lent: bool, r: Seen, live: &[u32], working: &[u32], hold: &[u8], log: &mut [u64]) -> Seen {
+    let s = r.session;
+    let g = asked_as(lent, s, live, working, hold);
+    noted(lent, r, g, log)
 }
 
-// The prefixes and the End of Data.
-fn ended(
+fn change_asked(
     lent: bool,
     r: Seen,
-    live: &mut [u32],
-    working: &mut [u32],
-    hold: &mut [u8],
+    live: &[u32],
+    working: &[u32],
+    hold: &[u8],
     log: &mut [u64],
 ) -> Seen {
-    let end = [
-        1u8,
+    let s = r.session;
+    let g = change_asked_as(lent, s, live, working, hold);
+    noted(lent, r, g, log)
+}
+
+fn notified(
+    lent: bool,
+    r: Seen,
+    live: &[u32],
+    working: &[u32],
+    hold: &[u8],
+    log: &mut [u64],
+) -> Seen {
+    let s = r.session;
+    let g = notified_as(lent, s, live, working, hold);
+    noted(lent, r, g, log)
+}
+
+// The End of Data of session 7, with a serial.
+fn end(serial: u8) -> [u8; 24] {
+    [
+        1,
         7,
         0,
         7,
@@ -291,7 +394,7 @@ fn ended(
         0,
         0,
         0,
-        5,
+        serial,
         0,
         0,
         14,
@@ -304,9 +407,77 @@ fn ended(
         0,
         28,
         32,
-    ];
-    let r = all_announced(lent, r, live, working, hold, log);
-    step(lent, r, live, working, hold, log, &end)
+    ]
+}
+
+// The Cache Response.
+fn begun(
+    lent: bool,
+    r: Seen,
+    live: &mut [u32],
+    working: &mut [u32],
+    hold: &mut [u8],
+    log: &mut [u64],
+) -> Seen {
+    let response = [1u8, 3, 0, 7, 0, 0, 0, 8];
+    step(lent, r, live, working, hold, log, &response)
+}
+
+fn ended(
+    lent: bool,
+    r: Seen,
+    live: &mut [u32],
+    working: &mut [u32],
+    hold: &mut [u8],
+    log: &mut [u64],
+    serial: u8,
+) -> Seen {
+    let last = end(serial);
+    step(lent, r, live, working, hold, log, &last)
+}
+
+// The Cache Response and so many thirds of prefixes.
+fn named(
+    lent: bool,
+    r: Seen,
+    live: &mut [u32],
+    working: &mut [u32],
+    hold: &mut [u8],
+    log: &mut [u64],
+    flags: u8,
+    count: u32,
+) -> Seen {
+    let r = begun(lent, r, live, working, hold, log);
+    all_announced(lent, r, live, working, hold, log, flags, count)
+}
+
+// With the End of Data.
+fn answered(
+    lent: bool,
+    r: Seen,
+    live: &mut [u32],
+    working: &mut [u32],
+    hold: &mut [u8],
+    log: &mut [u64],
+    flags: u8,
+    count: u32,
+    serial: u8,
+) -> Seen {
+    let r = named(lent, r, live, working, hold, log, flags, count);
+    ended(lent, r, live, working, hold, log, serial)
+}
+
+// A new connection and a full ask.
+fn opened(
+    lent: bool,
+    r: Seen,
+    live: &[u32],
+    working: &mut [u32],
+    hold: &[u8],
+    log: &mut [u64],
+) -> Seen {
+    let r = connected(lent, r, live, working, hold, log);
+    asked(lent, r, live, working, hold, log)
 }
 
 fn loaded(
@@ -316,9 +487,50 @@ fn loaded(
     working: &mut [u32],
     hold: &mut [u8],
     log: &mut [u64],
+    serial: u8,
 ) -> Seen {
-    let r = begun(lent, r, live, working, hold, log);
-    ended(lent, r, live, working, hold, log)
+    let r = opened(lent, r, live, working, hold, log);
+    answered(lent, r, live, working, hold, log, 1, 3000, serial)
+}
+
+// A Serial Notify of serial 7, and what it comes to.
+fn heard(
+    lent: bool,
+    r: Seen,
+    live: &mut [u32],
+    working: &mut [u32],
+    hold: &mut [u8],
+    log: &mut [u64],
+) -> Seen {
+    let notify = [1u8, 0, 0, 7, 0, 0, 0, 12, 0, 0, 0, 7];
+    let r = step(lent, r, live, working, hold, log, &notify);
+    notified(lent, r, live, working, hold, log)
+}
+
+// And a change ask.
+fn told(
+    lent: bool,
+    r: Seen,
+    live: &mut [u32],
+    working: &mut [u32],
+    hold: &mut [u8],
+    log: &mut [u64],
+) -> Seen {
+    let r = heard(lent, r, live, working, hold, log);
+    change_asked(lent, r, live, working, hold, log)
+}
+
+// 500 prefixes are withdrawn.
+fn changed(
+    lent: bool,
+    r: Seen,
+    live: &mut [u32],
+    working: &mut [u32],
+    hold: &mut [u8],
+    log: &mut [u64],
+) -> Seen {
+    let r = told(lent, r, live, working, hold, log);
+    answered(lent, r, live, working, hold, log, 0, 1500, 7)
 }
 
 fn loaded_twice(
@@ -329,8 +541,8 @@ fn loaded_twice(
     hold: &mut [u8],
     log: &mut [u64],
 ) -> Seen {
-    let r = loaded(lent, r, live, working, hold, log);
-    loaded(lent, r, live, working, hold, log)
+    let r = loaded(lent, r, live, working, hold, log, 5);
+    loaded(lent, r, live, working, hold, log, 6)
 }
 
 fn unstarted() -> Session {
@@ -352,6 +564,18 @@ fn started(answer: StartAnswer) -> Session {
     }
 }
 
+fn all_played(
+    lent: bool,
+    r: Seen,
+    live: &mut [u32],
+    working: &mut [u32],
+    hold: &mut [u8],
+    log: &mut [u64],
+) -> Seen {
+    let r = loaded_twice(lent, r, live, working, hold, log);
+    changed(lent, r, live, working, hold, log)
+}
+
 fn played(
     lent: bool,
     live: &mut [u32],
@@ -362,11 +586,11 @@ fn played(
     let session = started(start(RtrProtocolVersion::V1, live, working, hold));
     let r = Seen {
         session,
-        feeds: 0,
+        calls: 0,
         updates: 0,
         same: 0,
     };
-    loaded_twice(lent, r, live, working, hold, log)
+    all_played(lent, r, live, working, hold, log)
 }
 
 fn is_same_room(a: &[u32], b: &[u32]) -> bool {
@@ -383,6 +607,25 @@ fn is_same_room(a: &[u32], b: &[u32]) -> bool {
     true
 }
 
+// How many PDUs stand in a row, a run and a place being read side by side; 0 where the two differ.
+fn in_a_row(bytes: &[u8]) -> u64 {
+    let mut at = 0;
+    let mut count = 0;
+    while at < bytes.len() {
+        let a = read_run(bytes, at);
+        let b = read_at(bytes, at);
+        if a.next != b.next {
+            return 0;
+        }
+        if a.next <= at {
+            return count;
+        }
+        at = a.next;
+        count = more(count, 1);
+    }
+    count
+}
+
 fn put_verdict(out: &mut [u8], at: usize, same: bool) -> usize {
     if same {
         return put::put_text(out, at, b" same: yes\n");
@@ -390,21 +633,22 @@ fn put_verdict(out: &mut [u8], at: usize, same: bool) -> usize {
     put::put_text(out, at, b" same: no\n")
 }
 
-fn show(a: Seen, b: Seen, rooms: bool) {
-    let mut out = [0u8; 128];
+fn show(a: Seen, b: Seen, rooms: bool, pdus: u64) {
+    let mut out = [0u8; 160];
     let s = b.session;
-    let at = put::put_field(&mut out, 0, b"feeds=", b.feeds as u64);
+    let at = put::put_field(&mut out, 0, b"calls=", b.calls as u64);
     let at = put::put_field(&mut out, at, b" updates=", b.updates);
     let at = put::put_field(&mut out, at, b" records=", s.live as u64);
-    let same = rooms && a.feeds == b.feeds && b.same == b.feeds as u64 && a.updates == b.updates;
+    let at = put::put_field(&mut out, at, b" pdus=", pdus);
+    let same = rooms && a.calls == b.calls && b.same == b.calls as u64 && a.updates == b.updates;
     let at = put_verdict(&mut out, at, same);
-    if at <= 128 {
+    if at <= 160 {
         io::write_all(STDOUT_FILENO, &out[0..at]);
     }
 }
 
 fn main() {
-    let mut log = [0u64; FEEDS];
+    let mut log = [0u64; LOG];
     let mut live = [0u32; ROOM];
     let mut working = [0u32; ROOM];
     let mut hold = [0u8; HOLD];
@@ -414,5 +658,51 @@ fn main() {
     let mut hold2 = [0u8; HOLD];
     let b = played(false, &mut live2, &mut working2, &mut hold2, &mut log);
     let rooms = is_same_room(&live, &live2) && is_same_room(&working, &working2);
-    show(a, b, rooms);
+    // a Cache Response, a prefix, a Reset Query and the first seven bytes of another
+    let bytes = [
+        1u8,
+        3,
+        0,
+        7,
+        0,
+        0,
+        0,
+        8,
+        1,
+        4,
+        0,
+        0,
+        0,
+        0,
+        0,
+        20,
+        1,
+        24,
+        24,
+        0,
+        10,
+        0,
+        0,
+        0,
+        0,
+        0,
+        253,
+        232,
+        1,
+        2,
+        0,
+        0,
+        0,
+        0,
+        0,
+        8,
+        1,
+        2,
+        0,
+        0,
+        0,
+        0,
+        0,
+    ];
+    show(a, b, rooms, in_a_row(&bytes));
 }

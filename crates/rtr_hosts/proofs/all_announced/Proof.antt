@@ -7,10 +7,10 @@ use Rattle.rtr_hosts.proofs.all_announced.Statement.{statement}
 use Rattle.rtr_hosts.proofs.all_announced.Tie as tie
 
 abbrev Inv-loop : tie.InvT-loop
-Inv-loop lent live₀ working₀ hold₀ log₀ r₀ i₀ live working hold log r i = (i ≤ 3000) × ((length live ≡ length live₀) × ((length working ≡ length working₀) × ((length hold ≡ length hold₀) × (length log ≡ length log₀))))
+Inv-loop lent live₀ working₀ hold₀ log₀ flags count r₀ i₀ live working hold log r i = (i ≤ count) × ((length live ≡ length live₀) × ((length working ≡ length working₀) × ((length hold ≡ length hold₀) × (length log ≡ length log₀))))
 
 abbrev μ-loop : tie.MeasureT-loop
-μ-loop lent live₀ working₀ hold₀ log₀ r₀ i₀ live working hold log r i = 3000 - i
+μ-loop lent live₀ working₀ hold₀ log₀ flags count r₀ i₀ live working hold log r i = count - i
 
 loop-holds : tie.Need-loop-holds Inv-loop μ-loop
 loop-holds c = search needs
