@@ -1,5 +1,5 @@
-/* A long life in constant memory: full loads, changes and notifies to so many megabytes, and random bytes with a new connection at each stop. Prints what went through; exit status 1 where an answer is not
- * the expected one or resident memory grew. Usage: large MEGABYTES RANDOM_MEGABYTES. */
+/* A long life in constant memory: full loads, changes and notifies to so many megabytes; random bytes, 4 KiB for each connection; and random bytes with a new connection at each stop.
+ * Prints what went through; exit status 1 where an answer is not the expected one or resident memory grew. Usage: large MEGABYTES RANDOM_MEGABYTES STOPPING_MEGABYTES. */
 #define _DEFAULT_SOURCE
 #include <stdio.h>
 #include <stdlib.h>
@@ -67,9 +67,27 @@ static long resident(void)
     return used.ru_maxrss;
 }
 
+static void make_noise(void)
+{
+    static uint32_t state = 2463534242u;
+    for (size_t i = 0; i < sizeof noise; i++) {
+        state ^= state << 13, state ^= state >> 17, state ^= state << 5;
+        noise[i] = (uint8_t)(state >> 24);
+    }
+}
+
+static void stood(uint64_t random, uint64_t stops, long before)
+{
+    expect(session[HINGEMOSS_SESSION_LIVE] == RECORDS / 2, "the table before stands");
+    printf("%llu random bytes, %llu stops, the table before stands, resident memory grew by %ld KiB\n", (unsigned long long)random, (unsigned long long)stops, resident() - before);
+    expect(resident() - before < 256, "constant memory");
+}
+
+static uint64_t megabytes(int count, char **words, int i, int otherwise) { return (uint64_t)(i < count ? atoi(words[i]) : otherwise) << 20; }
+
 int main(int count, char **words)
 {
-    uint64_t most = (uint64_t)(count > 1 ? atoi(words[1]) : 100) << 20, most_random = (uint64_t)(count > 2 ? atoi(words[2]) : 2) << 20;
+    uint64_t most = megabytes(count, words, 1, 100), most_random = megabytes(count, words, 2, 100), most_stopping = megabytes(count, words, 3, 1);
     expect(hingemoss_start(1, SESSION, LIVE, WORKING, HOLD) == HINGEMOSS_OK, "a start");
     long before = 0;
     for (uint32_t serial = 1; through < most; serial += 2) {
@@ -85,13 +103,24 @@ int main(int count, char **words)
     printf("%llu bytes, %llu updates, resident memory grew by %ld KiB\n", (unsigned long long)through, (unsigned long long)updates, resident() - before);
     expect(resident() - before < 256, "constant memory");
 
+    /* a stop, and the same stop for what comes behind it, until the next connection */
     uint64_t stops = 0, random = 0;
-    uint32_t state = 2463534242u;
     while (random < most_random) {
-        for (size_t i = 0; i < sizeof noise; i++) {
-            state ^= state << 13, state ^= state >> 17, state ^= state << 5;
-            noise[i] = (uint8_t)(state >> 24);
+        uint64_t taken, behind, finished;
+        make_noise();
+        uint8_t answer = hingemoss_feed(SESSION, LIVE, WORKING, HOLD, noise, sizeof noise, &taken, &finished);
+        expect(answer != HINGEMOSS_REFUSED_NOT_A_RECEIVER && (answer != HINGEMOSS_OK || taken == sizeof noise), "random bytes are taken or stop");
+        if (answer) {
+            stops++;
+            expect(hingemoss_feed(SESSION, LIVE, WORKING, HOLD, noise + taken, sizeof noise - (size_t)taken, &behind, &finished) == answer && behind == 0, "the stop repeats");
+            expect(hingemoss_reconnect(SESSION, LIVE, WORKING, HOLD) == HINGEMOSS_OK, "a new connection");
         }
+        random += sizeof noise;
+    }
+    stood(random, stops, before);
+
+    for (stops = random = 0; random < most_stopping;) {
+        make_noise();
         for (size_t at = 0; at < sizeof noise;) {
             uint64_t taken, finished;
             uint8_t answer = hingemoss_feed(SESSION, LIVE, WORKING, HOLD, noise + at, sizeof noise - at, &taken, &finished);
@@ -104,7 +133,6 @@ int main(int count, char **words)
             }
         }
     }
-    expect(session[HINGEMOSS_SESSION_LIVE] == RECORDS / 2, "the table before stands");
-    printf("%llu random bytes, %llu stops, the table before stands, resident memory grew by %ld KiB\n", (unsigned long long)random, (unsigned long long)stops, resident() - before);
+    stood(random, stops, before);
     return 0;
 }
