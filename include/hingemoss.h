@@ -136,9 +136,9 @@ enum hingemoss_record {
 /* How a walk ends, and the end's value. */
 enum hingemoss_end {
     HINGEMOSS_END_PLAIN = 0,           /* a PDU that is no Error Report: its type */
-    HINGEMOSS_END_EMPTY = 1,           /* an Error Report with no PDU in it: 0 */
-    HINGEMOSS_END_REFUSED = 2,         /* a copy that is refused: the refusal's number */
-    HINGEMOSS_END_TOO_DEEP = 3         /* more than 16 levels: 0 */
+    HINGEMOSS_END_EMPTY = 1,           /* an Error Report with no encapsulated bytes: 0 */
+    HINGEMOSS_END_REFUSED = 2,         /* encapsulated bytes that are refused: the refusal's number */
+    HINGEMOSS_END_TOO_DEEP = 3         /* a report at level 16 with encapsulated bytes, whatever they are: 0 */
 };
 
 /* How the last Serial Notify compares with the table (RFC 1982). */
@@ -153,7 +153,7 @@ enum hingemoss_compared {
 
 /* ---- Codec */
 
-/* Reads the first PDU of bytes. 9: pdu is not HINGEMOSS_PDU_NUMBERS numbers, nothing was read. 1 to 8: why it is not read. 0: pdu has its numbers. */
+/* Reads the first PDU of bytes. 9: pdu is not exactly HINGEMOSS_PDU_NUMBERS numbers (fewer or more), nothing was read. 1 to 8: why it is not read. 0: pdu has its numbers. */
 uint8_t hingemoss_read(const uint8_t *bytes, size_t bytes_len, uint64_t *pdu, size_t pdu_len);
 
 /* Value i of that refusal, from 0 on; 0 where it has none, or where the PDU is read. */

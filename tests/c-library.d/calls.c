@@ -33,6 +33,8 @@ static void codec(void)
     EXPECT(hingemoss_read(reset_query, 7, pdu, HINGEMOSS_PDU_NUMBERS) == HINGEMOSS_REFUSED_INCOMPLETE && pdu[HINGEMOSS_PDU_CONSUMED] == 8);
     EXPECT(hingemoss_read_value(reset_query, 7, 0) == 7 && hingemoss_read_value(reset_query, 7, 1) == 8 && hingemoss_read_value(reset_query, 7, 2) == 0);
     EXPECT(hingemoss_read(reset_query, 8, pdu, HINGEMOSS_PDU_NUMBERS - 1) == HINGEMOSS_REFUSED_OUTPUT_SHORT);
+    uint64_t more[HINGEMOSS_PDU_NUMBERS + 1] = { 7 };
+    EXPECT(hingemoss_read(reset_query, 8, more, HINGEMOSS_PDU_NUMBERS + 1) == HINGEMOSS_REFUSED_OUTPUT_SHORT && more[0] == 7);
     EXPECT(hingemoss_encode(pdu, HINGEMOSS_PDU_NUMBERS, reset_query, 0, out, sizeof out, &written) == HINGEMOSS_OK && written == 8 && memcmp(out, reset_query, 8) == 0);
     EXPECT(hingemoss_encode(pdu, HINGEMOSS_PDU_NUMBERS, reset_query, 0, out, 7, &written) == HINGEMOSS_REFUSED_OUTPUT_SHORT && written == 8);
     pdu[HINGEMOSS_PDU_TYPE] = 5;

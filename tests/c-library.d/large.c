@@ -1,4 +1,4 @@
-/* A long life in constant memory: full loads, changes and notifies to so many megabytes; random bytes, 4 KiB for each connection; and random bytes with a new connection at each stop.
+/* A long life in constant memory: full loads, changes and notifies to so many megabytes; random bytes, 4 KiB for each connection, some of them behind an ask and a Cache Response and with prefixes in them; and random bytes with a new connection at each stop.
  * Prints what went through; exit status 1 where an answer is not the expected one or resident memory grew. Usage: large MEGABYTES RANDOM_MEGABYTES STOPPING_MEGABYTES. */
 #define _DEFAULT_SOURCE
 #include <stdio.h>
@@ -76,10 +76,10 @@ static void make_noise(void)
     }
 }
 
-static void stood(uint64_t random, uint64_t stops, long before)
+static void stood(uint64_t random, uint64_t took, uint64_t stops, long before)
 {
     expect(session[HINGEMOSS_SESSION_LIVE] == RECORDS / 2, "the table before stands");
-    printf("%llu random bytes, %llu stops, the table before stands, resident memory grew by %ld KiB\n", (unsigned long long)random, (unsigned long long)stops, resident() - before);
+    printf("%llu random bytes, %llu of them taken, %llu stops, the table before stands, resident memory grew by %ld KiB\n", (unsigned long long)random, (unsigned long long)took, (unsigned long long)stops, resident() - before);
     expect(resident() - before < 256, "constant memory");
 }
 
@@ -103,21 +103,29 @@ int main(int count, char **words)
     printf("%llu bytes, %llu updates, resident memory grew by %ld KiB\n", (unsigned long long)through, (unsigned long long)updates, resident() - before);
     expect(resident() - before < 256, "constant memory");
 
-    /* a stop, and the same stop for what comes behind it, until the next connection */
-    uint64_t stops = 0, random = 0;
-    while (random < most_random) {
+    /* 4 KiB for each connection: noise alone, behind a full ask, behind a Cache Response, and there with prefixes of random numbers in it; a stop repeats for what comes behind it */
+    uint64_t stops = 0, random = 0, took = 0;
+    for (uint32_t turn = 0; random < most_random; turn++) {
         uint64_t taken, behind, finished;
         make_noise();
+        if (turn % 4 >= 1)
+            expect(hingemoss_full_ask(SESSION, LIVE, WORKING, HOLD, query, sizeof query) == HINGEMOSS_OK, "a full ask");
+        if (turn % 4 >= 2)
+            header(noise, 3, turn & 0xffff, 8);
+        if (turn % 4 == 3)
+            for (size_t at = 8; at + 20 <= sizeof noise; at += 20)
+                header(noise + at, 4, 0, 20)[0] = 1, noise[at + 9] %= 33, noise[at + 10] = 32;
         uint8_t answer = hingemoss_feed(SESSION, LIVE, WORKING, HOLD, noise, sizeof noise, &taken, &finished);
         expect(answer != HINGEMOSS_REFUSED_NOT_A_RECEIVER && (answer != HINGEMOSS_OK || taken == sizeof noise), "random bytes are taken or stop");
         if (answer) {
             stops++;
             expect(hingemoss_feed(SESSION, LIVE, WORKING, HOLD, noise + taken, sizeof noise - (size_t)taken, &behind, &finished) == answer && behind == 0, "the stop repeats");
-            expect(hingemoss_reconnect(SESSION, LIVE, WORKING, HOLD) == HINGEMOSS_OK, "a new connection");
         }
+        expect(hingemoss_reconnect(SESSION, LIVE, WORKING, HOLD) == HINGEMOSS_OK, "a new connection");
         random += sizeof noise;
+        took += taken;
     }
-    stood(random, stops, before);
+    stood(random, took, stops, before);
 
     for (stops = random = 0; random < most_stopping;) {
         make_noise();
@@ -133,6 +141,6 @@ int main(int count, char **words)
             }
         }
     }
-    stood(random, stops, before);
+    stood(random, random, stops, before);
     return 0;
 }

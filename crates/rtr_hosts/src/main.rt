@@ -1,19 +1,26 @@
 // A long-running host, played: a session record is lent to every call, thousands of feeds long, and the whole record is noted after each call, with what
 // the call answered. Then the same bytes go to a second receiver whose record is handed on by value, and each call is compared with the note, number by
-// number. Two loads of 1,000 prefixes, a Serial Notify and a change that withdraws half of them, in pieces of 7. At the end both rooms are compared, and
-// captured bytes are read through a run and by place, side by side.
+// number. Two loads of 1,000 prefixes, a Serial Notify and a change that withdraws half of them, in pieces of 7; then a stop that repeats, an ask that is
+// refused, memory that is no receiver's, and a new connection. At the end both rooms are compared, and captured bytes are read through a run and by place, side by side.
 use libc::STDOUT_FILENO;
 use rtr_answers::put;
+use rtr_codec::ReadAnswer;
+use rtr_codec::RtrError;
 use rtr_codec::read_at;
 use rtr_held::change_ask_through;
+use rtr_held::done_at;
 use rtr_held::feed_through;
 use rtr_held::full_ask_through;
 use rtr_held::notify_through;
 use rtr_held::read_run;
 use rtr_held::reconnect_through;
+use rtr_held::rest_at;
+use rtr_models::RtrPdu;
 use rtr_models::RtrProtocolVersion;
+use rtr_numbers::error_value;
 use rtr_numbers::is_alike;
 use rtr_numbers::put_session;
+use rtr_pdu_numbers::put_pdu;
 use rtr_receiver::*;
 
 const ROOM: usize = 6144;
@@ -22,10 +29,10 @@ const HOLD: usize = 64;
 
 const CALLS: usize = 8192;
 
-// A call's note: the session's 18 numbers, the answer's, and the two that a feed gives besides.
-const NOTE: usize = 21;
+// A call's note: the session's 18 numbers, the answer's, and three that a call gives besides.
+const NOTE: usize = 22;
 
-const LOG: usize = 172032;
+const LOG: usize = 180224;
 
 // A receiver, how many calls it had, how many updates they finished, and how many came to what was noted.
 struct Seen {
@@ -35,12 +42,13 @@ struct Seen {
     same: u64,
 }
 
-// What a call gave: the session, and three numbers.
+// What a call gave: the session, and four numbers.
 struct Gave {
     session: Session,
     answer: u64,
     taken: u64,
     updates: u64,
+    query: u64,
 }
 
 // ---- What is noted of a call
@@ -65,6 +73,29 @@ fn notify_number(answer: NotifyAnswer) -> u64 {
     }
 }
 
+fn refusal_number(error: AskError) -> u8 {
+    match error {
+        AskError::NotAReceiver => 22,
+        AskError::WrongPhase => 20,
+        AskError::NoTable => 21,
+        AskError::Encoding(encoding) => encoding.number(),
+    }
+}
+
+fn ask_number(answer: AskAnswer) -> u64 {
+    match answer {
+        AskAnswer::Written(n) => 256 + n as u64 % 256,
+        AskAnswer::Refused(error) => refusal_number(error) as u64,
+    }
+}
+
+fn reconnect_number(answer: ReconnectAnswer) -> u64 {
+    match answer {
+        ReconnectAnswer::Connected => 0,
+        ReconnectAnswer::NotAReceiver => 22,
+    }
+}
+
 fn given(fed: Fed) -> Gave {
     let session = fed.session;
     let done = fed.done;
@@ -74,6 +105,7 @@ fn given(fed: Fed) -> Gave {
         answer: feed_number(answer) as u64,
         taken: done.taken as u64,
         updates: done.updates as u64,
+        query: 0,
     }
 }
 
@@ -102,15 +134,20 @@ fn put_two(out: &mut [u64], a: u64, b: u64) {
     put_at(out, 19, b);
 }
 
-fn put_rest(out: &mut [u64], a: u64, b: u64, c: u64) {
+fn put_three(out: &mut [u64], a: u64, b: u64, c: u64) {
     put_two(out, a, b);
     put_at(out, 20, c);
+}
+
+fn put_rest(out: &mut [u64], a: u64, b: u64, c: u64, d: u64) {
+    put_three(out, a, b, c);
+    put_at(out, 21, d);
 }
 
 fn write_note(g: Gave, out: &mut [u64]) {
     let session = g.session;
     put_front(out, session);
-    put_rest(out, g.answer, g.taken, g.updates);
+    put_rest(out, g.answer, g.taken, g.updates, g.query);
 }
 
 fn mark(log: &mut [u64], at: usize, g: Gave) {
@@ -180,47 +217,74 @@ fn plain(session: Session, answer: u64) -> Gave {
         answer,
         taken: 0,
         updates: 0,
+        query: 0,
     }
+}
+
+fn connected_with(r: Reconnected) -> Gave {
+    let session = r.session;
+    let answer = r.answer;
+    plain(session, reconnect_number(answer))
 }
 
 fn connected_as(lent: bool, s: Session, live: &[u32], working: &mut [u32], hold: &[u8]) -> Gave {
     if lent {
-        let r = reconnect_through(s, live, working, hold);
-        let session = r.session;
-        return plain(session, 0);
+        return connected_with(reconnect_through(s, live, working, hold));
     }
-    let r = reconnect(s, live, working, hold);
+    connected_with(reconnect(s, live, working, hold))
+}
+
+fn four(a: u8, b: u8, c: u8, d: u8) -> u64 {
+    a as u64 * 16777216 + b as u64 * 65536 + c as u64 * 256 + d as u64
+}
+
+// An ask's note has the query: its first four bytes and the last four.
+fn asked_with(r: AskedSession, first: u64, last: u64) -> Gave {
     let session = r.session;
-    plain(session, 0)
+    let answer = r.answer;
+    Gave {
+        session,
+        answer: ask_number(answer),
+        taken: last,
+        updates: 0,
+        query: first,
+    }
 }
 
-fn two(a: u8, b: u8) -> u64 {
-    a as u64 * 256 + b as u64
-}
-
-// The query's type and last byte are noted as its answer.
 fn asked_as(lent: bool, s: Session, live: &[u32], working: &[u32], hold: &[u8]) -> Gave {
     let mut query = [0u8; 8];
     if lent {
         let r = full_ask_through(s, live, working, hold, &mut query);
-        let session = r.session;
-        return plain(session, two(query[1], query[7]));
+        return asked_with(
+            r,
+            four(query[0], query[1], query[2], query[3]),
+            four(query[4], query[5], query[6], query[7]),
+        );
     }
     let r = full_ask(s, live, working, hold, &mut query);
-    let session = r.session;
-    plain(session, two(query[1], query[7]))
+    asked_with(
+        r,
+        four(query[0], query[1], query[2], query[3]),
+        four(query[4], query[5], query[6], query[7]),
+    )
 }
 
 fn change_asked_as(lent: bool, s: Session, live: &[u32], working: &[u32], hold: &[u8]) -> Gave {
     let mut query = [0u8; 12];
     if lent {
         let r = change_ask_through(s, live, working, hold, &mut query);
-        let session = r.session;
-        return plain(session, two(query[1], query[11]));
+        return asked_with(
+            r,
+            four(query[0], query[1], query[2], query[3]),
+            four(query[8], query[9], query[10], query[11]),
+        );
     }
     let r = change_ask(s, live, working, hold, &mut query);
-    let session = r.session;
-    plain(session, two(query[1], query[11]))
+    asked_with(
+        r,
+        four(query[0], query[1], query[2], query[3]),
+        four(query[8], query[9], query[10], query[11]),
+    )
 }
 
 fn notified_as(lent: bool, s: Session, live: &[u32], working: &[u32], hold: &[u8]) -> Gave {
@@ -564,7 +628,84 @@ fn started(answer: StartAnswer) -> Session {
     }
 }
 
-fn all_played(
+// A PDU of no type: a stop.
+fn stopped(
+    lent: bool,
+    r: Seen,
+    live: &mut [u32],
+    working: &mut [u32],
+    hold: &mut [u8],
+    log: &mut [u64],
+) -> Seen {
+    let wrong = [1u8, 99, 0, 0, 0, 0, 0, 8];
+    step(lent, r, live, working, hold, log, &wrong)
+}
+
+fn stopped_twice(
+    lent: bool,
+    r: Seen,
+    live: &mut [u32],
+    working: &mut [u32],
+    hold: &mut [u8],
+    log: &mut [u64],
+) -> Seen {
+    let r = stopped(lent, r, live, working, hold, log);
+    stopped(lent, r, live, working, hold, log)
+}
+
+// An ask is refused under a stop.
+fn refused(
+    lent: bool,
+    r: Seen,
+    live: &mut [u32],
+    working: &mut [u32],
+    hold: &mut [u8],
+    log: &mut [u64],
+) -> Seen {
+    let r = stopped_twice(lent, r, live, working, hold, log);
+    asked(lent, r, live, working, hold, log)
+}
+
+// A working room of one record is no receiver's.
+fn shapeless(
+    lent: bool,
+    r: Seen,
+    live: &mut [u32],
+    working: &mut [u32],
+    hold: &mut [u8],
+    log: &mut [u64],
+) -> Seen {
+    if working.len() < 6 {
+        return r;
+    }
+    stopped(lent, r, live, &mut working[0..6], hold, log)
+}
+
+fn refused_twice(
+    lent: bool,
+    r: Seen,
+    live: &mut [u32],
+    working: &mut [u32],
+    hold: &mut [u8],
+    log: &mut [u64],
+) -> Seen {
+    let r = refused(lent, r, live, working, hold, log);
+    shapeless(lent, r, live, working, hold, log)
+}
+
+fn opened_again(
+    lent: bool,
+    r: Seen,
+    live: &mut [u32],
+    working: &mut [u32],
+    hold: &mut [u8],
+    log: &mut [u64],
+) -> Seen {
+    let r = refused_twice(lent, r, live, working, hold, log);
+    opened(lent, r, live, working, hold, log)
+}
+
+fn all_loaded(
     lent: bool,
     r: Seen,
     live: &mut [u32],
@@ -574,6 +715,18 @@ fn all_played(
 ) -> Seen {
     let r = loaded_twice(lent, r, live, working, hold, log);
     changed(lent, r, live, working, hold, log)
+}
+
+fn all_played(
+    lent: bool,
+    r: Seen,
+    live: &mut [u32],
+    working: &mut [u32],
+    hold: &mut [u8],
+    log: &mut [u64],
+) -> Seen {
+    let r = all_loaded(lent, r, live, working, hold, log);
+    opened_again(lent, r, live, working, hold, log)
 }
 
 fn played(
@@ -607,23 +760,88 @@ fn is_same_room(a: &[u32], b: &[u32]) -> bool {
     true
 }
 
-// How many PDUs stand in a row, a run and a place being read side by side; 0 where the two differ.
+fn is_same_pdu(a: RtrPdu, n: usize, b: RtrPdu, m: usize) -> bool {
+    let mut x = [0u64; 12];
+    let mut y = [0u64; 12];
+    let _ = put_pdu(a, n, &mut x);
+    let _ = put_pdu(b, m, &mut y);
+    is_alike(&x, &y)
+}
+
+fn is_same_error(a: RtrError, b: RtrError) -> bool {
+    a.number() == b.number()
+        && error_value(a, 0) == error_value(b, 0)
+        && error_value(a, 1) == error_value(b, 1)
+        && error_value(a, 2) == error_value(b, 2)
+}
+
+fn is_pdu(a: RtrPdu, n: usize, b: ReadAnswer) -> bool {
+    match b {
+        ReadAnswer::Read(pdu, m) => is_same_pdu(a, n, pdu, m),
+        ReadAnswer::Refused(_) => false,
+    }
+}
+
+fn is_error(a: RtrError, b: ReadAnswer) -> bool {
+    match b {
+        ReadAnswer::Read(_, _) => false,
+        ReadAnswer::Refused(error) => is_same_error(a, error),
+    }
+}
+
+fn is_same_answer(a: ReadAnswer, b: ReadAnswer) -> bool {
+    match a {
+        ReadAnswer::Read(pdu, n) => is_pdu(pdu, n, b),
+        ReadAnswer::Refused(error) => is_error(error, b),
+    }
+}
+
+// A run and a place, read side by side: the same answer, the same place to go on from.
+fn is_same_read(bytes: &[u8], at: usize) -> bool {
+    let x = read_run(bytes, at);
+    let y = read_at(bytes, at);
+    let a = x.answer;
+    let b = y.answer;
+    x.next == y.next && is_same_answer(a, b)
+}
+
+// What is left from a place on, and whether that is nothing, both ways.
+fn is_same_rest(bytes: &[u8], at: usize) -> bool {
+    let n = bytes.len();
+    if at < n {
+        return rest_at(bytes, at) == n - at && !done_at(bytes, at);
+    }
+    rest_at(bytes, at) == 0 && done_at(bytes, at)
+}
+
+// How many PDUs stand in a row, and what comes behind them; 0 where the two ways differ anywhere.
 fn in_a_row(bytes: &[u8]) -> u64 {
     let mut at = 0;
     let mut count = 0;
     while at < bytes.len() {
-        let a = read_run(bytes, at);
-        let b = read_at(bytes, at);
-        if a.next != b.next {
+        if !is_same_read(bytes, at) {
             return 0;
         }
-        if a.next <= at {
+        if !is_same_rest(bytes, at) {
+            return 0;
+        }
+        let read = read_run(bytes, at);
+        if read.next <= at {
             return count;
         }
-        at = a.next;
+        at = read.next;
         count = more(count, 1);
     }
     count
+}
+
+// The same at the end and past it.
+fn all_in_a_row(bytes: &[u8]) -> u64 {
+    let n = bytes.len();
+    if is_same_read(bytes, n) && is_same_rest(bytes, n) {
+        return in_a_row(bytes);
+    }
+    0
 }
 
 fn put_verdict(out: &mut [u8], at: usize, same: bool) -> usize {
@@ -704,5 +922,5 @@ fn main() {
         0,
         0,
     ];
-    show(a, b, rooms, in_a_row(&bytes));
+    show(a, b, rooms, all_in_a_row(&bytes));
 }
