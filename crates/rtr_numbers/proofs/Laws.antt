@@ -6,6 +6,8 @@ use mathlib.Core.List.{List}
 use mathlib.Core.Logic.{_↔_}
 use mathlib.Core.Path.{_≡_, refl, sym, ap, _∙_}
 use native.Mathlib.Omega.{arith}
+use borrow.Author.Tests.{eq-eqb}
+use lib.Dec.{eqb}
 use lib.ListN.{length, getD}
 use Rattle.rtr_receiver.specs.Promises.{leaves}
 use Rattle.rtr_receiver.specs.declared.Session.{Session}
@@ -35,6 +37,11 @@ unfolding sessionIf
 session-of-numbers s h =
     ap (λ (x : Session). sessionIf x (sessionNumbers s)) (session-back s h)
     ∙ ap (λ (b : Bool). cond b (SessionFound.Known s) SessionFound.Unknown) (alike-refl (sessionNumbers s))
+
+-- so 18 numbers that were set to a session's read back as it
+pub set-reads-back : (s : Session) (n x : List ℕ) → SessionFits s → x ≡ cond (eqb (length n) 18) (sessionNumbers s) n → length n ≡ 18 → sessionOf x ≡ SessionFound.Known s
+set-reads-back s n x h put long =
+    ap sessionOf (put ∙ ap (λ (b : Bool). cond b (sessionNumbers s) n) (eq-eqb (length n) 18 long)) ∙ session-of-numbers s h
 
 -- numbers that give a session are its numbers, and it fits its types
 pub numbers-of-session : (n : List ℕ) (s : Session) → sessionOf n ≡ SessionFound.Known s → n ≡ sessionNumbers s

@@ -4,5 +4,6 @@ pub mod Guesses
 mod Founds
 mod Sessions
 mod Values
+mod Owned
 pub mod Laws
 pub mod Unique

@@ -25,7 +25,7 @@ pub error-value-unique : (κs : _) (a : _) (r r′ : _) (s s′ : _) → error-v
 error-value-unique κs a r r′ s s′ p q = only-this r r′ _ p q
 
 pub put-session-unique : (κs : _) (a : _) (r r′ : _) (s s′ : _) → put-session-reads.Post κs a r s → put-session-reads.Post κs a r′ s′ → (r ≡ r′) × (now (s .1 .0) ≡ now (s′ .1 .0))
-put-session-unique κs a r r′ s s′ p q = (only-this r r′ _ (p .0) (q .0), only-this (now (s .1 .0)) (now (s′ .1 .0)) _ (p .1) (q .1))
+put-session-unique κs a r r′ s s′ p q = (only-this r r′ _ (p .0 .0) (q .0 .0), only-this (now (s .1 .0)) (now (s′ .1 .0)) _ (p .0 .1) (q .0 .1))
 
 pub loose-version-unique : (κs : _) (a : _) (r r′ : _) (s s′ : _) → loose-version-reads.Post κs a r s → loose-version-reads.Post κs a r′ s′ → r ≡ r′
 loose-version-unique κs a r r′ s s′ p q = only-this r r′ _ p q

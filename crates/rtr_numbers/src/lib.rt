@@ -324,9 +324,10 @@ fn session_numbers(s: Session) -> [u64; SESSION_NUMBERS]
     ]
 }
 
-// Sets the 18 numbers to the session's; where not 18 are lent, nothing is set.
+// Sets the 18 numbers to the session's; where not 18 are lent, nothing is set. What is set reads back as this session.
 pub fn put_session(s: Session, numbers: &mut [u64]) -> bool
     ensures { λ r. ⌜ (r ≡ eqb (length (now (numbers .entry))) 18) × (now (numbers .exit) ≡ cond (eqb (length (now (numbers .entry))) 18) (sessionNumbers s) (now (numbers .entry))) ⌝ }
+    ensures { λ r. ⌜ (length (now (numbers .entry)) ≡ 18 → sessionOf (now (numbers .exit)) ≡ SessionFound.Known s) ⌝ }
 {
     let said = session_numbers(s);
     put_numbers(numbers, &said)

@@ -1,6 +1,8 @@
--- `put_session` sets the session's numbers, of which there are 18. Assumes nothing.
+-- `put_session` sets the session's numbers, of which there are 18; the session fits its types, as every value does, so it reads back. Assumes nothing.
 use denote.Ref.{now}
 use Rattle.rtr_numbers.proofs.Lists.{put-said}
+use Rattle.rtr_numbers.proofs.Owned.{session-owned}
+use Rattle.rtr_numbers.proofs.Laws.{set-reads-back}
 use Rattle.rtr_numbers.specs.Numbers.{numbersOf}
 use mathlib.Core.Path.{refl}
 use borrow.Author.Needs.{needs}
@@ -21,7 +23,10 @@ same-length c = search needs
 
 returns : tie.Need-returns
 unfolding numbersOf
-returns c = put-said (now (c .before .before .before .before .before .before .before .args .numbers)) _ _ _ 18 _ (c .before .before .put-numbers .ensures) (c .before .before .before .before .before .session-numbers .ensures) refl
+returns c =
+    let start = c .before .before .before .before .before .before .before in
+    let put = put-said (now (start .args .numbers)) _ _ _ 18 _ (c .before .before .put-numbers .ensures) (c .before .before .before .before .before .session-numbers .ensures) refl in
+    (put, λ long. set-reads-back (start .args .s) (now (start .args .numbers)) _ (session-owned (start .args .s) _ (start .good .0)) (put .1) long)
 
 pub put-session-spec : {M : Type 1} → statement M
 put-session-spec =
