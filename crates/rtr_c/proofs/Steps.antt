@@ -1,7 +1,7 @@
 -- From what a crate below promises to what the call from C promises: the numbers are read, the call is made, the session is written back.
 -- Assumes nothing.
 use Prim.Native.Nat.{ℕ}
-use mathlib.Core.Bool.{Bool, false, cond}
+use mathlib.Core.Bool.{Bool, true, false, cond}
 use mathlib.Core.List.{List, [], _∷_}
 use mathlib.Core.Path.{_≡_, refl, sym, ap, _∙_}
 use borrow.Author.Tests.{eq-eqb}
@@ -42,7 +42,7 @@ use Rattle.rtr_pdu_numbers.specs.Back.{pduOf}
 use Rattle.rtr_numbers.specs.declared.SessionFound.{SessionFound}
 use Rattle.rtr_pdu_numbers.specs.declared.PduFound.{PduFound}
 use Rattle.rtr_numbers.proofs.Laws.{session-held, session-of-length}
-use Rattle.rtr_c.specs.Calls.{amountOf, endNumber, endValue, heldOf, feedNumber, notifyNumber, notifyCompared, readGives, readLeft, readC, encodeGives, encodeLeft, encodeFound, encodeC, listingFound, listingC, walkGives, walkLeft, walkC, startGives, startLeft, startFound, startC, askGives, askLeft, askFound, FeedLeft, feedGives, feedLeft, feedFound, feedC, reconnectGives, reconnectLeft, reconnectFound, reconnectC, notifyGives, notifyLeft, notifyFound, notifyC}
+use Rattle.rtr_c.specs.Calls.{isKnown, isSession, amountOf, endNumber, endValue, heldOf, feedNumber, notifyNumber, notifyCompared, readGives, readLeft, readC, encodeGives, encodeLeft, encodeFound, encodeC, listingFound, listingC, walkGives, walkLeft, walkC, startGives, startLeft, startFound, startC, askGives, askLeft, askFound, FeedLeft, feedGives, feedLeft, feedFound, feedC, reconnectGives, reconnectLeft, reconnectFound, reconnectC, notifyGives, notifyLeft, notifyFound, notifyC}
 
 -- numbers of the right length are set
 pub set-at : (k : ℕ) (n x y : List ℕ) → length n ≡ k → x ≡ cond (eqb (length n) k) y n → x ≡ y
@@ -115,6 +115,11 @@ module _ (bytes : List ℕ) (answer : WalkAnswer) (said : walkSaid answer ≡ wa
   unfolding walkC
   walk-refused number e told named =
       ap (λ (k : ℕ). walkGives k 0 0 0) named ∙ refused-walk e ∙ ap (λ (a : WalkAnswer). walkLeft (walkSaid a)) (sym told) ∙ ap walkLeft said
+
+-- numbers that read back are a session's
+pub reads-back : (n : List ℕ) (s : Session) → sessionOf n ≡ SessionFound.Known s → isSession n ≡ true
+unfolding isSession
+reads-back n s e = ap isKnown e
 
 -- ---- start
 
@@ -194,6 +199,11 @@ module _ (taken updates : ℕ) (s : Session) (live working hold : List ℕ) wher
 module _ (n : List ℕ) (found : SessionFound) (f : found ≡ sessionOf n) where
   known-long : (s : Session) → found ≡ SessionFound.Known s → length n ≡ 18
   known-long s told = session-of-length n s (sym f ∙ told)
+
+  -- numbers that were set to a session's are a session's, as those were that were found
+  pub stays-session : (n′ : List ℕ) (s s′ : Session) → found ≡ SessionFound.Known s → (length n ≡ 18 → sessionOf n′ ≡ SessionFound.Known s′) → isSession n′ ≡ isSession n
+  unfolding isSession
+  stays-session n′ s s′ told back = ap isKnown (back (known-long s told)) ∙ sym (ap isKnown (sym f ∙ told))
 
   -- ---- the asks
   module _ (ask : Session → AskSays) (live working hold out : List ℕ) where

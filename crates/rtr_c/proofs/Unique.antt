@@ -44,46 +44,46 @@ walk-unique κs a r r′ s s′ p q = (
 pub start-unique : (κs : _) (a : _) (r r′ : _) (s s′ : _) → start-reads.Post κs a r s → start-reads.Post κs a r′ s′
     → (r ≡ r′) × (now (s .1 .0) ≡ now (s′ .1 .0)) × (now (s .1 .1 .0) ≡ now (s′ .1 .1 .0)) × (now (s .1 .1 .1 .0) ≡ now (s′ .1 .1 .1 .0))
 start-unique κs a r r′ s s′ p q = (
-  ap (λ (x : StartLeft). x .answer) (p ∙ sym q),
-  ap (λ (x : StartLeft). x .session) (p ∙ sym q),
-  ap (λ (x : StartLeft). x .live) (p ∙ sym q),
-  ap (λ (x : StartLeft). x .working) (p ∙ sym q),
+  ap (λ (x : StartLeft). x .answer) (p .0 ∙ sym (q .0)),
+  ap (λ (x : StartLeft). x .session) (p .0 ∙ sym (q .0)),
+  ap (λ (x : StartLeft). x .live) (p .0 ∙ sym (q .0)),
+  ap (λ (x : StartLeft). x .working) (p .0 ∙ sym (q .0)),
 )
 
 pub full-ask-unique : (κs : _) (a : _) (r r′ : _) (s s′ : _) → full-ask-reads.Post κs a r s → full-ask-reads.Post κs a r′ s′
     → (r ≡ r′) × (now (s .0) ≡ now (s′ .0)) × (now (s .1 .1 .1 .1 .0) ≡ now (s′ .1 .1 .1 .1 .0))
 full-ask-unique κs a r r′ s s′ p q = (
-  ap (λ (x : AskLeft). x .answer) (p ∙ sym q),
-  ap (λ (x : AskLeft). x .session) (p ∙ sym q),
-  ap (λ (x : AskLeft). x .out) (p ∙ sym q),
+  ap (λ (x : AskLeft). x .answer) (p .0 ∙ sym (q .0)),
+  ap (λ (x : AskLeft). x .session) (p .0 ∙ sym (q .0)),
+  ap (λ (x : AskLeft). x .out) (p .0 ∙ sym (q .0)),
 )
 
 pub change-ask-unique : (κs : _) (a : _) (r r′ : _) (s s′ : _) → change-ask-reads.Post κs a r s → change-ask-reads.Post κs a r′ s′
     → (r ≡ r′) × (now (s .0) ≡ now (s′ .0)) × (now (s .1 .1 .1 .1 .0) ≡ now (s′ .1 .1 .1 .1 .0))
 change-ask-unique κs a r r′ s s′ p q = (
-  ap (λ (x : AskLeft). x .answer) (p ∙ sym q),
-  ap (λ (x : AskLeft). x .session) (p ∙ sym q),
-  ap (λ (x : AskLeft). x .out) (p ∙ sym q),
+  ap (λ (x : AskLeft). x .answer) (p .0 ∙ sym (q .0)),
+  ap (λ (x : AskLeft). x .session) (p .0 ∙ sym (q .0)),
+  ap (λ (x : AskLeft). x .out) (p .0 ∙ sym (q .0)),
 )
 
 pub feed-unique : (κs : _) (a : _) (r r′ : _) (s s′ : _) → feed-reads.Post κs a r s → feed-reads.Post κs a r′ s′
     → (r ≡ r′) × (now (s .0) ≡ now (s′ .0)) × (now (s .1 .0) ≡ now (s′ .1 .0)) × (now (s .1 .1 .0) ≡ now (s′ .1 .1 .0)) × (now (s .1 .1 .1 .1 .1 .0) ≡ now (s′ .1 .1 .1 .1 .1 .0)) × (now (s .1 .1 .1 .1 .1 .1 .0) ≡ now (s′ .1 .1 .1 .1 .1 .1 .0)) × (heldOf r (now (s .0)) (now (s .1 .1 .1 .0)) ≡ heldOf r′ (now (s′ .0)) (now (s′ .1 .1 .1 .0)))
 feed-unique κs a r r′ s s′ p q = (
-  ap (λ (x : FeedLeft). x .answer) (p ∙ sym q),
-  ap (λ (x : FeedLeft). x .session) (p ∙ sym q),
-  ap (λ (x : FeedLeft). x .live) (p ∙ sym q),
-  ap (λ (x : FeedLeft). x .working) (p ∙ sym q),
-  ap (λ (x : FeedLeft). x .taken) (p ∙ sym q),
-  ap (λ (x : FeedLeft). x .updates) (p ∙ sym q),
-  ap (λ (x : FeedLeft). x .held) (p ∙ sym q),
+  ap (λ (x : FeedLeft). x .answer) (p .0 ∙ sym (q .0)),
+  ap (λ (x : FeedLeft). x .session) (p .0 ∙ sym (q .0)),
+  ap (λ (x : FeedLeft). x .live) (p .0 ∙ sym (q .0)),
+  ap (λ (x : FeedLeft). x .working) (p .0 ∙ sym (q .0)),
+  ap (λ (x : FeedLeft). x .taken) (p .0 ∙ sym (q .0)),
+  ap (λ (x : FeedLeft). x .updates) (p .0 ∙ sym (q .0)),
+  ap (λ (x : FeedLeft). x .held) (p .0 ∙ sym (q .0)),
 )
 
 pub reconnect-unique : (κs : _) (a : _) (r r′ : _) (s s′ : _) → reconnect-reads.Post κs a r s → reconnect-reads.Post κs a r′ s′
     → (r ≡ r′) × (now (s .0) ≡ now (s′ .0)) × (now (s .1 .1 .0) ≡ now (s′ .1 .1 .0))
 reconnect-unique κs a r r′ s s′ p q = (
-  ap (λ (x : ReconnectLeft). x .answer) (p ∙ sym q),
-  ap (λ (x : ReconnectLeft). x .session) (p ∙ sym q),
-  ap (λ (x : ReconnectLeft). x .working) (p ∙ sym q),
+  ap (λ (x : ReconnectLeft). x .answer) (p .0 ∙ sym (q .0)),
+  ap (λ (x : ReconnectLeft). x .session) (p .0 ∙ sym (q .0)),
+  ap (λ (x : ReconnectLeft). x .working) (p .0 ∙ sym (q .0)),
 )
 
 pub notify-unique : (κs : _) (a : _) (r r′ : _) (s s′ : _) → notify-reads.Post κs a r s → notify-reads.Post κs a r′ s′

@@ -1,7 +1,7 @@
 -- What each call from C answers and leaves, through the crates below: a session is its 18 numbers and a PDU its 12 (rtr_numbers), rooms are
 -- of 1,024 records. Numbers that are no session's and no PDU's are refused by 22.
 use Prim.Native.Nat.{ℕ}
-use mathlib.Core.Bool.{cond}
+use mathlib.Core.Bool.{Bool, true, false, cond}
 use mathlib.Core.List.{List}
 use lib.Dec.{eqb}
 use lib.ListN.{length, getD, take}
@@ -26,6 +26,15 @@ use Rattle.rtr_numbers.specs.Back.{sessionOf}
 use Rattle.rtr_pdu_numbers.specs.Back.{pduOf}
 use Rattle.rtr_numbers.specs.declared.SessionFound.{SessionFound}
 use Rattle.rtr_pdu_numbers.specs.declared.PduFound.{PduFound}
+
+-- ---- whether numbers are a session's; those that are none are refused by 22 in every call
+abbrev pub isKnown : SessionFound → Bool
+isKnown (SessionFound.Known s) = true
+isKnown SessionFound.Unknown = false
+
+-- 18 numbers that some session has
+unfoldable pub isSession : List ℕ → Bool
+isSession numbers = isKnown (sessionOf numbers)
 
 -- ---- read: 9 where not 12 numbers are lent, else 0 and the PDU's numbers, or the refusal and the numbers as they were
 pub record ReadLeft : Type 0 where

@@ -16,6 +16,7 @@ use rtr_receiver::ReconnectAnswer;
 use rtr_receiver::StartAnswer;
 use rtr_walk::WalkAnswer;
 use rtr_walk::WalkEnd;
+ghost use mathlib.Core.Bool.{true};
 ghost use mathlib.Core.Path.{_≡_};
 ghost use Rattle.rtr_codec.specs.Read.{read};
 ghost use Rattle.rtr_codec.specs.Reading.{crate};
@@ -24,7 +25,7 @@ ghost use Rattle.rtr_listing.specs.Promises.{listSaid};
 ghost use Rattle.rtr_receiver.specs.Promises.{askWriting, reconnectNumber};
 ghost use Rattle.rtr_numbers.specs.Numbers.{valueOf};
 ghost use Rattle.rtr_walk.specs.Walk.{endSaid};
-ghost use Rattle.rtr_c.specs.Calls.{amountOf, endNumber, endValue, feedNumber, notifyNumber, notifyCompared, readGives, readC, encodeGives, encodeC, walkGives, walkC, startGives, startC, askGives, fullAskC, changeAskC, feedGives, feedC, reconnectGives, reconnectC, notifyGives, notifyC, listingC};
+ghost use Rattle.rtr_c.specs.Calls.{isSession, amountOf, endNumber, endValue, feedNumber, notifyNumber, notifyCompared, readGives, readC, encodeGives, encodeC, walkGives, walkC, startGives, startC, askGives, fullAskC, changeAskC, feedGives, feedC, reconnectGives, reconnectC, notifyGives, notifyC, listingC};
 
 // ---- Numbers of answers
 
@@ -251,6 +252,7 @@ pub extern "C" fn hingemoss_start(
     hold: &[u8],
 ) -> u8
     ensures { λ r. ⌜ startGives r (now (session .exit)) (now (live .exit)) (now (working .exit)) ≡ startC version (now (session .entry)) (now (live .entry)) (now (working .entry)) (now (hold .entry)) ⌝ }
+    ensures { λ r. ⌜ (r ≡ 0 → isSession (now (session .exit)) ≡ true) ⌝ }
 {
     if session.len() != rtr_numbers::SESSION_NUMBERS {
         return 22;
@@ -281,6 +283,7 @@ pub extern "C" fn hingemoss_full_ask(
     out: &mut [u8],
 ) -> u8
     ensures { λ r. ⌜ askGives r (now (session .exit)) (now (out .exit)) ≡ fullAskC (now (session .entry)) (now (live .entry)) (now (working .entry)) (now (hold .entry)) (now (out .entry)) ⌝ }
+    ensures { λ r. ⌜ isSession (now (session .exit)) ≡ isSession (now (session .entry)) ⌝ }
 {
     let found = rtr_numbers::session_of(session);
     match found {
@@ -305,6 +308,7 @@ pub extern "C" fn hingemoss_change_ask(
     out: &mut [u8],
 ) -> u8
     ensures { λ r. ⌜ askGives r (now (session .exit)) (now (out .exit)) ≡ changeAskC (now (session .entry)) (now (live .entry)) (now (working .entry)) (now (hold .entry)) (now (out .entry)) ⌝ }
+    ensures { λ r. ⌜ isSession (now (session .exit)) ≡ isSession (now (session .entry)) ⌝ }
 {
     let found = rtr_numbers::session_of(session);
     match found {
@@ -331,6 +335,7 @@ pub extern "C" fn hingemoss_feed(
     updates: &mut u64,
 ) -> u8
     ensures { λ r. ⌜ feedGives r (now (session .exit)) (now (live .exit)) (now (working .exit)) (now (hold .exit)) (now (taken .exit)) (now (updates .exit)) ≡ feedC (now (session .entry)) (now (live .entry)) (now (working .entry)) (now (hold .entry)) (now (piece .entry)) ⌝ }
+    ensures { λ r. ⌜ isSession (now (session .exit)) ≡ isSession (now (session .entry)) ⌝ }
 {
     let found = rtr_numbers::session_of(session);
     match found {
@@ -361,6 +366,7 @@ pub extern "C" fn hingemoss_reconnect(
     hold: &[u8],
 ) -> u8
     ensures { λ r. ⌜ reconnectGives r (now (session .exit)) (now (working .exit)) ≡ reconnectC (now (session .entry)) (now (live .entry)) (now (working .entry)) (now (hold .entry)) ⌝ }
+    ensures { λ r. ⌜ isSession (now (session .exit)) ≡ isSession (now (session .entry)) ⌝ }
 {
     let found = rtr_numbers::session_of(session);
     match found {
