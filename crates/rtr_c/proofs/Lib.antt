@@ -1,4 +1,6 @@
--- `Laws` and `Unique` are for readers; `Steps` is what the calls' proofs cite.
+-- `Laws`, `Unique`, `Runs` (demand 3) and `Coded` are for readers; `Steps` is what the calls' proofs cite.
 mod Steps
 pub mod Laws
 pub mod Unique
+pub mod Runs
+pub mod Coded

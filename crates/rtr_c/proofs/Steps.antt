@@ -4,6 +4,7 @@ use Prim.Native.Nat.{ℕ}
 use mathlib.Core.Bool.{Bool, true, false, cond}
 use mathlib.Core.List.{List, [], _∷_}
 use mathlib.Core.Path.{_≡_, refl, sym, ap, _∙_}
+use native.Mathlib.Omega.{arith}
 use borrow.Author.Tests.{eq-eqb}
 use lib.Dec.{eqb}
 use lib.ListN.{length, getD, take}
@@ -26,7 +27,9 @@ use Rattle.rtr_walk.specs.Walk.{End, WalkVerdict, endSaid, refusedWalk, walkSai
 use Rattle.rtr_walk.specs.declared.WalkEnd.{WalkEnd}
 use Rattle.rtr_walk.specs.declared.WalkAnswer.{WalkAnswer}
 use Rattle.rtr_stream.specs.declared.StreamError.{StreamError}
-use Rattle.rtr_receiver.specs.Promises.{AskSays, FeedSays, StartSays, ReconnectSays, NotifySays, leaves, stopSaid, feedSays, fedSaidBy, fedSaid, startSays, startSaid, askWriting, askSaid, reconnectNumber, reconnectSays, reconnectSaid, notifySays, notifySaid}
+use Rattle.rtr_receiver.specs.Promises.{AskSays, FeedSays, StartSays, ReconnectSays, NotifySays, leaves, stopSaid, feedSays, fedSaidBy, fedSaid, startSays, startSaid, askWriting, askSaid, fullAskSays, changeAskSays, reconnectNumber, reconnectSays, reconnectSaid, notifySays, notifySaid}
+use Rattle.rtr_receiver.specs.Runs.{Call, Step, Run}
+use Rattle.rtr_receiver.specs.declared.LoadKind.{LoadKind}
 use Rattle.rtr_receiver.specs.declared.Stop.{Stop}
 use Rattle.rtr_receiver.specs.declared.Session.{Session}
 use Rattle.rtr_receiver.specs.declared.StartAnswer.{StartAnswer}
@@ -43,6 +46,7 @@ use Rattle.rtr_numbers.specs.declared.SessionFound.{SessionFound}
 use Rattle.rtr_pdu_numbers.specs.declared.PduFound.{PduFound}
 use Rattle.rtr_numbers.proofs.Laws.{session-held, session-of-length}
 use Rattle.rtr_c.specs.Calls.{isKnown, isSession, amountOf, endNumber, endValue, heldOf, feedNumber, notifyNumber, notifyCompared, readGives, readLeft, readC, encodeGives, encodeLeft, encodeFound, encodeC, listingFound, listingC, walkGives, walkLeft, walkC, startGives, startLeft, startFound, startC, askGives, askLeft, askFound, FeedLeft, feedGives, feedLeft, feedFound, feedC, reconnectGives, reconnectLeft, reconnectFound, reconnectC, notifyGives, notifyLeft, notifyFound, notifyC}
+use Rattle.rtr_c.specs.Runs.{CMemory, memory, Led, LeadsOn, Begins}
 
 -- numbers of the right length are set
 pub set-at : (k : ℕ) (n x y : List ℕ) → length n ≡ k → x ≡ cond (eqb (length n) k) y n → x ≡ y
@@ -153,6 +157,21 @@ module _ (version : ℕ) (session live working hold : List ℕ) (long : length s
       ap (λ (x : StartSays). startLeft x session) (sym (ap (λ (a : StartAnswer). startSaid a live′ working′ hold) told) ∙ said)
       ∙ by-version (VersionFound.Known v) known
 
+  pub begins : (v : RtrProtocolVersion) (answer : StartAnswer) (s : Session) (session′ live′ working′ : List ℕ) →
+      found ≡ VersionFound.Known v →
+      startSaid answer live′ working′ hold ≡ startSays 1024 v live working hold →
+      answer ≡ StartAnswer.Started s →
+      (length session ≡ 18 → sessionOf session′ ≡ SessionFound.Known s) →
+      Begins version (memory session′ live′ working′ hold)
+  begins v answer s session′ live′ working′ known said told back =
+      record {
+        spoken = v;
+        spoken-is = sym f ∙ known;
+        known = s;
+        known-is = back long;
+        run = Run.started _ live working refl (sym (ap (λ (a : StartAnswer). startSaid a live′ working′ hold) told) ∙ said);
+      }
+
 -- ---- the calls on a session
 
 notify-said : (a : NotifyAnswer) → notifyGives (notifyNumber a) (notifyCompared a) ≡ notifyLeft (notifySaid a)
@@ -204,6 +223,59 @@ module _ (n : List ℕ) (found : SessionFound) (f : found ≡ sessionOf n) where
   pub stays-session : (n′ : List ℕ) (s s′ : Session) → found ≡ SessionFound.Known s → (length n ≡ 18 → sessionOf n′ ≡ SessionFound.Known s′) → isSession n′ ≡ isSession n
   unfolding isSession
   stays-session n′ s s′ told back = ap isKnown (back (known-long s told)) ∙ sym (ap isKnown (sym f ∙ told))
+
+  -- ---- from one memory to the next
+  one-session : (s t : Session) → found ≡ SessionFound.Known s → sessionOf n ≡ SessionFound.Known t → s ≡ t
+  one-session s t told known = cc
+
+  pub leads-none : (live working hold : List ℕ) (call : Call) (c′ : CMemory) → found ≡ SessionFound.Unknown → LeadsOn (memory n live working hold) call c′
+  leads-none live working hold call c′ told s known = absurd (let o : _≡_ {A = ℕ} 0 1 = cc in omega arith)
+
+  module _ (live working hold : List ℕ) (s : Session) (told : found ≡ SessionFound.Known s) where
+    pub leads-full : (out : List ℕ) (r : AskedSession) (n′ out′ : List ℕ) →
+        askSaid r live working hold out′ ≡ fullAskSays 1024 s live working hold out →
+        (length n ≡ 18 → sessionOf n′ ≡ SessionFound.Known (r .session)) →
+        LeadsOn (memory n live working hold) (Call.ask LoadKind.Full out) (memory n′ live working hold)
+    leads-full out r n′ out′ said back t known =
+        record {
+          known = r .session;
+          known-is = back (known-long s told);
+          step = Step.askedFull (r .session) (r .answer) out′ (said ∙ ap (λ (x : Session). fullAskSays 1024 x live working hold out) (one-session s t told known));
+        }
+
+    pub leads-change : (out : List ℕ) (r : AskedSession) (n′ out′ : List ℕ) →
+        askSaid r live working hold out′ ≡ changeAskSays 1024 s live working hold out →
+        (length n ≡ 18 → sessionOf n′ ≡ SessionFound.Known (r .session)) →
+        LeadsOn (memory n live working hold) (Call.ask LoadKind.Change out) (memory n′ live working hold)
+    leads-change out r n′ out′ said back t known =
+        record {
+          known = r .session;
+          known-is = back (known-long s told);
+          step = Step.askedChange (r .session) (r .answer) out′ (said ∙ ap (λ (x : Session). changeAskSays 1024 x live working hold out) (one-session s t told known));
+        }
+
+    pub leads-fed : (piece : List ℕ) (r : Fed) (n′ live′ working′ hold′ : List ℕ) →
+        fedSaid r live′ working′ hold′ ≡ feedSays 1024 s live working hold piece →
+        (length n ≡ 18 → sessionOf n′ ≡ SessionFound.Known (r .session)) →
+        length hold′ ≡ length hold →
+        LeadsOn (memory n live working hold) (Call.feed piece) (memory n′ live′ working′ hold′)
+    leads-fed piece r n′ live′ working′ hold′ said back size t known =
+        record {
+          known = r .session;
+          known-is = back (known-long s told);
+          step = Step.fed (r .session) (r .done) live′ working′ hold′ size (said ∙ ap (λ (x : Session). feedSays 1024 x live working hold piece) (one-session s t told known));
+        }
+
+    pub leads-reconnected : (r : Reconnected) (n′ working′ : List ℕ) →
+        reconnectSaid r live working′ hold ≡ reconnectSays 1024 s live working hold →
+        (length n ≡ 18 → sessionOf n′ ≡ SessionFound.Known (r .session)) →
+        LeadsOn (memory n live working hold) Call.reconnect (memory n′ live working′ hold)
+    leads-reconnected r n′ working′ said back t known =
+        record {
+          known = r .session;
+          known-is = back (known-long s told);
+          step = Step.connected (r .session) (r .answer) working′ (said ∙ ap (λ (x : Session). reconnectSays 1024 x live working hold) (one-session s t told known));
+        }
 
   -- ---- the asks
   module _ (ask : Session → AskSays) (live working hold out : List ℕ) where

@@ -23,9 +23,12 @@ ghost use Rattle.rtr_codec.specs.Reading.{crate};
 ghost use Rattle.rtr_encode.specs.Answers.{writing, numberOf};
 ghost use Rattle.rtr_listing.specs.Promises.{listSaid};
 ghost use Rattle.rtr_receiver.specs.Promises.{askWriting, reconnectNumber};
+ghost use Rattle.rtr_receiver.specs.Runs.{Call};
+ghost use Rattle.rtr_receiver.specs.declared.LoadKind.{LoadKind};
 ghost use Rattle.rtr_numbers.specs.Numbers.{valueOf};
 ghost use Rattle.rtr_walk.specs.Walk.{endSaid};
 ghost use Rattle.rtr_c.specs.Calls.{isSession, amountOf, endNumber, endValue, feedNumber, notifyNumber, notifyCompared, readGives, readC, encodeGives, encodeC, walkGives, walkC, startGives, startC, askGives, fullAskC, changeAskC, feedGives, feedC, reconnectGives, reconnectC, notifyGives, notifyC, listingC};
+ghost use Rattle.rtr_c.specs.Runs.{memory, LeadsOn, Begins};
 
 // ---- Numbers of answers
 
@@ -253,6 +256,7 @@ pub extern "C" fn hingemoss_start(
 ) -> u8
     ensures { λ r. ⌜ startGives r (now (session .exit)) (now (live .exit)) (now (working .exit)) ≡ startC version (now (session .entry)) (now (live .entry)) (now (working .entry)) (now (hold .entry)) ⌝ }
     ensures { λ r. ⌜ (r ≡ 0 → isSession (now (session .exit)) ≡ true) ⌝ }
+    ensures { λ r. ⌜ (r ≡ 0 → Begins version (memory (now (session .exit)) (now (live .exit)) (now (working .exit)) (now (hold .entry)))) ⌝ }
 {
     if session.len() != rtr_numbers::SESSION_NUMBERS {
         return 22;
@@ -284,6 +288,7 @@ pub extern "C" fn hingemoss_full_ask(
 ) -> u8
     ensures { λ r. ⌜ askGives r (now (session .exit)) (now (out .exit)) ≡ fullAskC (now (session .entry)) (now (live .entry)) (now (working .entry)) (now (hold .entry)) (now (out .entry)) ⌝ }
     ensures { λ r. ⌜ isSession (now (session .exit)) ≡ isSession (now (session .entry)) ⌝ }
+    ensures { λ r. ⌜ LeadsOn (memory (now (session .entry)) (now (live .entry)) (now (working .entry)) (now (hold .entry))) (Call.ask LoadKind.Full (now (out .entry))) (memory (now (session .exit)) (now (live .entry)) (now (working .entry)) (now (hold .entry))) ⌝ }
 {
     let found = rtr_numbers::session_of(session);
     match found {
@@ -309,6 +314,7 @@ pub extern "C" fn hingemoss_change_ask(
 ) -> u8
     ensures { λ r. ⌜ askGives r (now (session .exit)) (now (out .exit)) ≡ changeAskC (now (session .entry)) (now (live .entry)) (now (working .entry)) (now (hold .entry)) (now (out .entry)) ⌝ }
     ensures { λ r. ⌜ isSession (now (session .exit)) ≡ isSession (now (session .entry)) ⌝ }
+    ensures { λ r. ⌜ LeadsOn (memory (now (session .entry)) (now (live .entry)) (now (working .entry)) (now (hold .entry))) (Call.ask LoadKind.Change (now (out .entry))) (memory (now (session .exit)) (now (live .entry)) (now (working .entry)) (now (hold .entry))) ⌝ }
 {
     let found = rtr_numbers::session_of(session);
     match found {
@@ -336,6 +342,7 @@ pub extern "C" fn hingemoss_feed(
 ) -> u8
     ensures { λ r. ⌜ feedGives r (now (session .exit)) (now (live .exit)) (now (working .exit)) (now (hold .exit)) (now (taken .exit)) (now (updates .exit)) ≡ feedC (now (session .entry)) (now (live .entry)) (now (working .entry)) (now (hold .entry)) (now (piece .entry)) ⌝ }
     ensures { λ r. ⌜ isSession (now (session .exit)) ≡ isSession (now (session .entry)) ⌝ }
+    ensures { λ r. ⌜ LeadsOn (memory (now (session .entry)) (now (live .entry)) (now (working .entry)) (now (hold .entry))) (Call.feed (now (piece .entry))) (memory (now (session .exit)) (now (live .exit)) (now (working .exit)) (now (hold .exit))) ⌝ }
 {
     let found = rtr_numbers::session_of(session);
     match found {
@@ -367,6 +374,7 @@ pub extern "C" fn hingemoss_reconnect(
 ) -> u8
     ensures { λ r. ⌜ reconnectGives r (now (session .exit)) (now (working .exit)) ≡ reconnectC (now (session .entry)) (now (live .entry)) (now (working .entry)) (now (hold .entry)) ⌝ }
     ensures { λ r. ⌜ isSession (now (session .exit)) ≡ isSession (now (session .entry)) ⌝ }
+    ensures { λ r. ⌜ LeadsOn (memory (now (session .entry)) (now (live .entry)) (now (working .entry)) (now (hold .entry))) Call.reconnect (memory (now (session .exit)) (now (live .entry)) (now (working .exit)) (now (hold .entry))) ⌝ }
 {
     let found = rtr_numbers::session_of(session);
     match found {

@@ -11,7 +11,7 @@ use lib.Dec.{eqb}
 use lib.ListN.{length, getD}
 use Rattle.rtr_receiver.specs.Promises.{leaves}
 use Rattle.rtr_receiver.specs.declared.Session.{Session}
-use Rattle.rtr_numbers.specs.Numbers.{numbersOf, sessionNumbers, leftNumbers}
+use Rattle.rtr_numbers.specs.Numbers.{tableNumber, tableOr, numbersOf, sessionNumbers, leftNumbers}
 use Rattle.rtr_numbers.specs.Back.{alike, looseSession, sessionIf, sessionOf}
 use Rattle.rtr_numbers.specs.Ranges.{SessionFits}
 use Rattle.rtr_numbers.specs.declared.SessionFound.{SessionFound}
@@ -26,6 +26,18 @@ session-length s = refl
 pub session-held : (s : Session) → getD (sessionNumbers s) 17 0 ≡ s .held
 unfolding numbersOf
 session-held s = refl
+
+-- number 6 is whether there is a table, 7 to 11 are its session, serial and intervals, and 15 counts the live room's records
+pub session-table : (s : Session) →
+    (getD (sessionNumbers s) 6 0 ≡ tableNumber (s .table))
+    × (getD (sessionNumbers s) 7 0 ≡ tableOr (s .table) .session)
+    × (getD (sessionNumbers s) 8 0 ≡ tableOr (s .table) .serial)
+    × (getD (sessionNumbers s) 9 0 ≡ tableOr (s .table) .refresh)
+    × (getD (sessionNumbers s) 10 0 ≡ tableOr (s .table) .retry)
+    × (getD (sessionNumbers s) 11 0 ≡ tableOr (s .table) .expire)
+    × (getD (sessionNumbers s) 15 0 ≡ s .live)
+unfolding numbersOf
+session-table s = (refl, refl, refl, refl, refl, refl, refl)
 
 -- a session's numbers are those of what it leaves
 pub session-leaves : (s : Session) (live working hold : List ℕ) → sessionNumbers s ≡ leftNumbers (leaves s live working hold)
