@@ -6,23 +6,29 @@ use mathlib.Core.List.{List, [], _∷_}
 use mathlib.Core.Logic.{_⊎_, inl, inr}
 use mathlib.Core.Path.{_≡_, refl, sym, ap, _∙_}
 use native.Mathlib.Omega.{arith}
-use lib.Dec.{eqb}
+use borrow.Author.Tests.{leb-true, leb-false}
+use lib.Dec.{eqb, leb}
 use lib.ListN.{length}
 use Rattle.rtr_models.specs.Codes.{versionFound}
 use Rattle.rtr_models.specs.declared.VersionFound.{VersionFound}
 use Rattle.rtr_codec.specs.declared.RtrError.the-variants.{IncompletePdu, InvalidProtocolVersion, InvalidPduType, InvalidLength, RouterKeyInV0, InvalidPrefixLength, InvalidErrorCode, InvalidUtf8}
-use Rattle.rtr_encode.specs.Encode.{Writing}
+use Rattle.rtr_codec.specs.Reading.{crate}
+use Rattle.rtr_encode.specs.Encode.{Writing, Encoded}
 use Rattle.rtr_encode.specs.Answers.{numberOf}
+use Rattle.rtr_encode.proofs.Laws.{reset-query-says, serial-query-says}
 use Rattle.rtr_stream.specs.declared.StreamError.{StreamError}
-use Rattle.rtr_listing.specs.Promises.{isListed}
-use Rattle.rtr_listing.proofs.Laws.{refused-is}
-use Rattle.rtr_receiver.specs.Receiver.{feed}
-use Rattle.rtr_receiver.specs.Receiver.Stage.{stopped}
-use Rattle.rtr_receiver.specs.Promises.{Left, Ending, FeedSays, StartSays, AskSays, ReconnectSays, NotifySays, isReceiver, receiverOf, leaves, stageOf, fedTo, feedSays, startSays, fullAskSays, changeAskSays, reconnectSays, notifySays}
+use Rattle.rtr_room.specs.Room.{records}
+use Rattle.rtr_listing.specs.Listing.{listing}
+use Rattle.rtr_listing.specs.Promises.{puts, isListed}
+use Rattle.rtr_listing.proofs.Laws.{written-is, short-is, refused-is, listed-is, receiver-is-listed}
+use Rattle.rtr_receiver.specs.Receiver.{Stage, Receiver, feed, fullQuery, serialQuery, changeQuery, askedBy, ask}
+use Rattle.rtr_receiver.specs.Receiver.Stage.{idle, mustReset, askedFull, askedChange, loading, stopped}
+use Rattle.rtr_receiver.specs.Promises.{Left, Ending, FeedSays, StartSays, AskSays, ReconnectSays, NotifySays, isReceiver, receiverOf, leaves, stageOf, fedTo, askedTo, feedSays, startSays, fullAskSays, changeAskSays, reconnectSays, notifySays}
 use Rattle.rtr_receiver.proofs.Kept.{isStop, stopsRightly}
 use Rattle.rtr_receiver.proofs.Laws as receiver
 use Rattle.rtr_receiver.specs.declared.Stop.{Stop}
 use Rattle.rtr_receiver.specs.declared.Phase.{Phase}
+use Rattle.rtr_receiver.specs.declared.LiveTable.{LiveTable}
 use Rattle.rtr_receiver.specs.declared.Session.{Session}
 use Rattle.rtr_numbers.specs.Numbers.{sessionNumbers, leftNumbers}
 use Rattle.rtr_numbers.specs.Back.{sessionOf}
@@ -180,7 +186,7 @@ module _ (n live working hold : List ℕ) where
       go SessionFound.Unknown e = unknown-keeps-reconnect n live working hold e
       go (SessionFound.Known s) e = by s e (isReceiver 1024 s live working hold) refl
 
--- ---- A feed's 22 is never a stop
+-- ---- 22 is for nothing else
 
 -- a session stops by 1, which never arises in a stream, or by 2 to 8 or 12 to 19
 phase-stops : (p : Phase) → (stopsRightly (stageOf p) ≡ true) ⊎ ((x : List ℕ) × (stageOf p ≡ stopped 1 x))
@@ -228,22 +234,103 @@ module _ (s : Session) (live working hold piece : List ℕ) where
       let o : _≡_ {A = ℕ} 0 1 = cc in
       omega arith
 
+-- what the queries say is never 22
+asked-says : (w : Writing) (stage : Stage) (r : Receiver) (out : List ℕ) → askedBy w stage r out .says ≡ w
+asked-says (Writing.written k) stage r out = refl
+asked-says (Writing.refused k x) stage r out = refl
+
+by-space : (b : Bool) (k : ℕ) → numberOf (cond b (Writing.written k) (Writing.refused 9 (k ∷ []))) ≡ 22 → ⊥
+by-space true k q = omega arith
+by-space false k q = omega arith
+
+module _ (r : Receiver) (out : List ℕ) where
+  full-never-22 : (stage : Stage) → numberOf (ask (fullQuery stage r) r out .says) ≡ 22 → ⊥
+  full-never-22 idle q = by-space (leb 8 (length out)) 8 (sym (ap numberOf (asked-says _ askedFull r _ ∙ reset-query-says crate (r .version) out)) ∙ q)
+  full-never-22 mustReset q = by-space (leb 8 (length out)) 8 (sym (ap numberOf (asked-says _ askedFull r _ ∙ reset-query-says crate (r .version) out)) ∙ q)
+  full-never-22 askedFull q = omega arith
+  full-never-22 askedChange q = omega arith
+  full-never-22 (loading kind session) q = omega arith
+  full-never-22 (stopped k x) q = omega arith
+
+  serial-never-22 : (table : LiveTable) → numberOf (ask (serialQuery table r) r out .says) ≡ 22 → ⊥
+  serial-never-22 LiveTable.NoTable q = omega arith
+  serial-never-22 (LiveTable.Known t) q = by-space (leb 12 (length out)) 12 (sym (ap numberOf (asked-says _ askedChange r _ ∙ serial-query-says crate (r .version) (t .session) (t .serial) out)) ∙ q)
+
+  change-never-22 : (stage : Stage) → numberOf (ask (changeQuery stage r) r out .says) ≡ 22 → ⊥
+  change-never-22 idle q = serial-never-22 (r .table) q
+  change-never-22 mustReset q = omega arith
+  change-never-22 askedFull q = omega arith
+  change-never-22 askedChange q = omega arith
+  change-never-22 (loading kind session) q = omega arith
+  change-never-22 (stopped k x) q = omega arith
+
+-- a session in memory of receiver shape is never refused by 22
+module _ (n live working hold : List ℕ) (s : Session) (known : sessionOf n ≡ SessionFound.Known s) (t : isReceiver 1024 s live working hold ≡ true) where
+  pub shaped-full-ask : (out : List ℕ) → fullAskC n live working hold out .answer ≡ 22 → ⊥
+  unfolding fullAskC fullAskSays
+  shaped-full-ask out q =
+      let r : Receiver = receiverOf s live working hold in
+      full-never-22 r out (r .stage)
+      (sym
+      (ap (λ (x : SessionFound). askFound (λ (y : Session). fullAskSays 1024 y live working hold out) x n out .answer) known
+      ∙ ap (λ (b : Bool). askLeft (cond b (askedTo 1024 (ask (fullQuery (r .stage) r) r out)) (record { says = Writing.refused 22 []; out = out; left = leaves s live working hold })) .answer) t)
+      ∙ q)
+
+  pub shaped-change-ask : (out : List ℕ) → changeAskC n live working hold out .answer ≡ 22 → ⊥
+  unfolding changeAskC changeAskSays
+  shaped-change-ask out q =
+      let r : Receiver = receiverOf s live working hold in
+      change-never-22 r out (r .stage)
+      (sym
+      (ap (λ (x : SessionFound). askFound (λ (y : Session). changeAskSays 1024 y live working hold out) x n out .answer) known
+      ∙ ap (λ (b : Bool). askLeft (cond b (askedTo 1024 (ask (changeQuery (r .stage) r) r out)) (record { says = Writing.refused 22 []; out = out; left = leaves s live working hold })) .answer) t)
+      ∙ q)
+
+  pub shaped-feed : (piece : List ℕ) → feedC n live working hold piece .answer ≡ 22 → ⊥
+  unfolding feedC
+  shaped-feed piece q = says (feedSays 1024 s live working hold piece) refl
+    where
+      answer : (x : FeedSays) → feedSays 1024 s live working hold piece ≡ x → feedLeft x .answer ≡ 22
+      answer x p = sym (ap (λ (y : FeedSays). feedLeft y .answer) p) ∙ sym (ap (λ (f : SessionFound). feedFound f n live working hold piece .answer) known) ∙ q
+
+      says : (x : FeedSays) → feedSays 1024 s live working hold piece ≡ x → ⊥
+      says (FeedSays.fed taken updates Ending.goesOn left) p = let z = answer _ p in omega arith
+      says (FeedSays.fed taken updates (Ending.stops k x) left) p = never-22 s live working hold piece taken updates k x left p (answer _ p)
+      says (FeedSays.refusedFeed number taken updates left h) p = shaped s live working hold piece t number taken updates left h p
+
+  pub shaped-reconnect : reconnectC n live working hold .answer ≡ 0
+  unfolding reconnectC reconnectSays
+  shaped-reconnect = ap (λ (x : SessionFound). reconnectFound x n live working hold .answer) known ∙ simp t
+
+  pub shaped-notify : notifyC n live working hold .answer ≡ 0
+  unfolding notifyC notifySays
+  shaped-notify = ap (λ (x : SessionFound). notifyFound x live working hold .answer) known ∙ simp t
+
+  pub shaped-listing : (out : List ℕ) → listingC n live out .answer ≡ 22 → ⊥
+  unfolding listingC
+  shaped-listing out q = go (leb (length text) (length out)) refl
+    where
+      text : List ℕ
+      text = listing s (records (s .live) live)
+
+      said : numberOf (puts text out .says) ≡ 22
+      said =
+          sym
+          (ap (λ (x : SessionFound). listingFound x live out .answer) known
+          ∙ ap (λ (x : Encoded). numberOf (x .says)) (listed-is 1024 s live out (receiver-is-listed 1024 s live working hold t)))
+          ∙ q
+
+      go : (b : Bool) → leb (length text) (length out) ≡ b → ⊥
+      go true e = let z = sym (ap (λ (x : Encoded). numberOf (x .says)) (written-is text out (leb-true (length text) (length out) e))) ∙ said in omega arith
+      go false e = let z = sym (ap (λ (x : Encoded). numberOf (x .says)) (short-is text out (leb-false (length text) (length out) e))) ∙ said in omega arith
+
 -- a feed that answers 22 took and counted 0 and leaves the numbers, both rooms and the whole hold
 pub refused-keeps-feed : (n live working hold piece : List ℕ) → feedC n live working hold piece .answer ≡ 22 → feedC n live working hold piece ≡ feedGives 22 n live working hold 0 0
-unfolding feedC
 refused-keeps-feed n live working hold piece q = go (sessionOf n) refl
   where
     by : (s : Session) → sessionOf n ≡ SessionFound.Known s → (b : Bool) → isReceiver 1024 s live working hold ≡ b → feedC n live working hold piece ≡ feedGives 22 n live working hold 0 0
+    by s e true t = absurd (shaped-feed n live working hold s e t piece q)
     by s e false t = shapeless-keeps-feed n live working hold piece s e t
-    by s e true t = absurd (says (feedSays 1024 s live working hold piece) refl)
-      where
-        answer : (x : FeedSays) → feedSays 1024 s live working hold piece ≡ x → feedLeft x .answer ≡ 22
-        answer x p = sym (ap (λ (y : FeedSays). feedLeft y .answer) p) ∙ sym (ap (λ (f : SessionFound). feedFound f n live working hold piece .answer) e) ∙ q
-
-        says : (x : FeedSays) → feedSays 1024 s live working hold piece ≡ x → ⊥
-        says (FeedSays.fed taken updates Ending.goesOn left) p = let z = answer _ p in omega arith
-        says (FeedSays.fed taken updates (Ending.stops k x) left) p = never-22 s live working hold piece taken updates k x left p (answer _ p)
-        says (FeedSays.refusedFeed number taken updates left h) p = shaped s live working hold piece t number taken updates left h p
 
     go : (x : SessionFound) → sessionOf n ≡ x → feedC n live working hold piece ≡ feedGives 22 n live working hold 0 0
     go (SessionFound.Known s) e = by s e (isReceiver 1024 s live working hold) refl

@@ -1,5 +1,5 @@
 -- Demand 3 at the C boundary. A C host's run reads back as a run of the receiver with the same calls (`c-run-is-run`), so the receiver's laws hold of it: its numbers are
--- always a session's in memory of receiver shape (`c-in-shape`), and numbers 6 to 11 and the live room hold the table that the updates make which finished in the history
+-- always a session's in memory of receiver shape (`c-in-shape`), so none of its calls is answered by 22 (`c-never-22`), and numbers 6 to 11 and the live room hold the table that the updates make which finished in the history
 -- (`c-history`), wherever the bytes were cut (`c-cut-anywhere`). Assumes nothing.
 use Prim.Native.Nat.{ℕ}
 use mathlib.Core.Bool.{true}
@@ -23,6 +23,8 @@ use Rattle.rtr_numbers.specs.Numbers.{tableNumber, tableOr, sessionNumbers}
 use Rattle.rtr_numbers.specs.Back.{sessionOf}
 use Rattle.rtr_numbers.specs.declared.SessionFound.{SessionFound}
 use Rattle.rtr_numbers.proofs.Laws.{numbers-of-session, session-table}
+use Rattle.rtr_c.proofs.Laws.{shaped-full-ask, shaped-change-ask, shaped-feed, shaped-reconnect, shaped-notify, shaped-listing}
+use Rattle.rtr_c.specs.Calls.{fullAskC, changeAskC, feedC, reconnectC, notifyC, listingC}
 use Rattle.rtr_c.specs.Runs.{CMemory, memoryOf, Led, LeadsOn, Begins, CStep, CRun, Holds}
 
 -- the session that the numbers are, and the receiver's run to it
@@ -65,6 +67,24 @@ pub c-in-shape : {version H : ℕ} {calls : List Call} {c : CMemory} → CRun ve
 c-in-shape {version} {H} {calls} {c} r =
     let b = c-run-is-run r in
     (b .known, b .known-is, shape-kept 1024 H (b .spoken) calls (memoryOf c (b .known)) (b .run))
+
+-- so no call of a run is answered by 22
+pub c-never-22 : {version H : ℕ} {calls : List Call} {c : CMemory} → CRun version H calls c →
+    ((out : List ℕ) → fullAskC (c .session) (c .live) (c .working) (c .hold) out .answer ≡ 22 → ⊥)
+    × ((out : List ℕ) → changeAskC (c .session) (c .live) (c .working) (c .hold) out .answer ≡ 22 → ⊥)
+    × ((piece : List ℕ) → feedC (c .session) (c .live) (c .working) (c .hold) piece .answer ≡ 22 → ⊥)
+    × (reconnectC (c .session) (c .live) (c .working) (c .hold) .answer ≡ 0)
+    × (notifyC (c .session) (c .live) (c .working) (c .hold) .answer ≡ 0)
+    × ((out : List ℕ) → listingC (c .session) (c .live) out .answer ≡ 22 → ⊥)
+c-never-22 {version} {H} {calls} {c} r =
+    let k = c-in-shape r in (
+      shaped-full-ask (c .session) (c .live) (c .working) (c .hold) (k .0) (k .1) (k .2),
+      shaped-change-ask (c .session) (c .live) (c .working) (c .hold) (k .0) (k .1) (k .2),
+      shaped-feed (c .session) (c .live) (c .working) (c .hold) (k .0) (k .1) (k .2),
+      shaped-reconnect (c .session) (c .live) (c .working) (c .hold) (k .0) (k .1) (k .2),
+      shaped-notify (c .session) (c .live) (c .working) (c .hold) (k .0) (k .1) (k .2),
+      shaped-listing (c .session) (c .live) (c .working) (c .hold) (k .0) (k .1) (k .2),
+    )
 
 -- what a session's numbers and its live room hold
 table-held : (c : CMemory) (s : Session) → sessionOf (c .session) ≡ SessionFound.Known s → Holds c (liveIn (memoryOf c s))
