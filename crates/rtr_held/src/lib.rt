@@ -1,5 +1,6 @@
 // A session record that is lent: a long-running host keeps one, lends it to each call, and finds it updated in place. Each call takes the record apart,
 // makes the receiver's by-value call and puts the record that comes back in its place, so it promises what that call promises, of the record at exit.
+// `feed_times` is such a host's loop: one record, lent once for all its feeds.
 // The calls ending in `_through` take the record by value and lend it: whoever calls them needs no walk by hand. The run reader keeps captured bytes
 // together with a place in them; `read_run`, `rest_at` and `done_at` are the same over plain parameters, as `rtr_codec::read_at` is.
 use rtr_codec::ReadAnswer;
@@ -24,6 +25,7 @@ ghost use lib.Dec.{leb};
 ghost use lib.ListN.{length};
 ghost use Rattle.rtr_codec.specs.Reading.{crate};
 ghost use Rattle.rtr_codec.specs.Run.{readAt, runSaid};
+ghost use Rattle.rtr_held.specs.Times.{FedTimes};
 ghost use Rattle.rtr_receiver.specs.Promises.{feedSays, fedSaid, fullAskSays, changeAskSays, askSaid, reconnectSays, reconnectSaid, notifySays, notifySaid};
 
 // ---- In place
@@ -41,6 +43,24 @@ pub fn feed_in_place(
     let fed = feed(*session, live, working, hold, piece);
     *session = fed.session;
     fed.done
+}
+
+// Feeds the same piece so many times to the receiver whose record is lent: the record is lent once, for the whole loop, and lent on to each feed.
+pub fn feed_times(
+    session: &mut Session,
+    live: &mut [u32],
+    working: &mut [u32],
+    hold: &mut [u8],
+    piece: &[u8],
+    count: u32,
+)
+    ensures { λ _. ⌜ FedTimes 1024 (now (piece .entry)) (record { session = now (session .entry); live = now (live .entry); working = now (working .entry); hold = now (hold .entry) }) count (record { session = now (session .exit); live = now (live .exit); working = now (working .exit); hold = now (hold .exit) }) ⌝ }
+{
+    let mut left = count;
+    while left > 0 {
+        let _done = feed_in_place(session, live, working, hold, piece);
+        left -= 1;
+    }
 }
 
 // Asks for the whole table.
@@ -111,6 +131,22 @@ pub fn feed_through(
         session: lent,
         done,
     }
+}
+
+// The record is lent once, for all the feeds.
+pub fn feed_times_through(
+    session: Session,
+    live: &mut [u32],
+    working: &mut [u32],
+    hold: &mut [u8],
+    piece: &[u8],
+    count: u32,
+) -> Session
+    ensures { λ r. ⌜ FedTimes 1024 (now (piece .entry)) (record { session = session; live = now (live .entry); working = now (working .entry); hold = now (hold .entry) }) count (record { session = r; live = now (live .exit); working = now (working .exit); hold = now (hold .exit) }) ⌝ }
+{
+    let mut lent = session;
+    feed_times(&mut lent, live, working, hold, piece, count);
+    lent
 }
 
 pub fn full_ask_through(
