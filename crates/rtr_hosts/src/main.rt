@@ -1,7 +1,8 @@
-// A long-running host, played: a session record is lent to every call, thousands of feeds long, and the whole record is noted after each call, with what
-// the call answered. Then the same bytes go to a second receiver whose record is handed on by value, and each call is compared with the note, number by
-// number. Two loads of 1,000 prefixes, a Serial Notify and a change that withdraws half of them, in pieces of 7; then a stop that repeats, an ask that is
-// refused, memory that is no receiver's, and a new connection. At the end both rooms are compared, and captured bytes are read through a run and by place, side by side.
+// A long-running host, played: its session record is lent to every call, and the whole record is noted after each call, with what the call answered.
+// Then the same bytes go to a second receiver whose record is handed on by value, and each call is compared with the note, number by number. Two
+// loads of 1,000 prefixes, a Serial Notify and a change that withdraws half of them, in pieces of 7; 5,000 feeds of one piece over a record that is
+// lent once for all of them; then a stop that repeats, an ask that is refused, memory that is no receiver's, and a new connection. At the end both
+// rooms are compared, and captured bytes are read through a run and by place, side by side.
 use libc::STDOUT_FILENO;
 use rtr_answers::put;
 use rtr_codec::ReadAnswer;
@@ -10,6 +11,7 @@ use rtr_codec::read_at;
 use rtr_held::change_ask_through;
 use rtr_held::done_at;
 use rtr_held::feed_through;
+use rtr_held::feed_times_through;
 use rtr_held::full_ask_through;
 use rtr_held::notify_through;
 use rtr_held::read_run;
@@ -33,6 +35,9 @@ const CALLS: usize = 8192;
 const NOTE: usize = 22;
 
 const LOG: usize = 180224;
+
+// How often the one piece is fed.
+const TIMES: u32 = 5000;
 
 // A receiver, how many calls it had, how many updates they finished, and how many came to what was noted.
 struct Seen {
@@ -209,6 +214,40 @@ fn fed_as(
         return feed_through(s, live, working, hold, piece);
     }
     feed(s, live, working, hold, piece)
+}
+
+// The same piece again and again, the record handed on by value.
+fn fed_times(
+    s: Session,
+    live: &mut [u32],
+    working: &mut [u32],
+    hold: &mut [u8],
+    piece: &[u8],
+    count: u32,
+) -> Session {
+    let mut s = s;
+    let mut i = 0;
+    while i < count {
+        let fed = feed(s, live, working, hold, piece);
+        s = fed.session;
+        i += 1;
+    }
+    s
+}
+
+// Over one lent record, or by value.
+fn times_as(
+    lent: bool,
+    s: Session,
+    live: &mut [u32],
+    working: &mut [u32],
+    hold: &mut [u8],
+    piece: &[u8],
+) -> Session {
+    if lent {
+        return feed_times_through(s, live, working, hold, piece, TIMES);
+    }
+    fed_times(s, live, working, hold, piece, TIMES)
 }
 
 fn plain(session: Session, answer: u64) -> Gave {
@@ -628,6 +667,76 @@ fn started(answer: StartAnswer) -> Session {
     }
 }
 
+// Three Serial Notifies that begin with a notify's last seven bytes and end with its first five: no piece ends where a PDU does.
+fn turned() -> [u8; 36] {
+    [
+        0,
+        0,
+        12,
+        0,
+        0,
+        0,
+        8,
+        1,
+        0,
+        0,
+        7,
+        0,
+        0,
+        0,
+        12,
+        0,
+        0,
+        0,
+        9,
+        1,
+        0,
+        0,
+        7,
+        0,
+        0,
+        0,
+        12,
+        0,
+        0,
+        0,
+        10,
+        1,
+        0,
+        0,
+        7,
+        0,
+    ]
+}
+
+fn again(
+    lent: bool,
+    r: Seen,
+    live: &mut [u32],
+    working: &mut [u32],
+    hold: &mut [u8],
+    log: &mut [u64],
+) -> Seen {
+    let piece = turned();
+    let s = r.session;
+    let s = times_as(lent, s, live, working, hold, &piece);
+    noted(lent, r, plain(s, 0), log)
+}
+
+// A notify's first five bytes, and then the one piece.
+fn notified_again(
+    lent: bool,
+    r: Seen,
+    live: &mut [u32],
+    working: &mut [u32],
+    hold: &mut [u8],
+    log: &mut [u64],
+) -> Seen {
+    let first = [1u8, 0, 0, 7, 0];
+    let r = step(lent, r, live, working, hold, log, &first);
+    again(lent, r, live, working, hold, log)
+}
+
 // A PDU of no type: a stop.
 fn stopped(
     lent: bool,
@@ -717,7 +826,7 @@ fn all_loaded(
     changed(lent, r, live, working, hold, log)
 }
 
-fn all_played(
+fn all_heard(
     lent: bool,
     r: Seen,
     live: &mut [u32],
@@ -726,6 +835,18 @@ fn all_played(
     log: &mut [u64],
 ) -> Seen {
     let r = all_loaded(lent, r, live, working, hold, log);
+    notified_again(lent, r, live, working, hold, log)
+}
+
+fn all_played(
+    lent: bool,
+    r: Seen,
+    live: &mut [u32],
+    working: &mut [u32],
+    hold: &mut [u8],
+    log: &mut [u64],
+) -> Seen {
+    let r = all_heard(lent, r, live, working, hold, log);
     opened_again(lent, r, live, working, hold, log)
 }
 
@@ -857,6 +978,7 @@ fn show(a: Seen, b: Seen, rooms: bool, pdus: u64) {
     let at = put::put_field(&mut out, 0, b"calls=", b.calls as u64);
     let at = put::put_field(&mut out, at, b" updates=", b.updates);
     let at = put::put_field(&mut out, at, b" records=", s.live as u64);
+    let at = put::put_field(&mut out, at, b" times=", TIMES as u64);
     let at = put::put_field(&mut out, at, b" pdus=", pdus);
     let same = rooms && a.calls == b.calls && b.same == b.calls as u64 && a.updates == b.updates;
     let at = put_verdict(&mut out, at, same);
