@@ -23,20 +23,20 @@ use Rattle.rtr_listing.specs.Promises.{puts, isListed}
 use Rattle.rtr_listing.proofs.Laws.{written-is, short-is, refused-is, listed-is, receiver-is-listed}
 use Rattle.rtr_receiver.specs.Receiver.{Stage, Receiver, feed, fullQuery, serialQuery, changeQuery, askedBy, ask}
 use Rattle.rtr_receiver.specs.Receiver.Stage.{idle, mustReset, askedFull, askedChange, loading, stopped}
-use Rattle.rtr_receiver.specs.Promises.{Left, Ending, FeedSays, StartSays, AskSays, ReconnectSays, NotifySays, isReceiver, receiverOf, leaves, stageOf, fedTo, askedTo, feedSays, startSays, fullAskSays, changeAskSays, reconnectSays, notifySays}
+use Rattle.rtr_receiver.specs.Promises.{Left, Ending, FeedSays, StartSays, AskSays, NotifySays, isReceiver, receiverOf, leaves, stageOf, fedTo, askedTo, feedSays, startSays, fullAskSays, changeAskSays, reconnectSays, notifySays}
 use Rattle.rtr_receiver.proofs.Kept.{isStop, stopsRightly}
 use Rattle.rtr_receiver.proofs.Laws as receiver
 use Rattle.rtr_receiver.specs.declared.Stop.{Stop}
 use Rattle.rtr_receiver.specs.declared.Phase.{Phase}
 use Rattle.rtr_receiver.specs.declared.LiveTable.{LiveTable}
 use Rattle.rtr_receiver.specs.declared.Session.{Session}
-use Rattle.rtr_numbers.specs.Numbers.{sessionNumbers, leftNumbers}
+use Rattle.rtr_numbers.specs.Numbers.{leftNumbers}
 use Rattle.rtr_numbers.specs.Back.{sessionOf}
 use Rattle.rtr_pdu_numbers.specs.Back.{pduOf}
 use Rattle.rtr_numbers.specs.declared.SessionFound.{SessionFound}
 use Rattle.rtr_pdu_numbers.specs.declared.PduFound.{PduFound}
 use Rattle.rtr_numbers.proofs.Laws.{numbers-of-session}
-use Rattle.rtr_c.specs.Calls.{startGives, startLeft, startFound, startC, AskLeft, askGives, askLeft, askFound, fullAskC, changeAskC, FeedLeft, feedGives, feedLeft, feedFound, feedC, ReconnectLeft, reconnectGives, reconnectLeft, reconnectFound, reconnectC, notifyGives, notifyLeft, notifyFound, notifyC, encodeGives, encodeLeft, encodeFound, encodeC, listingFound, listingC}
+use Rattle.rtr_c.specs.Calls.{startGives, startLeft, startFound, startC, askGives, askLeft, askFound, fullAskC, changeAskC, feedGives, feedLeft, feedFound, feedC, reconnectGives, reconnectLeft, reconnectFound, reconnectC, notifyGives, notifyLeft, notifyFound, notifyC, encodeGives, encodeLeft, encodeFound, encodeC, listingFound, listingC}
 
 -- numbers that are no session's
 module _ (n live working hold : List ℕ) (none : sessionOf n ≡ SessionFound.Unknown) where

@@ -3,29 +3,29 @@
 -- (`c-history`), wherever the bytes were cut (`c-cut-anywhere`). Assumes nothing.
 use Prim.Native.Nat.{ℕ}
 use mathlib.Core.Bool.{true}
-use mathlib.Core.List.{List, [], _∷_, _++_}
+use mathlib.Core.List.{List, []}
 use mathlib.Core.Logic.{_↔_}
 use mathlib.Core.Path.{_≡_, refl, sym, ap, _∙_, subst}
 use native.Mathlib.Omega.{arith}
-use lib.ListN.{length, getD}
+use lib.ListN.{getD}
 use Rattle.rtr_models.specs.Codes.{versionFound}
 use Rattle.rtr_models.specs.declared.RtrProtocolVersion.{RtrProtocolVersion}
 use Rattle.rtr_models.specs.declared.VersionFound.{VersionFound}
 use Rattle.rtr_room.specs.Room.{records}
 use Rattle.rtr_receiver.specs.History.{Event, Live, finished, tableOf}
 use Rattle.rtr_receiver.specs.Promises.{isReceiver}
-use Rattle.rtr_receiver.specs.Runs.{Call, Memory, Step, Run, historyOf, liveIn}
+use Rattle.rtr_receiver.specs.Runs.{Call, Run, historyOf, liveIn}
 use Rattle.rtr_receiver.specs.declared.LiveTable.{LiveTable}
 use Rattle.rtr_receiver.specs.declared.Session.{Session}
 use Rattle.rtr_receiver.proofs.Laws.{shape-kept}
 use Rattle.rtr_receiver.proofs.Runs.{history, no-table}
-use Rattle.rtr_numbers.specs.Numbers.{tableNumber, tableOr, sessionNumbers}
+use Rattle.rtr_numbers.specs.Numbers.{tableNumber}
 use Rattle.rtr_numbers.specs.Back.{sessionOf}
 use Rattle.rtr_numbers.specs.declared.SessionFound.{SessionFound}
 use Rattle.rtr_numbers.proofs.Laws.{numbers-of-session, session-table}
 use Rattle.rtr_c.proofs.Laws.{shaped-full-ask, shaped-change-ask, shaped-feed, shaped-reconnect, shaped-notify, shaped-listing}
 use Rattle.rtr_c.specs.Calls.{fullAskC, changeAskC, feedC, reconnectC, notifyC, listingC}
-use Rattle.rtr_c.specs.Runs.{CMemory, memoryOf, Led, LeadsOn, Begins, CStep, CRun, Holds}
+use Rattle.rtr_c.specs.Runs.{CMemory, memoryOf, LeadsOn, CStep, CRun, Holds}
 
 -- the session that the numbers are, and the receiver's run to it
 pub record ReadsBack (version H : ℕ) (calls : List Call) (c : CMemory) : Type 0 where

@@ -46,7 +46,7 @@ use Rattle.rtr_numbers.specs.declared.SessionFound.{SessionFound}
 use Rattle.rtr_pdu_numbers.specs.declared.PduFound.{PduFound}
 use Rattle.rtr_numbers.proofs.Laws.{session-held, session-of-length}
 use Rattle.rtr_c.specs.Calls.{isKnown, isSession, amountOf, endNumber, endValue, heldOf, feedNumber, notifyNumber, notifyCompared, readGives, readLeft, readC, encodeGives, encodeLeft, encodeFound, encodeC, listingFound, listingC, walkGives, walkLeft, walkC, startGives, startLeft, startFound, startC, askGives, askLeft, askFound, FeedLeft, feedGives, feedLeft, feedFound, feedC, reconnectGives, reconnectLeft, reconnectFound, reconnectC, notifyGives, notifyLeft, notifyFound, notifyC}
-use Rattle.rtr_c.specs.Runs.{CMemory, memory, Led, LeadsOn, Begins}
+use Rattle.rtr_c.specs.Runs.{CMemory, memory, LeadsOn, Begins}
 
 -- numbers of the right length are set
 pub set-at : (k : ℕ) (n x y : List ℕ) → length n ≡ k → x ≡ cond (eqb (length n) k) y n → x ≡ y

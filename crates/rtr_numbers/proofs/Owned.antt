@@ -1,6 +1,5 @@
 -- Whoever holds a session record holds numbers that fit their types: what owning a value of a Rattle type tells (`Is`), case by case.
 -- Assumes nothing.
-use Prim.Native.Nat.{ℕ, _<_}
 use mathlib.Core.List.{List}
 use native.Mathlib.Omega.{arith}
 use mir.Val.{Val}
@@ -8,7 +7,6 @@ use denote.Laws.{Is}
 use denote.Enum.Declared as enum
 use denote.Struct.Declared as struct
 use Rattle.rtr_codec.proofs.RtrError as error-type
-use Rattle.rtr_stream.proofs.StreamError as stream-type
 use Rattle.rtr_receiver.proofs.Stop as stop-type
 use Rattle.rtr_receiver.proofs.Phase as phase-type
 use Rattle.rtr_receiver.proofs.LiveTable as table-type
