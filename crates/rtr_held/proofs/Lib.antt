@@ -1,4 +1,4 @@
--- `Unique` is for readers and other crates; the others are the walks: `Whole` what they share, `Lent` the types they are used at, one file for each shape of parameters.
+-- `Unique` and `Times` are for readers and other crates; the others are the walks: `Whole` what they share, `Lent` the types they are used at, one file for each shape of parameters.
 mod Whole
 mod Lent
 mod Again
@@ -15,4 +15,5 @@ mod ThroughNotify
 mod RunNext
 mod ReadRun
 mod RunAsk
+pub mod Times
 pub mod Unique

@@ -1,5 +1,6 @@
 -- Each contract of this crate, as Rattle reads it off the source, is the by-value call's (`.._says`, by computation): of the record's exit content and the answer where the record is lent, of what is returned where it is lent on. So the
--- by-value call's uniqueness is this crate's too: one answer, one content of the record and one of lent memory (of the hold up to the held count, and all of it under 22). A promise that is weakened breaks this file. Assumes nothing.
+-- by-value call's uniqueness is this crate's too: one answer, one content of the record and one of lent memory (of the hold up to the held count, and all of it under 22). So many feeds are as unique as one, by Times.antt. A promise that is weakened
+-- breaks this file. Assumes nothing.
 use mathlib.Core.Bool.{Bool}
 use mathlib.Core.List.{List}
 use mathlib.Core.Path.{_≡_, refl, sym, ap, _∙_}
@@ -27,6 +28,7 @@ use Rattle.rtr_receiver.specs.declared.AskedSession.{AskedSession}
 use Rattle.rtr_receiver.specs.declared.ReconnectAnswer.{ReconnectAnswer}
 use Rattle.rtr_receiver.specs.declared.Reconnected.{Reconnected}
 use Rattle.rtr_receiver.specs.declared.NotifyAnswer.{NotifyAnswer}
+use Rattle.rtr_receiver.specs.Runs.{Memory as Lent}
 use Rattle.rtr_receiver.proofs.Unique.{feed-unique, feed-unique-refused, full-ask-unique, change-ask-unique, reconnect-unique, notify-unique}
 use Rattle.rtr_receiver.proofs.feed.Reads as feed
 use Rattle.rtr_receiver.proofs.full_ask.Reads as full-ask
@@ -38,12 +40,16 @@ use Rattle.rtr_held.proofs.full_ask_in_place as full-ask-in-place
 use Rattle.rtr_held.proofs.change_ask_in_place as change-ask-in-place
 use Rattle.rtr_held.proofs.reconnect_in_place as reconnect-in-place
 use Rattle.rtr_held.proofs.notify_of as notify-of
+use Rattle.rtr_held.proofs.feed_times as feed-times
 use Rattle.rtr_held.proofs.feed_through as feed-through
+use Rattle.rtr_held.proofs.feed_times_through as feed-times-through
 use Rattle.rtr_held.proofs.full_ask_through as full-ask-through
 use Rattle.rtr_held.proofs.change_ask_through as change-ask-through
 use Rattle.rtr_held.proofs.reconnect_through as reconnect-through
 use Rattle.rtr_held.proofs.notify_through as notify-through
 use Rattle.rtr_held.specs.declared.RtrRun.{RtrRun}
+use Rattle.rtr_held.specs.Times.{FedTimes}
+use Rattle.rtr_held.proofs.Times.{times-unique}
 use Rattle.rtr_held.proofs.run_of as run-of
 use Rattle.rtr_held.proofs.place_of as place-of
 use Rattle.rtr_held.proofs.rest_at.Reads as rest-at
@@ -79,6 +85,25 @@ feed-in-place-unique κs x x1 x2 x3 x4 y y′ y1 y2 y3 y1′ y2′ y3′ r r′ 
 pub feed-in-place-unique-refused : (κs : Lfts 4) (x : RefT Session) (x1 x2 x3 x4 : Slice) (y y′ : RefT Session) (y1 y2 y3 y1′ y2′ y3′ : Slice) (r r′ : Done) → feed-held κs x x1 x2 x3 x4 y y1 y2 y3 r → feed-held κs x x1 x2 x3 x4 y′ y1′ y2′ y3′ r′
     → r .answer ≡ FeedAnswer.NotAReceiver → now y3 ≡ now y3′
 feed-in-place-unique-refused κs x x1 x2 x3 x4 y y′ y1 y2 y3 y1′ y2′ y3′ r r′ p p′ e = feed-unique-refused κs (now x, (x1, (x2, (x3, (x4, tt))))) (record { session = now y; done = r }) (record { session = now y′; done = r′ }) (now x, (y1, (y2, (y3, (x4, tt))))) (now x, (y1′, (y2′, (y3′, (x4, tt))))) p p′ e
+
+-- ---- feed, so many times
+
+abbrev memory : Session → Slice → Slice → Slice → Lent
+memory s x1 x2 x3 = record { session = s; live = now x1; working = now x2; hold = now x3 }
+
+pub feed-times-says : {M : Type 1} (𝓤 : URA M) (H : Heap 𝓤) (A : Atoms 𝓤) (mem : Memory → SProp 𝓤) (run : Routine → Fun 𝓤) (κs : Lfts 5) (x y : RefT Session) (x1 x2 x3 x4 y1 y2 y3 : Slice) (n : ℕ) →
+    feed-times.ensures-1 𝓤 H κs A mem run x x1 x2 x3 x4 n (record { entry = x; exit = y }) (record { entry = x1; exit = y1 }) (record { entry = x2; exit = y2 }) (record { entry = x3; exit = y3 }) (record { entry = x4; exit = x4 }) (record { entry = n; exit = n }) tt ≡ fact 𝓤 (FedTimes 1024 (now x4) (memory (now x) x1 x2 x3) n (memory (now y) y1 y2 y3))
+feed-times-says 𝓤 H A mem run κs x y x1 x2 x3 x4 y1 y2 y3 n = refl
+
+pub feed-times-through-says : {M : Type 1} (𝓤 : URA M) (H : Heap 𝓤) (A : Atoms 𝓤) (mem : Memory → SProp 𝓤) (run : Routine → Fun 𝓤) (κs : Lfts 4) (x : Session) (x1 x2 x3 x4 y1 y2 y3 : Slice) (n : ℕ) (r : Session) →
+    feed-times-through.ensures-1 𝓤 H κs A mem run x x1 x2 x3 x4 n (record { entry = x; exit = x }) (record { entry = x1; exit = y1 }) (record { entry = x2; exit = y2 }) (record { entry = x3; exit = y3 }) (record { entry = x4; exit = x4 }) (record { entry = n; exit = n }) r ≡ fact 𝓤 (FedTimes 1024 (now x4) (memory x x1 x2 x3) n (memory r y1 y2 y3))
+feed-times-through-says 𝓤 H A mem run κs x x1 x2 x3 x4 y1 y2 y3 n r = refl
+
+pub feed-times-unique : (x : Session) (x1 x2 x3 x4 : Slice) (n : ℕ) (y y′ : Session) (y1 y2 y3 y1′ y2′ y3′ : Slice) → FedTimes 1024 (now x4) (memory x x1 x2 x3) n (memory y y1 y2 y3) → FedTimes 1024 (now x4) (memory x x1 x2 x3) n (memory y′ y1′ y2′ y3′)
+    → (y ≡ y′) × (now y1 ≡ now y1′) × (now y2 ≡ now y2′) × (take (y .held) (now y3) ≡ take (y′ .held) (now y3′))
+feed-times-unique x x1 x2 x3 x4 n y y′ y1 y2 y3 y1′ y2′ y3′ p p′ =
+    let one = times-unique (now x4) (memory x x1 x2 x3) n (memory y y1 y2 y3) (memory y′ y1′ y2′ y3′) p p′ in
+    (one .session, one .live, one .working, one .held)
 
 -- ---- full_ask
 

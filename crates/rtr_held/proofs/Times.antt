@@ -1,0 +1,103 @@
+-- What `FedTimes` (specs/Times.antt) comes to: the feeds are part of a run, so the live table is what the history's updates make (`times-run`, `times-table`); and they fix one session record, one content of both rooms and one of the hold up to the held count
+-- (`times-unique`). A feed reads the hold up to the held count, and its length: memories that are alike up to there (`Alike`) lead to such memories. Assumes nothing.
+use Prim.Native.Nat.{ℕ, zero, suc}
+use mathlib.Core.Bool.{Bool, true, false, cond, _&&_}
+use mathlib.Core.List.{List, [], _∷_, _++_, append-assoc, append-nil}
+use mathlib.Core.Path.{_≡_, refl, sym, ap, _∙_, subst}
+use denote.Ref.{RefT}
+use lib.Dec.{leb}
+use lib.ListN.{length, take, replicate}
+use Rattle.rtr_models.specs.declared.RtrProtocolVersion.{RtrProtocolVersion}
+use Rattle.rtr_codec.specs.Reading.{crate}
+use Rattle.rtr_stream.specs.Stream.{judge}
+use Rattle.rtr_stream.specs.Search.{isStream, isWaits}
+use Rattle.rtr_room.specs.Room.{records, isRoom}
+use Rattle.rtr_receiver.specs.History.{tableOf, finished}
+use Rattle.rtr_receiver.specs.Receiver.{feed}
+use Rattle.rtr_receiver.specs.Promises.{FeedSays, stageOf, inOrder, isReceiver, receiverOf, leaves, fedTo, feedSays, fedSaid}
+use Rattle.rtr_receiver.specs.Runs.{Memory, Call, Step, Run, liveIn, historyOf}
+use Rattle.rtr_receiver.specs.declared.Session.{Session}
+use Rattle.rtr_receiver.specs.declared.Fed.{Fed}
+use Rattle.rtr_receiver.specs.declared.FeedAnswer.{FeedAnswer}
+use Rattle.rtr_receiver.proofs.Laws.{refused-keeps-feed}
+use Rattle.rtr_receiver.proofs.Runs.{history}
+use Rattle.rtr_receiver.proofs.Unique.{feed-unique}
+use Rattle.rtr_held.specs.Times.{FedTimes}
+
+-- ---- A run goes on with the feeds
+
+replicate-snoc : (n : ℕ) (x : Call) → replicate n x ++ x ∷ [] ≡ replicate (suc n) x
+replicate-snoc zero x = refl
+replicate-snoc (suc n) x = ap (λ (xs : List Call). x ∷ xs) (replicate-snoc n x)
+
+pub times-run : (limit H : ℕ) (v : RtrProtocolVersion) (calls : List Call) (m : Memory) (piece : List ℕ) (n : ℕ) (z : Memory) → Run limit v H calls m → FedTimes limit piece m n z → Run limit v H (calls ++ replicate n (Call.feed piece)) z
+times-run limit H v calls m piece zero z run FedTimes.none = subst (λ (cs : List Call). Run limit v H cs m) (sym (append-nil calls)) run
+times-run limit H v calls m piece (suc n) z run (FedTimes.more {m = y} fed step) =
+    subst (λ (cs : List Call). Run limit v H cs z) (append-assoc calls (replicate n (Call.feed piece)) (Call.feed piece ∷ []) ∙ ap (λ (cs : List Call). calls ++ cs) (replicate-snoc n (Call.feed piece)))
+    (Run.next (times-run limit H v calls m piece n y run fed) step)
+
+pub times-table : (limit H : ℕ) (v : RtrProtocolVersion) (calls : List Call) (m : Memory) (piece : List ℕ) (n : ℕ) (z : Memory) → Run limit v H calls m → FedTimes limit piece m n z
+    → liveIn z ≡ tableOf limit (finished limit H v (historyOf (calls ++ replicate n (Call.feed piece))))
+times-table limit H v calls m piece n z run fed = history limit H v (calls ++ replicate n (Call.feed piece)) z (times-run limit H v calls m piece n z run fed)
+
+-- ---- What is fixed
+
+abbrev ref : {X : Type 0} → X → RefT X
+ref x = record { ptr = (0, 0); name = 0; now = x }
+
+-- rtr_receiver's `feed-unique`, of plain values
+one-feed : (s : Session) (live working hold piece : List ℕ) (r r′ : Fed) (live1 working1 hold1 live2 working2 hold2 : List ℕ) → fedSaid r live1 working1 hold1 ≡ feedSays 1024 s live working hold piece → fedSaid r′ live2 working2 hold2 ≡ feedSays 1024 s live working hold piece
+    → (r ≡ r′) × (live1 ≡ live2) × (working1 ≡ working2) × (take (r .session .held) hold1 ≡ take (r′ .session .held) hold2)
+one-feed s live working hold piece r r′ live1 working1 hold1 live2 working2 hold2 p q =
+    feed-unique ([], ([], ([], ([], tt)))) (s, (ref live, (ref working, (ref hold, (ref piece, tt))))) r r′ (s, (ref live1, (ref working1, (ref hold1, (ref piece, tt))))) (s, (ref live2, (ref working2, (ref hold2, (ref piece, tt))))) p q
+
+-- two holds of one length, with the same bytes held
+module _ (s : Session) (live working hold hold′ : List ℕ) (size : length hold ≡ length hold′) (same : take (s .held) hold ≡ take (s .held) hold′) where
+  shape-alike : isReceiver 1024 s live working hold ≡ isReceiver 1024 s live working hold′
+  unfolding isReceiver isStream
+  shape-alike = λ i. isRoom 1024 (s .live) live && (isRoom 1024 (s .working) working && ((leb 8 (size i) && (leb (s .held) (size i) && isWaits (judge crate (size i) (same i)))) && inOrder s))
+
+  says-alike : (piece : List ℕ) → isReceiver 1024 s live working hold ≡ true → feedSays 1024 s live working hold piece ≡ feedSays 1024 s live working hold′ piece
+  unfolding feedSays
+  says-alike piece e =
+      ap (λ (b : Bool). cond b (fedTo 1024 (feed 1024 (length hold) (receiverOf s live working hold) piece)) (FeedSays.refusedFeed 22 0 0 (leaves s live working hold) hold)) e
+      ∙ (λ i. fedTo 1024 (feed 1024 (size i) (record { version = s .version; stage = stageOf (s .phase); table = s .table; note = s .note; live = records (s .live) live; working = records (s .working) working; held = same i }) piece))
+      ∙ sym (ap (λ (b : Bool). cond b (fedTo 1024 (feed 1024 (length hold′) (receiverOf s live working hold′) piece)) (FeedSays.refusedFeed 22 0 0 (leaves s live working hold′) hold′)) (sym shape-alike ∙ e))
+
+  -- a refused feed
+  abbrev still : Fed
+  still = record { session = s; done = record { taken = 0; updates = 0; answer = FeedAnswer.NotAReceiver } }
+
+  fed-alike : (piece : List ℕ) (r r′ : Fed) (live1 working1 hold1 live2 working2 hold2 : List ℕ) → fedSaid r live1 working1 hold1 ≡ feedSays 1024 s live working hold piece → fedSaid r′ live2 working2 hold2 ≡ feedSays 1024 s live working hold′ piece
+      → (r .session ≡ r′ .session) × (live1 ≡ live2) × (working1 ≡ working2) × (take (r .session .held) hold1 ≡ take (r′ .session .held) hold2)
+  fed-alike piece r r′ live1 working1 hold1 live2 working2 hold2 p q = by-shape (isReceiver 1024 s live working hold) refl
+    where
+      by-shape : (b : Bool) → isReceiver 1024 s live working hold ≡ b → (r .session ≡ r′ .session) × (live1 ≡ live2) × (working1 ≡ working2) × (take (r .session .held) hold1 ≡ take (r′ .session .held) hold2)
+      by-shape true e =
+          let one = one-feed s live working hold piece r r′ live1 working1 hold1 live2 working2 hold2 p (q ∙ sym (says-alike piece e)) in
+          (ap (λ (f : Fed). f .session) (one .0), one .1, one .2, one .3)
+      by-shape false e =
+          let one = one-feed s live working hold piece r still live1 working1 hold1 live working hold p (sym (refused-keeps-feed 1024 s live working hold piece e)) in
+          let other = one-feed s live working hold′ piece r′ still live2 working2 hold2 live working hold′ q (sym (refused-keeps-feed 1024 s live working hold′ piece (sym shape-alike ∙ e))) in
+          (ap (λ (f : Fed). f .session) (one .0 ∙ sym (other .0)), one .1 ∙ sym (other .1), one .2 ∙ sym (other .2), one .3 ∙ same ∙ sym (other .3))
+
+-- the same record and rooms, the same bytes held, and holds of one length
+pub record Alike (m m′ : Memory) : Type 0 where
+  pub session : m .session ≡ m′ .session
+  pub live : m .live ≡ m′ .live
+  pub working : m .working ≡ m′ .working
+  pub held : take (m .session .held) (m .hold) ≡ take (m′ .session .held) (m′ .hold)
+  pub size : length (m .hold) ≡ length (m′ .hold)
+
+pub step-alike : (piece : List ℕ) (m m′ z z′ : Memory) → Alike m m′ → Step 1024 m (Call.feed piece) z → Step 1024 m′ (Call.feed piece) z′ → Alike z z′
+step-alike piece m m′ z z′ a (Step.fed s done live working hold size e) (Step.fed s′ done′ live′ working′ hold′ size′ e′) =
+    let one = fed-alike (m .session) (m .live) (m .working) (m .hold) (m′ .hold) (a .size) (a .held ∙ ap (λ (t : Session). take (t .held) (m′ .hold)) (sym (a .session))) piece (record { session = s; done = done }) (record { session = s′; done = done′ })
+    live working hold live′ working′ hold′ e (e′ ∙ (λ i. feedSays 1024 (sym (a .session) i) (sym (a .live) i) (sym (a .working) i) (m′ .hold) piece)) in
+    record { session = one .0; live = one .1; working = one .2; held = one .3; size = size ∙ a .size ∙ sym size′ }
+
+pub times-alike : (piece : List ℕ) (m m′ : Memory) (n : ℕ) (z z′ : Memory) → Alike m m′ → FedTimes 1024 piece m n z → FedTimes 1024 piece m′ n z′ → Alike z z′
+times-alike piece m m′ zero z z′ a FedTimes.none FedTimes.none = a
+times-alike piece m m′ (suc n) z z′ a (FedTimes.more {m = y} fed step) (FedTimes.more {m = y′} fed′ step′) = step-alike piece y y′ z z′ (times-alike piece m m′ n y y′ a fed fed′) step step′
+
+pub times-unique : (piece : List ℕ) (m : Memory) (n : ℕ) (z z′ : Memory) → FedTimes 1024 piece m n z → FedTimes 1024 piece m n z′ → Alike z z′
+times-unique piece m n z z′ fed fed′ = times-alike piece m m n z z′ (record { session = refl; live = refl; working = refl; held = refl; size = refl }) fed fed′
