@@ -124,10 +124,14 @@ int main(int count, char **words)
         expect(hingemoss_reconnect(SESSION, LIVE, WORKING, HOLD) == HINGEMOSS_OK, "a new connection");
         random += sizeof noise;
         took += taken;
+        if (turn == 1024) /* an emulator has seen every way by now */
+            before = resident();
     }
     stood(random, took, stops, before);
 
     for (stops = random = 0; random < most_stopping;) {
+        if (random < 2 * sizeof noise)
+            before = resident();
         make_noise();
         for (size_t at = 0; at < sizeof noise;) {
             uint64_t taken, finished;
