@@ -1,6 +1,7 @@
 -- What `FedTimes` (specs/Times.antt) comes to: the feeds are part of a run, so the live table is what the history's updates make (`times-run`, `times-table`); and they fix one session record, one content of both rooms and one of the hold up to the held count
--- (`times-unique`). A feed reads the hold up to the held count, and its length: memories that are alike up to there (`Alike`) lead to such memories. Assumes nothing.
-use Prim.Native.Nat.{ℕ, zero, suc}
+-- (`times-unique`). They keep receiver shape (`times-shape`), and so many and so many more are as many together (`times-join`). A feed reads the hold up to the held count, and its length: memories that are alike up to there (`Alike`) lead to such memories. Assumes nothing.
+use Prim.Native.Nat.{ℕ, zero, suc, _+_}
+use native.Mathlib.Nat.{add-zero, add-suc}
 use mathlib.Core.Bool.{Bool, true, false, cond, _&&_}
 use mathlib.Core.List.{List, [], _∷_, _++_, append-assoc, append-nil}
 use mathlib.Core.Path.{_≡_, refl, sym, ap, _∙_, subst}
@@ -19,7 +20,7 @@ use Rattle.rtr_receiver.specs.Runs.{Memory, Call, Step, Run, liveIn, historyOf}
 use Rattle.rtr_receiver.specs.declared.Session.{Session}
 use Rattle.rtr_receiver.specs.declared.Fed.{Fed}
 use Rattle.rtr_receiver.specs.declared.FeedAnswer.{FeedAnswer}
-use Rattle.rtr_receiver.proofs.Laws.{refused-keeps-feed}
+use Rattle.rtr_receiver.proofs.Laws.{refused-keeps-feed, keeps-shape}
 use Rattle.rtr_receiver.proofs.Runs.{history}
 use Rattle.rtr_receiver.proofs.Unique.{feed-unique}
 use Rattle.rtr_held.specs.Times.{FedTimes}
@@ -39,6 +40,16 @@ times-run limit H v calls m piece (suc n) z run (FedTimes.more {m = y} fed step)
 pub times-table : (limit H : ℕ) (v : RtrProtocolVersion) (calls : List Call) (m : Memory) (piece : List ℕ) (n : ℕ) (z : Memory) → Run limit v H calls m → FedTimes limit piece m n z
     → liveIn z ≡ tableOf limit (finished limit H v (historyOf (calls ++ replicate n (Call.feed piece))))
 times-table limit H v calls m piece n z run fed = history limit H v (calls ++ replicate n (Call.feed piece)) z (times-run limit H v calls m piece n z run fed)
+
+-- ---- Receiver shape is kept, and feeds follow feeds
+
+pub times-shape : (limit : ℕ) (piece : List ℕ) (m : Memory) (n : ℕ) (z : Memory) → isReceiver limit (m .session) (m .live) (m .working) (m .hold) ≡ true → FedTimes limit piece m n z → isReceiver limit (z .session) (z .live) (z .working) (z .hold) ≡ true
+times-shape limit piece m zero z e FedTimes.none = e
+times-shape limit piece m (suc n) z e (FedTimes.more {m = y} fed step) = keeps-shape limit (Call.feed piece) y z (times-shape limit piece m n y e fed) step
+
+pub times-join : (limit : ℕ) (piece : List ℕ) (m y z : Memory) (n k : ℕ) → FedTimes limit piece m n y → FedTimes limit piece y k z → FedTimes limit piece m (n + k) z
+times-join limit piece m y z n zero first FedTimes.none = subst (λ (j : ℕ). FedTimes limit piece m j y) (sym (add-zero n)) first
+times-join limit piece m y z n (suc k) first (FedTimes.more {m = x} fed step) = subst (λ (j : ℕ). FedTimes limit piece m j z) (sym (add-suc n k)) (FedTimes.more (times-join limit piece m y x n k first fed) step)
 
 -- ---- What is fixed
 
