@@ -1,8 +1,8 @@
 // A long-running host, played: its session record is lent to every call, and the whole record is noted after each call, with what the call answered.
-// Then the same bytes go to a second receiver whose record is handed on by value, and each call is compared with the note, number by number. Two
-// loads of 1,000 prefixes, a Serial Notify and a change that withdraws half of them, in pieces of 7; 5,000 feeds of one piece over a record that is
-// lent once for all of them; then a stop that repeats, an ask that is refused, memory that is no receiver's, and a new connection. At the end both
-// rooms are compared, and captured bytes are read through a run and by place, side by side.
+// Then the same bytes go to a second receiver whose record is handed on by value, and each call is compared with the note, number by number. First
+// 5,000 feeds of one piece over a record that is lent once for all of them; then two loads of 1,000 prefixes, a Serial Notify and a change that
+// withdraws half of them, in pieces of 7; then a stop that repeats, an ask that is refused, memory that is no receiver's, and a new connection. At
+// the end both rooms are compared, and captured bytes are read through a run and by place, side by side.
 use libc::STDOUT_FILENO;
 use rtr_answers::put;
 use rtr_codec::ReadAnswer;
@@ -667,76 +667,6 @@ fn started(answer: StartAnswer) -> Session {
     }
 }
 
-// Three Serial Notifies that begin with a notify's last seven bytes and end with its first five: no piece ends where a PDU does.
-fn turned() -> [u8; 36] {
-    [
-        0,
-        0,
-        12,
-        0,
-        0,
-        0,
-        8,
-        1,
-        0,
-        0,
-        7,
-        0,
-        0,
-        0,
-        12,
-        0,
-        0,
-        0,
-        9,
-        1,
-        0,
-        0,
-        7,
-        0,
-        0,
-        0,
-        12,
-        0,
-        0,
-        0,
-        10,
-        1,
-        0,
-        0,
-        7,
-        0,
-    ]
-}
-
-fn again(
-    lent: bool,
-    r: Seen,
-    live: &mut [u32],
-    working: &mut [u32],
-    hold: &mut [u8],
-    log: &mut [u64],
-) -> Seen {
-    let piece = turned();
-    let s = r.session;
-    let s = times_as(lent, s, live, working, hold, &piece);
-    noted(lent, r, plain(s, 0), log)
-}
-
-// A notify's first five bytes, and then the one piece.
-fn notified_again(
-    lent: bool,
-    r: Seen,
-    live: &mut [u32],
-    working: &mut [u32],
-    hold: &mut [u8],
-    log: &mut [u64],
-) -> Seen {
-    let first = [1u8, 0, 0, 7, 0];
-    let r = step(lent, r, live, working, hold, log, &first);
-    again(lent, r, live, working, hold, log)
-}
-
 // A PDU of no type: a stop.
 fn stopped(
     lent: bool,
@@ -826,18 +756,6 @@ fn all_loaded(
     changed(lent, r, live, working, hold, log)
 }
 
-fn all_heard(
-    lent: bool,
-    r: Seen,
-    live: &mut [u32],
-    working: &mut [u32],
-    hold: &mut [u8],
-    log: &mut [u64],
-) -> Seen {
-    let r = all_loaded(lent, r, live, working, hold, log);
-    notified_again(lent, r, live, working, hold, log)
-}
-
 fn all_played(
     lent: bool,
     r: Seen,
@@ -846,8 +764,61 @@ fn all_played(
     hold: &mut [u8],
     log: &mut [u64],
 ) -> Seen {
-    let r = all_heard(lent, r, live, working, hold, log);
+    let r = all_loaded(lent, r, live, working, hold, log);
     opened_again(lent, r, live, working, hold, log)
+}
+
+// The same four bytes again and again: three times they are a Serial Notify (version and type 0; session, length and serial 12), so that two pieces of
+// three end within a PDU, and what is held tells how often they were fed.
+fn repeated(
+    lent: bool,
+    r: Seen,
+    live: &mut [u32],
+    working: &mut [u32],
+    hold: &mut [u8],
+    log: &mut [u64],
+) -> Seen {
+    let piece = [0u8, 0, 0, 12];
+    let s = r.session;
+    let s = times_as(lent, s, live, working, hold, &piece);
+    noted(lent, r, plain(s, 0), log)
+}
+
+// To a new receiver of version 0.
+fn again(
+    lent: bool,
+    live: &mut [u32],
+    working: &mut [u32],
+    hold: &mut [u8],
+    log: &mut [u64],
+) -> Seen {
+    let session = started(start(RtrProtocolVersion::V0, live, working, hold));
+    let r = Seen {
+        session,
+        calls: 0,
+        updates: 0,
+        same: 0,
+    };
+    repeated(lent, r, live, working, hold, log)
+}
+
+// Then the play, from a new start.
+fn played_on(
+    lent: bool,
+    r: Seen,
+    live: &mut [u32],
+    working: &mut [u32],
+    hold: &mut [u8],
+    log: &mut [u64],
+) -> Seen {
+    let session = started(start(RtrProtocolVersion::V1, live, working, hold));
+    let r = Seen {
+        session,
+        calls: r.calls,
+        updates: r.updates,
+        same: r.same,
+    };
+    all_played(lent, r, live, working, hold, log)
 }
 
 fn played(
@@ -857,14 +828,8 @@ fn played(
     hold: &mut [u8],
     log: &mut [u64],
 ) -> Seen {
-    let session = started(start(RtrProtocolVersion::V1, live, working, hold));
-    let r = Seen {
-        session,
-        calls: 0,
-        updates: 0,
-        same: 0,
-    };
-    all_played(lent, r, live, working, hold, log)
+    let r = again(lent, live, working, hold, log);
+    played_on(lent, r, live, working, hold, log)
 }
 
 fn is_same_room(a: &[u32], b: &[u32]) -> bool {
@@ -972,13 +937,14 @@ fn put_verdict(out: &mut [u8], at: usize, same: bool) -> usize {
     put::put_text(out, at, b" same: no\n")
 }
 
-fn show(a: Seen, b: Seen, rooms: bool, pdus: u64) {
+fn show(a: Seen, b: Seen, rooms: bool, held: u64, pdus: u64) {
     let mut out = [0u8; 160];
     let s = b.session;
     let at = put::put_field(&mut out, 0, b"calls=", b.calls as u64);
     let at = put::put_field(&mut out, at, b" updates=", b.updates);
     let at = put::put_field(&mut out, at, b" records=", s.live as u64);
     let at = put::put_field(&mut out, at, b" times=", TIMES as u64);
+    let at = put::put_field(&mut out, at, b" held=", held);
     let at = put::put_field(&mut out, at, b" pdus=", pdus);
     let same = rooms && a.calls == b.calls && b.same == b.calls as u64 && a.updates == b.updates;
     let at = put_verdict(&mut out, at, same);
@@ -1044,5 +1010,6 @@ fn main() {
         0,
         0,
     ];
-    show(a, b, rooms, all_in_a_row(&bytes));
+    // what was held after the 5,000 feeds: the last number of the first note's session
+    show(a, b, rooms, log[17], all_in_a_row(&bytes));
 }
