@@ -2,7 +2,7 @@
  * needs memset alone.
  *
  * Every call takes every input and answers; nothing is allocated, and nothing is kept between calls but the memory that you lend. A call's answer is 0 or a refusal's number (below); where several
- * would fit, the first in the order that the call names is given. A refused call changes nothing, but for the numbers that it answers with (written, taken, updates, level, end, value, compared), which are
+ * would fit, the first in the order that the call names is given. What is proved of calls one after another (the table is that of the last finished update, however the bytes were cut) is `c-history` of crates/rtr_c. A refused call changes nothing, but for the numbers that it answers with (written, taken, updates, level, end, value, compared), which are
  * then 0 unless the call says otherwise. A stop is no such refusal: it is the receiver's new state.
  *
  * What you owe: a slice is a pointer and a length in elements, one behind the other, and so many elements are there, readable, set to something, and writable where there is no const. A pointer is never NULL (not

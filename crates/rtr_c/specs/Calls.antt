@@ -1,4 +1,4 @@
--- What each call from C answers and leaves, through the crates below: a session is its 18 numbers and a PDU its 12 (rtr_numbers), rooms are
+-- What each call from C answers and leaves, through the crates below: a session is its 18 numbers (rtr_numbers) and a PDU its 12 (rtr_pdu_numbers), rooms are
 -- of 1,024 records. Numbers that are no session's and no PDU's are refused by 22.
 use Prim.Native.Nat.{ℕ}
 use mathlib.Core.Bool.{Bool, true, false, cond}
@@ -27,7 +27,7 @@ use Rattle.rtr_pdu_numbers.specs.Back.{pduOf}
 use Rattle.rtr_numbers.specs.declared.SessionFound.{SessionFound}
 use Rattle.rtr_pdu_numbers.specs.declared.PduFound.{PduFound}
 
--- ---- whether numbers are a session's; those that are none are refused by 22 in every call
+-- ---- whether numbers are a session's; those that are none are refused by 22 in every call but start, which writes them
 abbrev pub isKnown : SessionFound → Bool
 isKnown (SessionFound.Known s) = true
 isKnown SessionFound.Unknown = false

@@ -1,5 +1,7 @@
 -- A C host's run: calls one after another from a start that answered 0, over what the host lends, each as its contract in src/lib.rt promises. proofs/Coded.antt: the
--- library's calls are these steps. proofs/Runs.antt: such a run is a run of the receiver, so demand 3 holds of it.
+-- library's calls are these steps. proofs/Runs.antt: such a run is a run of the receiver, so demand 3 holds of it. Between two calls the host writes nothing of the four memories, the hold's spare
+-- bytes included. Read, encode, walk, notify and listing may stand anywhere in between: they are lent the session, the rooms and the hold to read only, or not at all. A start that is refused leaves them
+-- (`refused-keeps-start`), and one that answers 0 begins a new run.
 use Prim.Native.Nat.{ℕ}
 use mathlib.Core.List.{List, [], _∷_, _++_}
 use mathlib.Core.Path.{_≡_}
@@ -33,7 +35,8 @@ memoryOf c s = record { session = s; live = c .live; working = c .working; hold 
 
 -- ---- What the contracts say of a call between two memories
 
--- the numbers are a session's again, and the receiver's own call leads from the one memory to the other
+-- the numbers are a session's again, and the receiver's own call leads from the one memory to the other. Beside what the call's first promise fixes (specs/Calls.antt) this says that the numbers read back, as which
+-- session, and that the hold keeps its length; demand 3 goes by it alone.
 pub record Led (c : CMemory) (s : Session) (call : Call) (c′ : CMemory) : Type 0 where
   pub known : Session
   pub known-is : sessionOf (c′ .session) ≡ SessionFound.Known known

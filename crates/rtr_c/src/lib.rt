@@ -243,8 +243,8 @@ pub extern "C" fn hingemoss_walk(
     }
 }
 
-// ---- Receiver. By its first promise a call's answer and all that it leaves are known; by its second the session's numbers are a session's after the call exactly where
-// they were before it (a start that answers 0 leaves a session's); by its third it is the receiver's own call between the two memories (specs/Runs.antt).
+// ---- Receiver. By its first promise a call's answer and all that it leaves are known. Those that write a session have two more: by the second the session's numbers are a session's after the call exactly where
+// they were before it (a start that answers 0 leaves a session's); by the third it is the receiver's own call between the two memories (specs/Runs.antt).
 
 // A fresh receiver.
 #[no_mangle]

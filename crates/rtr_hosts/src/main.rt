@@ -769,7 +769,7 @@ fn all_played(
 }
 
 // The same four bytes again and again: three times they are a Serial Notify (version and type 0; session, length and serial 12), so that two pieces of
-// three end within a PDU, and what is held tells how often they were fed.
+// three end within a PDU, and what is held tells how often they were fed, modulo three.
 fn repeated(
     lent: bool,
     r: Seen,
@@ -921,10 +921,14 @@ fn in_a_row(bytes: &[u8]) -> u64 {
     count
 }
 
+fn is_same_past(bytes: &[u8]) -> bool {
+    is_same_read(bytes, 18446744073709551615) && is_same_rest(bytes, 18446744073709551615)
+}
+
 // The same at the end and past it.
 fn all_in_a_row(bytes: &[u8]) -> u64 {
     let n = bytes.len();
-    if is_same_read(bytes, n) && is_same_rest(bytes, n) {
+    if is_same_read(bytes, n) && is_same_rest(bytes, n) && is_same_past(bytes) {
         return in_a_row(bytes);
     }
     0
