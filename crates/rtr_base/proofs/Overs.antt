@@ -1,6 +1,6 @@
 -- Stores one behind the other are one store of all their elements: `over-over`. From there a run of stores from the front is
 -- `over out 0 elements`, which is the elements and then what stood behind them. Assumes nothing.
-use Prim.Native.Nat.{ℕ, _+_, _≤_, _<_}
+use Prim.Native.Nat.{ℕ, _+_, _-_, _≤_, _<_}
 use mathlib.Core.List.{List, [], _∷_, _++_, append-assoc, append-nil}
 use mathlib.Core.Path.{_≡_, refl, sym, ap, _∙_}
 use native.Mathlib.Nat.{add-assoc, add-zero, zero-add}
@@ -93,3 +93,22 @@ over-before l at k a b h e =
     ∙ sym (append-assoc (take at l ++ a) b (drop (k + length b) l))
     ∙ ap (λ (x : List ℕ). x ++ drop (k + length b) l) (append-assoc (take at l) a b)
     ∙ ap (λ (n : ℕ). take at l ++ (a ++ b) ++ drop n l) far
+
+-- a store is gone under another that starts with it and is no shorter
+pub over-same : (l : List ℕ) (at : ℕ) (a b : List ℕ) → at ≤ length l → length a ≤ length b → over (over l at a) at b ≡ over l at b
+unfolding over
+over-same l at a b h s =
+    let head : List ℕ = take at l ++ a in
+    let rest : List ℕ = drop (at + length a) l in
+    let long : length head ≡ at + length a = length-append (take at l) a ∙ ap (λ (n : ℕ). n + length a) (length-take-le at l h) in
+    let first : take at (head ++ rest) ≡ take at l = take-append-le at head rest (omega arith) ∙ take-at (take at l) a at (length-take-le at l h) in
+    let k : ℕ = length b - length a in
+    let far : at + length b ≡ length head + k = omega arith in
+    let back : at + length a + k ≡ at + length b = omega arith in
+    let last : drop (at + length b) (head ++ rest) ≡ drop (at + length b) l =
+    ap (λ (n : ℕ). drop n (head ++ rest)) far
+    ∙ drop-append-add head rest k
+    ∙ drop-drop k (at + length a) l
+    ∙ ap (λ (n : ℕ). drop n l) back in
+    ap (λ (x : List ℕ). x ++ b ++ drop (at + length b) (head ++ rest)) first
+    ∙ ap (λ (x : List ℕ). take at l ++ b ++ x) last

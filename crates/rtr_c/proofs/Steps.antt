@@ -1,8 +1,8 @@
 -- From what a crate below promises to what the call from C promises: the numbers are read, the call is made, the session is written back.
 -- Assumes nothing.
 use Prim.Native.Nat.{ℕ}
-use mathlib.Core.Bool.{Bool, true, false, cond}
-use mathlib.Core.List.{List, [], _∷_}
+use mathlib.Core.Bool.{Bool, true, cond}
+use mathlib.Core.List.{List}
 use mathlib.Core.Path.{_≡_, refl, sym, ap, _∙_}
 use native.Mathlib.Omega.{arith}
 use borrow.Author.Tests.{eq-eqb}
@@ -23,11 +23,11 @@ use Rattle.rtr_encode.specs.Answers as encoding
 use Rattle.rtr_encode.specs.declared.EncodeAnswer.{EncodeAnswer}
 use Rattle.rtr_listing.specs.Promises as listing
 use Rattle.rtr_listing.specs.declared.ListAnswer.{ListAnswer}
-use Rattle.rtr_walk.specs.Walk.{End, WalkVerdict, endSaid, refusedWalk, walkSaid, walk}
+use Rattle.rtr_walk.specs.Walk.{endSaid, refusedWalk, walkSaid, walk}
 use Rattle.rtr_walk.specs.declared.WalkEnd.{WalkEnd}
 use Rattle.rtr_walk.specs.declared.WalkAnswer.{WalkAnswer}
 use Rattle.rtr_stream.specs.declared.StreamError.{StreamError}
-use Rattle.rtr_receiver.specs.Promises.{AskSays, FeedSays, StartSays, ReconnectSays, NotifySays, leaves, stopSaid, feedSays, fedSaidBy, fedSaid, startSays, startSaid, askWriting, askSaid, fullAskSays, changeAskSays, reconnectNumber, reconnectSays, reconnectSaid, notifySays, notifySaid}
+use Rattle.rtr_receiver.specs.Promises.{AskSays, StartSays, leaves, feedSays, fedSaidBy, fedSaid, startSays, startSaid, askWriting, askSaid, fullAskSays, changeAskSays, reconnectNumber, reconnectSays, reconnectSaid, notifySays, notifySaid}
 use Rattle.rtr_receiver.specs.Runs.{Call, Step, Run}
 use Rattle.rtr_receiver.specs.declared.LoadKind.{LoadKind}
 use Rattle.rtr_receiver.specs.declared.Stop.{Stop}
@@ -45,7 +45,7 @@ use Rattle.rtr_pdu_numbers.specs.Back.{pduOf}
 use Rattle.rtr_numbers.specs.declared.SessionFound.{SessionFound}
 use Rattle.rtr_pdu_numbers.specs.declared.PduFound.{PduFound}
 use Rattle.rtr_numbers.proofs.Laws.{session-held, session-of-length}
-use Rattle.rtr_c.specs.Calls.{isKnown, isSession, amountOf, endNumber, endValue, heldOf, feedNumber, notifyNumber, notifyCompared, readGives, readLeft, readC, encodeGives, encodeLeft, encodeFound, encodeC, listingFound, listingC, walkGives, walkLeft, walkC, startGives, startLeft, startFound, startC, askGives, askLeft, askFound, FeedLeft, feedGives, feedLeft, feedFound, feedC, reconnectGives, reconnectLeft, reconnectFound, reconnectC, notifyGives, notifyLeft, notifyFound, notifyC}
+use Rattle.rtr_c.specs.Calls.{isKnown, isSession, amountOf, endNumber, endValue, feedNumber, notifyNumber, notifyCompared, readGives, readLeft, readC, encodeGives, encodeLeft, encodeFound, encodeC, listingFound, listingC, walkGives, walkLeft, walkC, startGives, startLeft, startFound, startC, askGives, askLeft, askFound, FeedLeft, feedGives, feedLeft, feedFound, feedC, reconnectGives, reconnectLeft, reconnectFound, reconnectC, notifyGives, notifyLeft, notifyFound, notifyC}
 use Rattle.rtr_c.specs.Runs.{CMemory, memory, LeadsOn, Begins}
 
 -- numbers of the right length are set

@@ -1,6 +1,5 @@
 -- What each call promises leaves one answer and one content of what is lent to be written; of the hold, up to the held count, or all of it on 22.
 -- `Post` is the contract as Rattle reads it off the source. Assumes nothing.
-use Prim.Native.Nat.{ℕ}
 use mathlib.Core.Path.{_≡_, sym, ap, _∙_}
 use denote.Ref.{now}
 use Rattle.rtr_base.proofs.Unique.{only-this}

@@ -6,7 +6,6 @@ use mathlib.Core.List.{List}
 use lib.Dec.{eqb}
 use lib.ListN.{length, getD, take}
 use Rattle.rtr_models.specs.Codes.{typeNumber, versionFound}
-use Rattle.rtr_models.specs.declared.RtrProtocolVersion.{RtrProtocolVersion}
 use Rattle.rtr_models.specs.declared.VersionFound.{VersionFound}
 use Rattle.rtr_codec.specs.Reading.{crate}
 use Rattle.rtr_codec.specs.Read.{Verdict, read}

@@ -1,8 +1,9 @@
--- `Laws`, `Rules`, `RunLaws`, `Unique` and `Samples` are for readers and other crates; the others are the argument.
+-- `Laws`, `Exactly`, `Rules`, `RunLaws`, `Unique` and `Samples` are for readers and other crates; the others are the argument.
 pub mod Laws
 pub mod RunLaws
 pub mod Unique
 pub mod Samples
+pub mod Exactly
 pub mod Rules
 mod Whole
 mod Behind

@@ -12,7 +12,7 @@ use Rattle.rtr_models.specs.declared.RtrPduType.{RtrPduType}
 use Rattle.rtr_models.specs.declared.RtrPduType.the-variants.{IPv4Prefix, IPv6Prefix}
 use Rattle.rtr_models.specs.declared.TypeFound.{TypeFound}
 use Rattle.rtr_codec.specs.Reading.{Reading}
-use Rattle.rtr_codec.specs.Read.{headerLength, readIPv4Prefix, readIPv6Prefix, readAs, readTyped, readVersioned, read}
+use Rattle.rtr_codec.specs.Read.{readIPv4Prefix, readIPv6Prefix, readAs, readTyped, readVersioned, read}
 use Rattle.rtr_codec.specs.Plain.{PlainPrefix}
 
 -- a test that failed says nothing

@@ -1,6 +1,7 @@
 -- What people must believe of this crate. Read first: Read (what reading is), with Layout (the pictures of the RFCs) and Reading (where
--- the crate departs from them).
+-- the crate departs from them). Stands says the same of the PDU, byte by byte.
 pub mod Read
+pub mod Stands
 pub mod Reading
 pub mod Departures
 pub mod Layout

@@ -1,5 +1,5 @@
-// Reading one PDU from any bytes, in the order of the Rust's src/parser/rpki/rtr.rs: parse_rtr_pdu takes every slice, tests in document
-// 01's order, and copies nothing: payloads are handed over by place. The promise is an equation with `read` of specs/, at the crate's
+// Reading one PDU from any bytes, in the order of the Rust's src/parser/rpki/rtr.rs: parse_rtr_pdu takes every slice, answers as
+// document 01's order of checks asks, and copies nothing: payloads are handed over by place. The promise is an equation with `read` of specs/, at the crate's
 // reading; no contract can say how long it takes.
 use rtr_models::*;
 ghost use mathlib.Core.Bool.{true};

@@ -5,10 +5,10 @@ use mathlib.Core.List.{List, [], _∷_, _++_}
 use mathlib.Core.Path.{_≡_, refl, sym, ap, _∙_}
 use native.Mathlib.Nat.{add-zero}
 use native.Mathlib.Omega.{arith}
-use lib.ListN.{length, getD, take, drop, length-append, length-take, length-drop, take-append-drop}
-use lib.Seq.{getD-drop, length-take-le, take-add, take-all, take-at, take-append-le, drop-append-add, drop-drop}
+use lib.ListN.{length, getD, take, drop, length-take, length-drop, take-append-drop}
+use lib.Seq.{getD-drop, length-take-le, take-add, take-all, drop-drop}
 use Rattle.rtr_base.specs.Over.{over}
-use Rattle.rtr_base.proofs.Overs.{length-over, over-over, behind}
+use Rattle.rtr_base.proofs.Overs.{length-over, over-over, over-same, behind}
 
 -- four elements one behind the other
 first-four : (l : List ℕ) → 4 ≤ length l → getD l 0 0 ∷ getD l 1 0 ∷ getD l 2 0 ∷ getD l 3 0 ∷ [] ≡ take 4 l
@@ -37,25 +37,6 @@ pub more-from : (o cur out l b : List ℕ) (at i m w : ℕ) → at ≤ length o 
     → out ≡ over cur (at + m) b → out ≡ over o at (take (m + w) (drop i l))
 more-from o cur out l b at i m w h f e g q =
     more o cur out (drop i l) at m w h (simp length-drop (omega arith)) e (stored-as cur out b _ (at + m) (g ∙ ap (take w) (sym (drop-drop m i l))) q)
-
--- a store is gone under another that starts with it and is no shorter
-over-same : (l : List ℕ) (at : ℕ) (a b : List ℕ) → at ≤ length l → length a ≤ length b → over (over l at a) at b ≡ over l at b
-unfolding over
-over-same l at a b h s =
-    let head : List ℕ = take at l ++ a in
-    let rest : List ℕ = drop (at + length a) l in
-    let long : length head ≡ at + length a = length-append (take at l) a ∙ ap (λ (n : ℕ). n + length a) (length-take-le at l h) in
-    let first : take at (head ++ rest) ≡ take at l = take-append-le at head rest (omega arith) ∙ take-at (take at l) a at (length-take-le at l h) in
-    let k : ℕ = length b - length a in
-    let far : at + length b ≡ length head + k = omega arith in
-    let back : at + length a + k ≡ at + length b = omega arith in
-    let last : drop (at + length b) (head ++ rest) ≡ drop (at + length b) l =
-    ap (λ (n : ℕ). drop n (head ++ rest)) far
-    ∙ drop-append-add head rest k
-    ∙ drop-drop k (at + length a) l
-    ∙ ap (λ (n : ℕ). drop n l) back in
-    ap (λ (x : List ℕ). x ++ b ++ drop (at + length b) (head ++ rest)) first
-    ∙ ap (λ (x : List ℕ). take at l ++ b ++ x) last
 
 -- the part's first m are in, and then its last w, from k on: all of it is in
 pub ends : (o cur out p : List ℕ) (at m k w : ℕ) → at + length p ≤ length o → k ≤ m → m ≤ length p → k + w ≡ length p

@@ -4,7 +4,6 @@ use Prim.Native.Nat.{ℕ, _+_, _≤_, _<_}
 use mathlib.Core.Bool.{Bool, true, false, _&&_}
 use mathlib.Core.List.{List, [], _∷_, _++_}
 use mathlib.Core.Path.{_≡_, refl, sym, ap, _∙_}
-use native.Mathlib.Nat.{zero-add}
 use native.Mathlib.Omega.{arith}
 use borrow.Author.Tests.{le-leb, lt-leb, eqb-true}
 use lib.Dec.{eqb}
@@ -20,6 +19,7 @@ use Rattle.rtr_models.specs.declared.RtrPdu.{RtrPdu}
 use Rattle.rtr_models.specs.declared.RtrPdu.the-variants.{RouterKey, ErrorReport}
 use Rattle.rtr_codec.specs.Reading.{Reading, crate}
 use Rattle.rtr_base.specs.Over.{over}
+use Rattle.rtr_base.proofs.Overs.{over-front}
 use Rattle.rtr_encode.specs.Encode.{bytesOf, at, placesInside, textIn, encodedLength, encoding, encodeSays, encode, keyBytes, reportBytes, lastChecks}
 use Rattle.rtr_encode.specs.Encode.Writing.{written, refused}
 use Rattle.rtr_encode.proofs.Payloads.{length-bytes, part-long}
@@ -32,9 +32,8 @@ module _ (n : ℕ) (bytes out : List ℕ) where
   no-room f h = simp (le-leb n 4294967295 f, lt-leb n (length out) h)
 
   pub all-in : (exit : List ℕ) → n ≤ 4294967295 → n ≤ length out → length bytes ≡ n → exit ≡ over out 0 bytes → record { says = written n; out = exit } ≡ lastChecks n bytes out
-  unfolding over
   all-in exit f h l q =
-      let e : exit ≡ bytes ++ drop n out = q ∙ ap (λ (k : ℕ). bytes ++ drop k out) (zero-add (length bytes) ∙ l) in
+      let e : exit ≡ bytes ++ drop n out = q ∙ over-front out bytes ∙ ap (λ (k : ℕ). bytes ++ drop k out) l in
       simp (le-leb n 4294967295 f, le-leb n (length out) h, e)
 
 pub key-length : (v : RtrProtocolVersion) (flags asn whole : ℕ) (identifier info : List ℕ) → length identifier ≡ 20 → length (keyBytes v flags identifier asn info whole) ≡ 34 + length info

@@ -1,20 +1,34 @@
 -- The laws that higher crates cite of encoding, over every `Reading`. Assumes nothing.
-use Prim.Native.Nat.{ℕ, zero, suc, _+_, _*_, _/_, _%_, _^_, _<_}
+use Prim.Native.Nat.{ℕ, zero, suc, _+_, _*_, _/_, _%_, _^_, _≤_, _<_}
 use mathlib.Core.Bool.{Bool, true, false, cond}
 use mathlib.Core.List.{List, [], _∷_, _++_, append-assoc}
 use mathlib.Core.Path.{_≡_, refl, ap, _∙_}
 use native.Mathlib.Nat.{pow-suc}
 use native.Mathlib.Omega.{arith}
+use borrow.Author.Tests.{le-leb}
 use lib.Dec.{leb}
 use lib.ListN.{length, getD, drop, length-append}
 use lib.Seq.{getD-at}
 use Rattle.rtr_codec.specs.Bytes.{number}
+use Rattle.rtr_codec.specs.Layout.{lengthOf}
 use Rattle.rtr_codec.proofs.Laws.{number-none, number-more}
+use Rattle.rtr_models.specs.Codes.{versionNumber, typeNumber}
+use Rattle.rtr_models.specs.Values.{typeOf, versionOf}
 use Rattle.rtr_models.specs.declared.RtrProtocolVersion.{RtrProtocolVersion}
 use Rattle.rtr_models.specs.declared.RtrPdu.{RtrPdu}
 use Rattle.rtr_codec.specs.Reading.{Reading}
-use Rattle.rtr_encode.specs.Encode.{Writing, bytesOf, unless, placesInside, textIn, encodedLength, encoding, encodeSays, encode, outAfter}
+use Rattle.rtr_encode.specs.Encode.{Writing, bytesOf, fieldBytes, layoutOf, valuesIn, behind, behindLength, unless, placesInside, textIn, encodedLength, encoding, encodeSays, encode, outAfter}
 use Rattle.rtr_encode.specs.Encode.Writing.{written, refused}
+
+-- how long an encoding is, and what it is: version, type, fixed fields, and what follows them
+pub encoded-length-is : (R : Reading) (pdu : RtrPdu) → encodedLength R pdu ≡ lengthOf (layoutOf R pdu) + behindLength pdu
+unfolding encodedLength
+encoded-length-is R pdu = refl
+
+pub encoding-is : (R : Reading) (pdu : RtrPdu) (s : List ℕ)
+    → encoding R pdu s ≡ versionNumber (versionOf pdu) ∷ typeNumber (typeOf pdu) ∷ (fieldBytes (layoutOf R pdu) (encodedLength R pdu) (valuesIn pdu) s ++ behind pdu s)
+unfolding encoding
+encoding-is R pdu s = refl
 
 -- a refusal writes nothing
 pub refused-keeps-output : (R : Reading) (pdu : RtrPdu) (s out : List ℕ) (k : ℕ) (values : List ℕ) → encode R pdu s out .says ≡ refused k values → encode R pdu s out .out ≡ out
@@ -69,6 +83,21 @@ written-tests R pdu s out n e =
     let short = test-held (leb (encodedLength R pdu) 4294967295) 10 [] _ n (text .1) in
     let room = test-held (leb (encodedLength R pdu) (length out)) 9 (encodedLength R pdu ∷ []) (written (encodedLength R pdu)) n (short .1) in
     (places .0, text .0, short .0, room .0)
+
+-- and what has all four is written
+pub tests-write : (R : Reading) (pdu : RtrPdu) (s out : List ℕ) → placesInside pdu s ≡ true → textIn pdu s ≡ true → encodedLength R pdu ≤ 4294967295 → encodedLength R pdu ≤ length out
+    → encode R pdu s out ≡ record { says = written (encodedLength R pdu); out = encoding R pdu s ++ drop (encodedLength R pdu) out }
+unfolding encode encodeSays
+tests-write R pdu s out places text small room = simp (places, text, le-leb (encodedLength R pdu) 4294967295 small, le-leb (encodedLength R pdu) (length out) room)
+
+-- a number's bytes: none, and one more, the number by 256 and the remainder behind it
+pub bytes-none : (n : ℕ) → bytesOf 0 n ≡ []
+unfolding bytesOf
+bytes-none n = refl
+
+pub bytes-more : (size n : ℕ) → bytesOf (suc size) n ≡ bytesOf size (n / 256) ++ (n % 256 ∷ [])
+unfolding bytesOf
+bytes-more size n = refl
 
 -- as many bytes as asked for
 pub bytes-long : (size n : ℕ) → length (bytesOf size n) ≡ size

@@ -3,7 +3,6 @@ use Prim.Native.Nat.{ℕ, _≤_, _<_}
 use mathlib.Core.Bool.{true}
 use mathlib.Core.List.{List, [], _∷_, _++_}
 use mathlib.Core.Path.{_≡_, refl, ap, _∙_}
-use native.Mathlib.Nat.{zero-add}
 use borrow.Author.Tests.{le-leb, lt-leb}
 use lib.ListN.{length, drop}
 use Rattle.rtr_models.specs.Values.{secondsOr}
@@ -14,6 +13,7 @@ use Rattle.rtr_models.specs.declared.RtrPdu.{RtrPdu}
 use Rattle.rtr_models.specs.declared.RtrPdu.the-variants.{EndOfData}
 use Rattle.rtr_codec.specs.Reading.{Reading}
 use Rattle.rtr_base.specs.Over.{over}
+use Rattle.rtr_base.proofs.Overs.{over-front}
 use Rattle.rtr_encode.specs.Encode.{placesInside, textIn, encodedLength, encoding, encodeSays, encode, withVersion, endOfData}
 use Rattle.rtr_encode.specs.Encode.Writing.{written, refused}
 
@@ -24,9 +24,9 @@ module _ (R : Reading) (pdu : RtrPdu) (s out : List ℕ) (n : ℕ) (p : placesIn
   too-short h = simp (p, t, e, le-leb n 4294967295 f, lt-leb n (length out) h)
 
   pub wrote : (exit : List ℕ) → n ≤ length out → length (encoding R pdu s) ≡ n → exit ≡ over out 0 (encoding R pdu s) → record { says = written n; out = exit } ≡ encode R pdu s out
-  unfolding encode encodeSays over
+  unfolding encode encodeSays
   wrote exit h l q =
-      let e′ : exit ≡ encoding R pdu s ++ drop n out = q ∙ ap (λ (k : ℕ). encoding R pdu s ++ drop k out) (zero-add (length (encoding R pdu s)) ∙ l) in
+      let e′ : exit ≡ encoding R pdu s ++ drop n out = q ∙ over-front out (encoding R pdu s) ∙ ap (λ (k : ℕ). encoding R pdu s ++ drop k out) l in
       simp (p, t, e, le-leb n 4294967295 f, le-leb n (length out) h, e′)
 
 -- an interval that is absent is written as its default

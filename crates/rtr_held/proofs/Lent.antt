@@ -1,7 +1,6 @@
 -- The types of this crate's walks as cases of Whole.antt's: the session record, the answers, and what each by-value call gives back.
 -- Assumes nothing.
-use mathlib.Core.Path.{refl, ap}
-use mathlib.Core.List.{[], _∷_}
+use mathlib.Core.Path.{ap}
 use denote.Steps.{only}
 use denote.Struct.Laws as LL
 use denote.Enum.Laws as EL

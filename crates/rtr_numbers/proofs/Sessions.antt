@@ -1,5 +1,5 @@
 -- A session whose numbers fit is guessed from its numbers, and a guess always fits. Assumes nothing.
-use Prim.Native.Nat.{ℕ, _%_, _<_}
+use Prim.Native.Nat.{ℕ, _%_}
 use mathlib.Core.List.{List}
 use mathlib.Core.Path.{_≡_, refl, ap}
 use native.Mathlib.Omega.{arith}
@@ -7,7 +7,6 @@ use lib.Dec.{eqb}
 use lib.ListN.{getD}
 use Rattle.rtr_models.specs.declared.RtrProtocolVersion.{RtrProtocolVersion}
 use Rattle.rtr_models.specs.declared.RtrErrorCode.{RtrErrorCode}
-use Rattle.rtr_codec.specs.declared.RtrError.{RtrError}
 use Rattle.rtr_codec.specs.declared.RtrError.the-variants.{IncompletePdu, InvalidProtocolVersion, InvalidPduType, InvalidLength, RouterKeyInV0, InvalidPrefixLength, InvalidErrorCode, InvalidUtf8}
 use Rattle.rtr_stream.specs.declared.StreamError.{StreamError}
 use Rattle.rtr_receiver.specs.Promises.{stageOf}

@@ -1,5 +1,4 @@
 -- What the contracts of this crate's private functions cite.
-use Prim.Native.Nat.{ℕ}
 use Rattle.rtr_receiver.specs.Receiver.{Stage}
 use Rattle.rtr_numbers.specs.Numbers.{stageNumber, stageDetail, stageValue}
 use Rattle.rtr_numbers.specs.declared.PhaseNumbers.{PhaseNumbers}

@@ -1,8 +1,7 @@
 -- A PDU whose numbers fit is guessed from its numbers, and a guess always fits. Assumes nothing.
-use Prim.Native.Nat.{ℕ, _%_, _<_}
-use mathlib.Core.Bool.{cond}
+use Prim.Native.Nat.{ℕ, _%_}
 use mathlib.Core.List.{List}
-use mathlib.Core.Path.{_≡_, refl, ap}
+use mathlib.Core.Path.{_≡_, refl}
 use native.Mathlib.Omega.{arith}
 use lib.Dec.{eqb}
 use lib.ListN.{getD}
@@ -13,7 +12,7 @@ use Rattle.rtr_models.specs.declared.RtrProtocolVersion.the-variants.{V0, V1}
 use Rattle.rtr_models.specs.declared.RtrPdu.{RtrPdu}
 use Rattle.rtr_models.specs.declared.RtrPdu.the-variants.{SerialNotify, SerialQuery, ResetQuery, CacheResponse, IPv4Prefix, IPv6Prefix, EndOfData, CacheReset, RouterKey, ErrorReport}
 use Rattle.rtr_pdu_numbers.specs.Numbers.{pduNumbers, endSeconds}
-use Rattle.rtr_numbers.specs.Back.{looseVersion, looseCode}
+use Rattle.rtr_numbers.specs.Back.{looseVersion}
 use Rattle.rtr_pdu_numbers.specs.Back.{looseInterval, loosePdu}
 use Rattle.rtr_pdu_numbers.specs.Ranges.{IntervalFits, PduFits}
 use Rattle.rtr_numbers.proofs.Guesses.{version-back, code-back, either-way}

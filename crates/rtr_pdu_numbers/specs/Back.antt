@@ -1,5 +1,5 @@
 -- What is read back from a PDU's numbers: a first guess (as in rtr_numbers), which stands exactly where its own numbers are those given.
-use Prim.Native.Nat.{ℕ, _%_}
+use Prim.Native.Nat.{ℕ}
 use mathlib.Core.Bool.{cond}
 use mathlib.Core.List.{List}
 use lib.Dec.{eqb}

@@ -3,12 +3,10 @@
 use Prim.Native.Nat.{ℕ, _+_}
 use mathlib.Core.Bool.{Bool, true, false, cond}
 use mathlib.Core.List.{List, [], _∷_, _++_}
-use mathlib.Core.Path.{_≡_, refl, sym, ap, _∙_, subst}
+use mathlib.Core.Path.{_≡_, refl, sym, ap, _∙_}
 use native.Mathlib.Omega.{arith}
 use lib.Dec.{eqb}
 use lib.ListN.{length}
-use Rattle.rtr_models.specs.Codes.{versionNumber}
-use Rattle.rtr_models.specs.Values.{announces, versionOf}
 use Rattle.rtr_models.specs.declared.RtrProtocolVersion.{RtrProtocolVersion}
 use Rattle.rtr_models.specs.declared.RtrEndOfData.{RtrEndOfData}
 use Rattle.rtr_models.specs.declared.RtrPdu.{RtrPdu}
@@ -16,7 +14,7 @@ use Rattle.rtr_models.specs.declared.RtrPdu.the-variants.{SerialNotify, SerialQ
 use Rattle.rtr_codec.specs.Reading.{crate}
 use Rattle.rtr_stream.specs.Stream.{Heard, judge}
 use Rattle.rtr_receiver.specs.Receiver.{Stage, Receiver, Deed, Feed, holding, stop, noUpdate, finish, onEndOfData, onKind, onPdu, heard, listens, onByte, onPiece}
-use Rattle.rtr_receiver.specs.History.{Event, Update, Live, Item, Place, Next, endSays, updated, itemsBy, items, onEnd, onTold, ofVersion, onPduAt, onItem, orFinished, updates}
+use Rattle.rtr_receiver.specs.History.{Live, Item, Place, Next, endSays, itemsBy, items, onEnd, onTold, ofVersion, onItem, orFinished, updates}
 use Rattle.rtr_receiver.specs.History.Next.{goes, finishes}
 use Rattle.rtr_receiver.specs.Runs.{bytes}
 use Rattle.rtr_receiver.specs.declared.LoadKind.{LoadKind}

@@ -20,7 +20,6 @@ use Rattle.rtr_room.proofs.Laws.{enter-keeps, leave-keeps, ipv4-in-rule, ipv6-i
 use Rattle.rtr_receiver.specs.Receiver.{Stage, Receiver, Deed, fresh, stop, onSerialNotify, startLoad, onChangeResponse, onCacheResponse, changedTo, onRecord, onRouterKey, onCacheReset, finish, onEndOfData, onKind, onPdu}
 use Rattle.rtr_receiver.specs.Receiver.Stage.{idle, mustReset, askedFull, askedChange, loading, stopped}
 use Rattle.rtr_receiver.specs.History.{hasTable}
-use Rattle.rtr_receiver.specs.Promises.{}
 use Rattle.rtr_receiver.specs.declared.LoadKind.{LoadKind}
 use Rattle.rtr_receiver.specs.declared.LiveTable.{LiveTable}
 

@@ -1,6 +1,6 @@
 -- A step of a feed, in the code's words and in the definition's: what the search found decides, and memory that stands for a receiver stands for what the
 -- receiver becomes. Assumes nothing.
-use Prim.Native.Nat.{ℕ, _-_}
+use Prim.Native.Nat.{ℕ}
 use mathlib.Core.Bool.{Bool, true, false, not, _&&_, _||_}
 use mathlib.Core.List.{List, [], _∷_}
 use mathlib.Core.Logic.{_⊎_, inl, inr}

@@ -4,21 +4,25 @@ use Prim.Native.Nat.{ℕ, zero, suc, _+_, _*_, _/_, _%_, _≤_, _<_}
 use mathlib.Core.List.{List, [], _∷_, _++_}
 use mathlib.Core.Logic.{_↔_}
 use mathlib.Core.Path.{_≡_, refl, sym, ap, _∙_}
+use native.Mathlib.Nat.{add-zero, zero-add}
 use native.Mathlib.Omega.{arith}
 use lib.ListN.{length, getD, take, drop, length-drop}
 use lib.Seq.{take-suc, getD-drop, take-at, drop-at, take-add, drop-drop, length-take-le}
 use Rattle.rtr_codec.specs.Bytes.{number}
-use Rattle.rtr_codec.proofs.Laws.{number-fits}
+use Rattle.rtr_codec.proofs.Laws.{number-none, number-more, number-fits}
 use Rattle.rtr_encode.specs.Encode.{bytesOf}
-use Rattle.rtr_encode.proofs.Laws.{bytes-long}
+use Rattle.rtr_encode.proofs.Laws.{bytes-none, bytes-more, bytes-long}
 use Rattle.rtr_round.specs.RoundTrip.{Bytes}
 
 pub length-bytes : (size n : ℕ) → length (bytesOf size n) ≡ size
 length-bytes = bytes-long
 
+-- a number of one byte is that byte
+pub byte-at : (s : List ℕ) (at : ℕ) → number s at 1 ≡ getD s at 0
+byte-at s at = number-more s at 0 ∙ rw number-none (simp (zero-add, add-zero))
+
 pub bytes-of-number : (s : List ℕ) → Bytes s → (at size : ℕ) → at + size ≤ length s → bytesOf size (number s at size) ≡ take size (drop at s)
-unfolding bytesOf number
-bytes-of-number s bs at zero h = refl
+bytes-of-number s bs at zero h = bytes-none (number s at 0)
 bytes-of-number s bs at (suc size) h =
     let x : ℕ = number s at size in
     let b : ℕ = getD s (at + size) 0 in
@@ -28,7 +32,7 @@ bytes-of-number s bs at (suc size) h =
     let front : bytesOf size x ≡ take size (drop at s) = bytes-of-number s bs at size (omega arith) in
     let last : take (suc size) (drop at s) ≡ take size (drop at s) ++ (b ∷ []) =
     take-suc (drop at s) size 0 (simp length-drop (omega arith)) ∙ simp getD-drop in
-    cc
+    cc (number-more s at size, bytes-more size (number s at (suc size)))
 
 -- a number of four bytes fits 32 bits
 pub four-bytes-fit : (s : List ℕ) → Bytes s → (at : ℕ) → number s at 4 ≤ 4294967295

@@ -5,7 +5,7 @@ use Prim.Native.Nat.{ℕ, _+_, _≤_}
 use mathlib.Core.Bool.{Bool, true, false}
 use mathlib.Core.List.{List, [], _∷_, _++_}
 use mathlib.Core.Logic.{_↔_}
-use mathlib.Core.Path.{_≡_, refl, sym}
+use mathlib.Core.Path.{_≡_, refl, sym, ap, _∙_}
 use native.Mathlib.Omega.{arith}
 use lib.ListN.{length, getD, take, drop, replicate, length-append, length-replicate}
 use Rattle.rtr_models.specs.declared.RtrProtocolVersion.{RtrProtocolVersion}
@@ -17,6 +17,7 @@ use Rattle.rtr_codec.specs.Bytes.{number}
 use Rattle.rtr_codec.specs.Layout.{Field, widths, valuesFrom, endLayout}
 use Rattle.rtr_codec.specs.Layout.Field.{ignored, total, value, payload}
 use Rattle.rtr_codec.specs.Read.{headerLength, keyFields}
+use Rattle.rtr_codec.proofs.Laws.{header-is}
 use Rattle.rtr_encode.specs.Encode.{bytesOf, fieldBytes, layoutOf}
 use Rattle.rtr_round.specs.RoundTrip.{Bytes, ignoredZero}
 use Rattle.rtr_round.proofs.Bytes.{length-bytes, bytes-of-number, length-part, front-and-rest}
@@ -84,15 +85,14 @@ module _ (s : List ℕ) where
   module _ (bs : Bytes s) where
     pub fields-back : (seen : Bool) (at : ℕ) (fs : List Field) → at + widths fs ≤ length s → TotalAt4 seen at fs
         → (fieldBytes fs (headerLength s) (valuesFrom at fs s) s ≡ take (widths fs) (drop at s)) ↔ ignoredZero at fs s
-    unfolding headerLength
     fields-back seen at [] h t = (λ _. tt, λ _. refl)
     fields-back seen at (ignored n ∷ fs) h t =
         let i = front-and-rest s (replicate n 0) (fieldBytes fs (headerLength s) (valuesFrom (at + n) fs s) s) at n (widths fs) (length-replicate n 0) (omega arith) in
         let r = fields-back seen (at + n) fs (omega arith) t in
         (λ q. (sym (i .0 q .0), r .0 (i .0 q .1)), λ z. i .1 (sym (z .0), r .1 (z .1)))
     fields-back seen at (total ∷ fs) h t =
-        let here : bytesOf 4 (number s 4 4) ≡ take 4 (drop at s) = rw (t .0) (bytes-of-number s bs 4 4 (omega arith)) in
-        given-front _ _ at 4 (widths fs) (length-bytes 4 (number s 4 4)) (omega arith) here (fields-back true (at + 4) fs (omega arith) (t .1))
+        let here : bytesOf 4 (headerLength s) ≡ take 4 (drop at s) = ap (bytesOf 4) (header-is s) ∙ rw (t .0) (bytes-of-number s bs 4 4 (omega arith)) in
+        given-front _ _ at 4 (widths fs) (length-bytes 4 (headerLength s)) (omega arith) here (fields-back true (at + 4) fs (omega arith) (t .1))
     fields-back seen at (value n ∷ fs) h t =
         given-front _ _ at n (widths fs) (length-bytes n (number s at n)) (omega arith) (bytes-of-number s bs at n (omega arith))
         (fields-back seen (at + n) fs (omega arith) t)

@@ -22,6 +22,7 @@ use Rattle.rtr_codec.specs.Reading.{Reading}
 use Rattle.rtr_codec.specs.Layout.{lengthOf}
 use Rattle.rtr_codec.specs.Read.{keyFields}
 use Rattle.rtr_encode.specs.Encode.{at, bytesOf, fieldBytes, layoutOf, valuesIn, encodedLength, encoding}
+use Rattle.rtr_encode.proofs.Laws.{encoding-is}
 use Rattle.rtr_round.specs.RoundTrip.{InRule, keyStart, readBack, payloadsOf}
 use Rattle.rtr_round.proofs.Bytes.{length-bytes, length-part}
 use Rattle.rtr_round.proofs.Fields.{length-fields}
@@ -34,13 +35,18 @@ part-at p x q n w e f = ap (take w) (drop-at p (x ++ q) n e) ∙ take-at x q w f
 -- a key identifier stands at its byte, in either arrangement
 identifier-written : (byCrate : Bool) (v whole flags start asn : ℕ) (s q : List ℕ) → start + 20 ≤ length s
     → take 20 (drop (keyStart byCrate) (v ∷ 9 ∷ (fieldBytes (keyFields byCrate) whole (flags ∷ start ∷ asn ∷ []) s ++ q))) ≡ take 20 (drop start s)
-unfolding bytesOf
 identifier-written true v whole flags start asn s q h =
     let x : List ℕ = take 20 (drop start s) in
-    ap (take 20) (append-assoc x (bytesOf 4 asn) q) ∙ take-at x (bytesOf 4 asn ++ q) 20 (length-part s start 20 h)
+    let front : List ℕ = v ∷ 9 ∷ 0 ∷ 0 ∷ (bytesOf 4 whole ++ bytesOf 1 flags ++ (0 ∷ [])) in
+    let long : length front ≡ 10 = simp (length-append, length-bytes) in
+    let joined : v ∷ 9 ∷ (fieldBytes (keyFields true) whole (flags ∷ start ∷ asn ∷ []) s ++ q) ≡ front ++ (x ++ (bytesOf 4 asn ++ q)) = simp append-assoc in
+    ap (λ (l : List ℕ). take 20 (drop 10 l)) joined ∙ part-at front x (bytesOf 4 asn ++ q) 10 20 long (length-part s start 20 h)
 identifier-written false v whole flags start asn s q h =
     let x : List ℕ = take 20 (drop start s) in
-    ap (take 20) (append-assoc x (bytesOf 4 asn) q) ∙ take-at x (bytesOf 4 asn ++ q) 20 (length-part s start 20 h)
+    let front : List ℕ = v ∷ 9 ∷ (bytesOf 1 flags ++ (0 ∷ []) ++ bytesOf 4 whole) in
+    let long : length front ≡ 8 = simp (length-append, length-bytes) in
+    let joined : v ∷ 9 ∷ (fieldBytes (keyFields false) whole (flags ∷ start ∷ asn ∷ []) s ++ q) ≡ front ++ (x ++ (bytesOf 4 asn ++ q)) = simp append-assoc in
+    ap (λ (l : List ℕ). take 20 (drop 8 l)) joined ∙ part-at front x (bytesOf 4 asn ++ q) 8 20 long (length-part s start 20 h)
 
 -- the bytes before what follows the fixed fields
 abbrev frontBytes : Reading → RtrPdu → List ℕ → List ℕ
@@ -52,7 +58,6 @@ module _ (R : Reading) (s rest : List ℕ) where
 
   key-payloads-back : (p : RtrRouterKey) → InRule R (RouterKey p) s
       → payloadsOf (readBack R (RouterKey p)) (encoding R (RouterKey p) s ++ rest) ≡ payloadsOf (RouterKey p) s
-  unfolding encoding
   key-payloads-back p rule =
       let k : Place = p .«subject_key_identifier» in
       let i : Place = p .«subject_public_key_info» in
@@ -61,7 +66,7 @@ module _ (R : Reading) (s rest : List ℕ) where
       let inner = both-true (eqb (k .len) 20) (inside k s) (outer .0) in
       let twenty : k .len ≡ 20 = eqb-true (k .len) 20 (inner .0) in
       let room : k .start + 20 ≤ length s = omega (arith, leb-true (k .start + k .len) (length s) (inner .1)) in
-      let joined : encoding R (RouterKey p) s ++ rest ≡ front ++ (at i s ++ rest) = append-assoc front (at i s) rest in
+      let joined : encoding R (RouterKey p) s ++ rest ≡ front ++ (at i s ++ rest) = ap (λ (l : List ℕ). l ++ rest) (encoding-is R (RouterKey p) s) ∙ append-assoc front (at i s) rest in
       let first : take 20 (drop (keyStart (R .keyByCrate)) (front ++ (at i s ++ rest))) ≡ take 20 (drop (k .start) s) =
       identifier-written (R .keyByCrate) (versionNumber (p .version)) (encodedLength R (RouterKey p)) (p .flags) (k .start) (p .asn) s (at i s ++ rest) room in
       let second : take (i .len) (drop (lengthOf (keyFields (R .keyByCrate))) (front ++ (at i s ++ rest))) ≡ at i s =
@@ -71,7 +76,6 @@ module _ (R : Reading) (s rest : List ℕ) where
 
   report-payloads-back : (p : RtrErrorReport) → InRule R (ErrorReport p) s
       → payloadsOf (readBack R (ErrorReport p)) (encoding R (ErrorReport p) s ++ rest) ≡ payloadsOf (ErrorReport p) s
-  unfolding encoding
   report-payloads-back p rule =
       let c : Place = p .«erroneous_pdu» in
       let x : Place = p .«error_text» in
@@ -82,8 +86,8 @@ module _ (R : Reading) (s rest : List ℕ) where
       let long : length (at c s) ≡ n = length-part s (c .start) n (leb-true _ _ (inside .0)) in
       let long′ : length (at x s) ≡ m = length-part s (x .start) m (leb-true _ _ (inside .1)) in
       let eight : length front ≡ 8 = length-front (ErrorReport p) rule in
-      let joined : encoding R (ErrorReport p) s ++ rest ≡ front ++ bytesOf 4 n ++ (at c s ++ (bytesOf 4 m ++ at x s ++ rest)) = simp append-assoc in
-      let joined′ : encoding R (ErrorReport p) s ++ rest ≡ front ++ bytesOf 4 n ++ at c s ++ bytesOf 4 m ++ (at x s ++ rest) = simp append-assoc in
+      let joined : encoding R (ErrorReport p) s ++ rest ≡ front ++ bytesOf 4 n ++ (at c s ++ (bytesOf 4 m ++ at x s ++ rest)) = rw (encoding-is R (ErrorReport p) s) (simp append-assoc) in
+      let joined′ : encoding R (ErrorReport p) s ++ rest ≡ front ++ bytesOf 4 n ++ at c s ++ bytesOf 4 m ++ (at x s ++ rest) = rw (encoding-is R (ErrorReport p) s) (simp append-assoc) in
       let copy = part-at (front ++ bytesOf 4 n) (at c s) (bytesOf 4 m ++ at x s ++ rest) 12 n (length-append front (bytesOf 4 n) ∙ omega (arith, length-bytes 4 n)) long in
       let text = part-at (front ++ bytesOf 4 n ++ at c s ++ bytesOf 4 m) (at x s) rest (16 + n) m
       (length-append (front ++ bytesOf 4 n ++ at c s) (bytesOf 4 m)

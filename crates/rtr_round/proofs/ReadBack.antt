@@ -1,32 +1,30 @@
--- A list `E` whose header's length, values and payloads are those of a PDU in rule is read as that PDU, its payloads by their places in E:
--- each kind's checks pass by what the PDU's rules say, and the values read are the PDU's. Assumes nothing.
+-- A list `E` whose header's length, values and payloads are those of a PDU in rule has that PDU standing in it (`Stands` of rtr_codec), its payloads by their places in E: each kind's checks hold by what the PDU's rules say, and the
+-- values that stand there are the PDU's. Assumes nothing.
 use Prim.Native.Nat.{ℕ, _+_, _-_, _≤_}
 use mathlib.Core.Bool.{Bool, true, false}
 use mathlib.Core.List.{List, [], _∷_, _++_, append-assoc}
-use mathlib.Core.Path.{_≡_, refl, ap, _∙_}
+use mathlib.Core.Path.{_≡_, refl, sym, ap, _∙_}
 use native.Mathlib.Omega.{arith}
 use borrow.Author.Tests.{leb-true, eq-eqb, le-leb}
-use lib.Dec.{leb}
 use lib.ListN.{length, getD, take, drop, length-append}
 use lib.Seq.{take-all, drop-at}
-use Rattle.rtr_models.specs.Codes.{versionNumber, typeNumber, codeNumber, codeFound}
+use Rattle.rtr_models.specs.Codes.{codeNumber}
 use Rattle.rtr_models.specs.Parts.{inside}
-use Rattle.rtr_models.specs.declared.CodeFound.{CodeFound}
 use Rattle.rtr_models.specs.Values.{typeOf, versionOf}
-use Rattle.rtr_models.proofs.Laws.{version-known, type-known, code-known}
+use Rattle.rtr_models.specs.declared.Interval.the-variants.{Seconds}
 use Rattle.rtr_models.specs.declared.RtrProtocolVersion.{RtrProtocolVersion}
 use Rattle.rtr_models.specs.declared.RtrProtocolVersion.the-variants.{V0, V1}
-use Rattle.rtr_models.specs.declared.RtrPduType.{RtrPduType}
 use Rattle.rtr_models.specs.declared.RtrEndOfData.{RtrEndOfData}
+use Rattle.rtr_models.specs.declared.RtrRouterKey.{RtrRouterKey}
 use Rattle.rtr_models.specs.declared.RtrErrorReport.{RtrErrorReport}
 use Rattle.rtr_models.specs.declared.RtrPdu.{RtrPdu}
 use Rattle.rtr_models.specs.declared.RtrPdu.the-variants.{SerialNotify, SerialQuery, ResetQuery, CacheResponse, IPv4Prefix, IPv6Prefix, EndOfData, CacheReset, RouterKey, ErrorReport}
 use Rattle.rtr_codec.specs.Bytes.{number}
 use Rattle.rtr_codec.specs.Reading.{Reading}
 use Rattle.rtr_codec.specs.Layout.{lengthOf, valuesOf, endLayout}
-use Rattle.rtr_codec.specs.Read.{ends, headerLength, keyFields, readKey, readSerialNotify, readSerialQuery, readResetQuery, readCacheResponse, readIPv4Prefix, readIPv6Prefix, readEndOfData, readCacheReset, readRouterKey, readText, readEncapsulated, readCode, readErrorReport, readAs, readTyped, readVersioned, read}
-use Rattle.rtr_codec.specs.Read.Verdict.{accepted}
-use Rattle.rtr_encode.specs.Encode.{at, bytesOf, layoutOf, endValues, valuesIn, behind, encodedLength}
+use Rattle.rtr_codec.specs.Read.{ends, headerLength, keyFields}
+use Rattle.rtr_codec.specs.Stands.{place, endStands, keyStands, kindStands}
+use Rattle.rtr_encode.specs.Encode.{at, bytesOf, layoutOf, endValues, valuesIn, behind, behindLength}
 use Rattle.rtr_round.specs.RoundTrip.{InRule, endBack, keyStart, readBack}
 use Rattle.rtr_round.proofs.Bytes.{length-bytes, length-part}
 use Rattle.rtr_round.proofs.Inside.{both-true}
@@ -41,40 +39,48 @@ ends-exactly false x h e = eq-eqb x h e
 nth : {a b : List ℕ} → a ≡ b → (i : ℕ) → getD a i 0 ≡ getD b i 0
 nth e i = ap (λ (l : List ℕ). getD l i 0) e
 
+-- a PDU's reading back has its version and its type
+end-version : (v : RtrProtocolVersion) (p : RtrEndOfData) → endBack v p .version ≡ v
+end-version V0 p = refl
+end-version V1 p = refl
+
+pub back-head : (R : Reading) (pdu : RtrPdu) → (versionOf (readBack R pdu) ≡ versionOf pdu) × (typeOf (readBack R pdu) ≡ typeOf pdu)
+back-head R (SerialNotify p) = (refl, refl)
+back-head R (SerialQuery p) = (refl, refl)
+back-head R (ResetQuery p) = (refl, refl)
+back-head R (CacheResponse p) = (refl, refl)
+back-head R (IPv4Prefix p) = (refl, refl)
+back-head R (IPv6Prefix p) = (refl, refl)
+back-head R (EndOfData p) = (end-version (p .version) p, refl)
+back-head R (CacheReset p) = (refl, refl)
+back-head R (RouterKey p) = (refl, refl)
+back-head R (ErrorReport p) = (refl, refl)
+
 module _ (R : Reading) (E : List ℕ) where
-  -- the checks before the kind's
-  pub read-kind : (v : RtrProtocolVersion) (t : RtrPduType) → 8 ≤ length E → headerLength E ≤ length E → number E 0 1 ≡ versionNumber v
-      → number E 1 1 ≡ typeNumber t → read R E ≡ readAs R v t E
-  unfolding read readVersioned readTyped
-  read-kind v t p q pv pt =
-      simp (le-leb 8 (length E) p, le-leb (headerLength E) (length E) q, (version-known (number E 0 1) v) .1 pv, (type-known (number E 1 1) t) .1 pt)
+  end-back : (v : RtrProtocolVersion) (p : RtrEndOfData) → headerLength E ≡ lengthOf (endLayout v) + 0 → valuesOf (endLayout v) E ≡ placed 2 (endLayout v) (endValues v p)
+      → endStands (endBack v p .version) (endBack v p) E
+  end-back V0 p h e = (h, nth e 0, nth e 1, refl, refl, refl)
+  end-back V1 p h e = (h, nth e 0, nth e 1, ap Seconds (nth e 2), ap Seconds (nth e 3), ap Seconds (nth e 4))
 
-  end-back : (v : RtrProtocolVersion) (p : RtrEndOfData) → headerLength E ≡ lengthOf (endLayout v) + 0
-      → valuesOf (endLayout v) E ≡ placed 2 (endLayout v) (endValues v p) → readEndOfData v E ≡ accepted (EndOfData (endBack v p)) (lengthOf (endLayout v) + 0)
-  unfolding readEndOfData
-  end-back V0 p h e = simp (h, nth e 0, nth e 1)
-  end-back V1 p h e = simp (h, nth e 0, nth e 1, nth e 2, nth e 3, nth e 4)
+  -- a Router Key with its identifier and its info where the encoding has them
+  abbrev keyBack : Bool → RtrRouterKey → RtrRouterKey
+  keyBack b p =
+      record { version = p .version; flags = p .flags; «subject_key_identifier» = place (keyStart b) 20; asn = p .asn; «subject_public_key_info» = place (lengthOf (keyFields b)) (p .«subject_public_key_info» .len) }
 
-  key-back : (b : Bool) (flags start asn len : ℕ) → headerLength E ≡ lengthOf (keyFields b) + len
-      → valuesOf (keyFields b) E ≡ placed 2 (keyFields b) (flags ∷ start ∷ asn ∷ [])
-      → readKey (keyFields b) E
-      ≡ accepted (RouterKey (record { version = V1; flags = flags; «subject_key_identifier» = record { start = keyStart b; len = 20 }; asn = asn; «subject_public_key_info» = record { start = lengthOf (keyFields b); len = len } }))
-      (lengthOf (keyFields b) + len)
-  key-back true flags start asn len h e =
-      let long : leb 34 (34 + len) ≡ true = le-leb 34 (34 + len) (omega arith) in
-      let rest : 34 + len - 34 ≡ len = omega arith in
-      simp (h, long, rest, nth e 0, nth e 2)
-  key-back false flags start asn len h e =
-      let long : leb 32 (32 + len) ≡ true = le-leb 32 (32 + len) (omega arith) in
-      let rest : 32 + len - 32 ≡ len = omega arith in
-      simp (h, long, rest, nth e 0, nth e 2)
+  key-back : (b : Bool) (p : RtrRouterKey) → headerLength E ≡ lengthOf (keyFields b) + p .«subject_public_key_info» .len
+      → valuesOf (keyFields b) E ≡ placed 2 (keyFields b) (p .flags ∷ p .«subject_key_identifier» .start ∷ p .asn ∷ []) → keyStands b (keyBack b p) E
+  key-back true p h e =
+      let rest : headerLength E - 34 ≡ p .«subject_public_key_info» .len = omega arith in
+      (omega arith, nth e 0, refl, nth e 2, ap (place 34) rest)
+  key-back false p h e =
+      let rest : headerLength E - 32 ≡ p .«subject_public_key_info» .len = omega arith in
+      (omega arith, nth e 0, refl, nth e 2, ap (place 32) rest)
 
   -- a report's copy and text stand behind its 8 fixed bytes, each behind its length
-  report-back : (p : RtrErrorReport) (s front : List ℕ) → InRule R (ErrorReport p) s → headerLength E ≡ encodedLength R (ErrorReport p)
-      → number E 2 2 ≡ codeNumber (p .«error_code») → length front ≡ 8 → E ≡ front ++ behind (ErrorReport p) s
-      → readErrorReport R (p .version) E ≡ accepted (readBack R (ErrorReport p)) (encodedLength R (ErrorReport p))
-  unfolding encodedLength readErrorReport readCode readEncapsulated readText
-  report-back p s front rule h c l q =
+  report-back : (p : RtrErrorReport) (s front : List ℕ) → InRule R (ErrorReport p) s → 16 + p .«erroneous_pdu» .len + p .«error_text» .len ≤ 4294967295
+      → headerLength E ≡ 8 + (8 + p .«erroneous_pdu» .len + p .«error_text» .len) → number E 2 2 ≡ codeNumber (p .«error_code») → length front ≡ 8 → E ≡ front ++ behind (ErrorReport p) s
+      → kindStands R E (readBack R (ErrorReport p))
+  report-back p s front rule short h c l q =
       let n : ℕ = p .«erroneous_pdu» .len in
       let m : ℕ = p .«error_text» .len in
       let copy : List ℕ = at (p .«erroneous_pdu») s in
@@ -82,7 +88,6 @@ module _ (R : Reading) (E : List ℕ) where
       let inside = both-true (inside (p .«erroneous_pdu») s) (inside (p .«error_text») s) (rule .places) in
       let long : length copy ≡ n = length-part s (p .«erroneous_pdu» .start) n (leb-true _ _ (inside .0)) in
       let long′ : length text ≡ m = length-part s (p .«error_text» .start) m (leb-true _ _ (inside .1)) in
-      let short : 16 + n + m ≤ 4294967295 = omega (arith, rule .short) in
       let first : E ≡ front ++ (bytesOf 4 n ++ (copy ++ bytesOf 4 m ++ text)) = q ∙ simp append-assoc in
       let second : E ≡ front ++ bytesOf 4 n ++ copy ++ (bytesOf 4 m ++ text) = q ∙ simp append-assoc in
       let third : E ≡ front ++ bytesOf 4 n ++ copy ++ bytesOf 4 m ++ text = q ∙ simp append-assoc in
@@ -94,24 +99,19 @@ module _ (R : Reading) (E : List ℕ) where
       ap (λ (z : List ℕ). take m (drop (16 + n) z)) third
       ∙ ap (take m) (drop-at (front ++ bytesOf 4 n ++ copy ++ bytesOf 4 m) text (16 + n) (simp (length-append, length-bytes) (omega arith)))
       ∙ take-all m text (omega arith) in
-      let k : codeFound (codeNumber (p .«error_code»)) ≡ CodeFound.Known (p .«error_code») = (code-known (codeNumber (p .«error_code»)) (p .«error_code»)) .1 refl in
-      simp
-      (h, c, k, rule .kind, a, b, d, rule .text, le-leb 16 (8 + (8 + n + m)) (omega arith), le-leb (16 + n) (8 + (8 + n + m)) (omega arith), ends-exactly (R .bytesBehindText) (16 + n + m) (8 + (8 + n + m)) (omega arith))
+      rw (a, b) (c, rw c (rule .kind), refl, refl, ends-exactly (R .bytesBehindText) (16 + n + m) (headerLength E) (omega arith), rw d (rule .text))
 
-  pub as-back : (pdu : RtrPdu) (s front : List ℕ) → InRule R pdu s → headerLength E ≡ encodedLength R pdu
+  pub as-back : (pdu : RtrPdu) (s front : List ℕ) → InRule R pdu s → lengthOf (layoutOf R pdu) + behindLength pdu ≤ 4294967295 → headerLength E ≡ lengthOf (layoutOf R pdu) + behindLength pdu
       → valuesOf (layoutOf R pdu) E ≡ placed 2 (layoutOf R pdu) (valuesIn pdu) → length front ≡ lengthOf (layoutOf R pdu) → E ≡ front ++ behind pdu s
-      → readAs R (versionOf pdu) (typeOf pdu) E ≡ accepted (readBack R pdu) (encodedLength R pdu)
-  unfolding encodedLength readAs readSerialNotify readSerialQuery readResetQuery readCacheResponse readIPv4Prefix readIPv6Prefix readCacheReset readRouterKey
-  as-back (SerialNotify p) s front rule h e l q = simp (h, nth e 0, nth e 1)
-  as-back (SerialQuery p) s front rule h e l q = simp (h, nth e 0, nth e 1)
-  as-back (ResetQuery p) s front rule h e l q = simp h
-  as-back (CacheResponse p) s front rule h e l q = simp (h, nth e 0)
-  as-back (IPv4Prefix p) s front rule h e l q =
-      simp (h, nth e 0, nth e 1, nth e 2, nth e 3, nth e 4, le-leb (p .«prefix_length») (p .«max_length») (rule .kind .0), le-leb (p .«max_length») 32 (rule .kind .1))
-  as-back (IPv6Prefix p) s front rule h e l q =
-      simp (h, nth e 0, nth e 1, nth e 2, nth e 3, nth e 4, nth e 5, nth e 6, nth e 7, le-leb (p .«prefix_length») (p .«max_length») (rule .kind .0), le-leb (p .«max_length») 128 (rule .kind .1))
-  as-back (EndOfData p) s front rule h e l q = end-back (p .version) p h e
-  as-back (CacheReset p) s front rule h e l q = simp h
-  as-back (RouterKey p) s front rule h e l q =
-      rw (rule .kind) (key-back (R .keyByCrate) (p .flags) (p .«subject_key_identifier» .start) (p .asn) (p .«subject_public_key_info» .len) h e)
-  as-back (ErrorReport p) s front rule h e l q = report-back p s front rule h (nth e 0) l q
+      → kindStands R E (readBack R pdu)
+  as-back (SerialNotify p) s front rule short h e l q = (h, nth e 0, nth e 1)
+  as-back (SerialQuery p) s front rule short h e l q = (h, nth e 0, nth e 1)
+  as-back (ResetQuery p) s front rule short h e l q = h
+  as-back (CacheResponse p) s front rule short h e l q = (h, nth e 0)
+  as-back (IPv4Prefix p) s front rule short h e l q = (h, nth e 0, nth e 1, nth e 2, nth e 3, nth e 4, rule .kind .0, rule .kind .1)
+  as-back (IPv6Prefix p) s front rule short h e l q =
+      (h, nth e 0, nth e 1, nth e 2, nth e 3, nth e 4, nth e 5, nth e 6, nth e 7, rule .kind .0, rule .kind .1)
+  as-back (EndOfData p) s front rule short h e l q = end-back (p .version) p h e
+  as-back (CacheReset p) s front rule short h e l q = h
+  as-back (RouterKey p) s front rule short h e l q = (sym (rule .kind), key-back (R .keyByCrate) p h e)
+  as-back (ErrorReport p) s front rule short h e l q = report-back p s front rule (omega arith) h (nth e 0) l q

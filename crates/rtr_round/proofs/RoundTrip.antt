@@ -3,17 +3,15 @@
 -- are written as they stood; the fixed fields are too, exactly if the ignored ones are zero (`fields-back`); and the encoding is as long as
 -- the PDU read exactly if nothing follows the text.
 -- Reading what was encoded gives back the PDU, its payloads where the encoding has them: of the encoding, the header's length is its own
--- (`total-written`) and the values are the PDU's (`values-written`), so the checks pass and each kind is read as itself (`as-back`).
+-- (`total-written`) and the values are the PDU's (`values-written`), so each kind stands there as itself (`as-back`).
 -- Assumes nothing.
 use Prim.Native.Nat.{ℕ, _+_, _≤_}
 use mathlib.Core.Bool.{true, false}
 use mathlib.Core.List.{List, [], _∷_, _++_}
 use mathlib.Core.Logic.{_↔_}
 use mathlib.Core.Path.{_≡_, refl, sym, ap, _∙_}
-use native.Mathlib.Nat.{zero-add}
 use native.Mathlib.Omega.{arith}
-use borrow.Author.Tests.{le-leb}
-use lib.ListN.{length, take, drop, length-append}
+use lib.ListN.{length, getD, take, drop, length-append}
 use lib.Seq.{length-take-le, take-add}
 use Rattle.rtr_models.specs.Codes.{versionNumber, typeNumber}
 use Rattle.rtr_models.specs.Values.{typeOf, versionOf}
@@ -23,22 +21,23 @@ use Rattle.rtr_codec.specs.Reading.{Reading}
 use Rattle.rtr_codec.specs.Layout.{widths, lengthOf, valuesOf}
 use Rattle.rtr_codec.specs.Read.{headerLength, read, needed}
 use Rattle.rtr_codec.specs.Read.Verdict.{accepted}
-use Rattle.rtr_codec.proofs.Laws.{read-consumes, read-behind}
-use Rattle.rtr_encode.specs.Encode.{fieldBytes, layoutOf, valuesIn, behind, behindLength, encodedLength, encoding, placesInside, textIn, encodeSays, encode}
+use Rattle.rtr_codec.proofs.Laws.{header-is, needed-large, read-consumes, read-behind}
+use Rattle.rtr_codec.proofs.Exactly.{reads-standing}
+use Rattle.rtr_encode.specs.Encode.{fieldBytes, layoutOf, valuesIn, behind, behindLength, encodedLength, encoding, placesInside, textIn, encode}
 use Rattle.rtr_encode.specs.Encode.Writing.{written}
+use Rattle.rtr_encode.proofs.Laws.{encoded-length-is, encoding-is, tests-write}
 use Rattle.rtr_round.specs.RoundTrip.{Bytes, ignoredZero, nothingBehind, InRule, readBack}
-use Rattle.rtr_round.proofs.Bytes.{four-bytes-fit, append-same, length-part}
+use Rattle.rtr_round.proofs.Bytes.{byte-at, four-bytes-fit, append-same, length-part}
 use Rattle.rtr_round.proofs.Fields.{total-at-4, fields-long, length-fields, fields-back}
 use Rattle.rtr_round.proofs.Inside.{payloads-inside, length-behind}
 use Rattle.rtr_round.proofs.Accepted.{Found, accepted-found}
 use Rattle.rtr_round.proofs.Written.{placed, values-written, total-written}
-use Rattle.rtr_round.proofs.ReadBack.{read-kind, as-back}
+use Rattle.rtr_round.proofs.ReadBack.{back-head, as-back}
 
 first-two : (s : List ℕ) → 2 ≤ length s → take 2 s ≡ number s 0 1 ∷ number s 1 1 ∷ []
-unfolding number
 first-two [] h = absurd (omega arith)
 first-two (a ∷ []) h = absurd (omega arith)
-first-two (a ∷ b ∷ s) h = simp zero-add
+first-two (a ∷ b ∷ s) h = simp byte-at
 
 -- the fixed fields as they are written
 abbrev fixedBytes : Reading → RtrPdu → List ℕ → List ℕ
@@ -57,23 +56,21 @@ module _ (R : Reading) (pdu : RtrPdu) (s : List ℕ) (places : placesInside pdu 
   length-fixed = length-fields s (layoutOf R pdu) (encodedLength R pdu) (valuesIn pdu) (payloads-inside R pdu s places)
 
   pub length-encoding : length (encoding R pdu s) ≡ encodedLength R pdu
-  unfolding encoding encodedLength
-  length-encoding = simp length-append (omega (arith, length-fixed, length-behind pdu s places))
+  length-encoding =
+      ap length (encoding-is R pdu s) ∙ simp length-append (omega (arith, encoded-length-is R pdu, length-fixed, length-behind pdu s places))
 
 module _ (R : Reading) (s : List ℕ) (pdu : RtrPdu) (n : ℕ) (found : Found R s pdu n) (large : 8 ≤ n) (inside : n ≤ length s) where
   fixed-inside : 2 + widths (layoutOf R pdu) ≤ length s
-  unfolding encodedLength
-  fixed-inside = omega (arith, found .fits)
+  fixed-inside = omega (arith, encoded-length-is R pdu, found .fits)
 
   front-split : take (encodedLength R pdu) s ≡ take 2 s ++ fixedPart R pdu s ++ restPart R pdu s
-  unfolding encodedLength
   front-split =
-      take-add (lengthOf (layoutOf R pdu)) (behindLength pdu) s
+      ap (λ (k : ℕ). take k s) (encoded-length-is R pdu)
+      ∙ take-add (lengthOf (layoutOf R pdu)) (behindLength pdu) s
       ∙ ap (λ (l : List ℕ). l ++ restPart R pdu s) (take-add 2 (widths (layoutOf R pdu)) s)
 
   -- all but the fixed fields is written as it stood
   fixed-decide : (encoding R pdu s ≡ take (encodedLength R pdu) s) ↔ (fixedBytes R pdu s ≡ fixedPart R pdu s)
-  unfolding encoding encodedLength
   fixed-decide =
       let head : List ℕ = versionNumber (versionOf pdu) ∷ typeNumber (typeOf pdu) ∷ [] in
       let same : head ≡ take 2 s = cc (first-two s (omega arith), found .version, found .type) in
@@ -82,7 +79,8 @@ module _ (R : Reading) (s : List ℕ) (pdu : RtrPdu) (n : ℕ) (found : Found R 
       let outer = append-same (head ++ fixedBytes R pdu s) (behind pdu s) (take 2 s ++ fixedPart R pdu s) (restPart R pdu s)
       (simp length-append (omega (arith, length-fixed R pdu s (found .places)))) in
       let inner = append-same head (fixedBytes R pdu s) (take 2 s) (fixedPart R pdu s) (sym two) in
-      (λ q. inner .0 (outer .0 (q ∙ front-split) .0) .1, λ q. outer .1 (inner .1 (same, q), found .rest) ∙ sym front-split)
+      let is : encoding R pdu s ≡ head ++ fixedBytes R pdu s ++ behind pdu s = encoding-is R pdu s in
+      (λ q. inner .0 (outer .0 (sym is ∙ q ∙ front-split) .0) .1, λ q. is ∙ outer .1 (inner .1 (same, q), found .rest) ∙ sym front-split)
 
 -- encoding what was read gives back its bytes exactly if the ignored ones are zero and nothing follows an Error Report's text
 pub encode-of-read : (R : Reading) (s : List ℕ) (pdu : RtrPdu) (n : ℕ) → Bytes s → read R s ≡ accepted pdu n
@@ -110,52 +108,54 @@ read-places-inside R s pdu n bs e = (accepted-found R s pdu n bs e .places, acce
 pub encode-accepts-read : (R : Reading) (s : List ℕ) (pdu : RtrPdu) (n : ℕ) → Bytes s → read R s ≡ accepted pdu n
     → (out : List ℕ) → encodedLength R pdu ≤ length out
     → encode R pdu s out ≡ record { says = written (encodedLength R pdu); out = encoding R pdu s ++ drop (encodedLength R pdu) out }
-unfolding encode encodeSays headerLength
 encode-accepts-read R s pdu n bs e out room =
     let found : Found R s pdu n = accepted-found R s pdu n bs e in
     let c : (n ≡ headerLength s) × (8 ≤ n) × (n ≤ length s) = read-consumes R s pdu n e in
-    let small : encodedLength R pdu ≤ 4294967295 = omega (arith, four-bytes-fit s bs 4, found .fits) in
-    simp (found .places, found .text, le-leb (encodedLength R pdu) 4294967295 small, le-leb (encodedLength R pdu) (length out) room)
+    let small : encodedLength R pdu ≤ 4294967295 = omega (arith, four-bytes-fit s bs 4, header-is s, found .fits) in
+    tests-write R pdu s out (found .places) (found .text) small room
 
 module _ (R : Reading) (pdu : RtrPdu) (s : List ℕ) (rule : InRule R pdu s) where
   length-written : length (encoding R pdu s) ≡ encodedLength R pdu
   length-written = length-encoding R pdu s (rule .places)
 
   large-written : 8 ≤ encodedLength R pdu
-  unfolding encodedLength
-  large-written = omega (arith, fields-long 2 (layoutOf R pdu) (total-at-4 R pdu))
+  large-written = omega (arith, encoded-length-is R pdu, fields-long 2 (layoutOf R pdu) (total-at-4 R pdu))
 
   header-written : headerLength (encoding R pdu s) ≡ encodedLength R pdu
-  unfolding headerLength encoding
   header-written =
-      total-written s (encoding R pdu s) (behind pdu s) (encodedLength R pdu) (layoutOf R pdu) 2 (valuesIn pdu)
-      (versionNumber (versionOf pdu) ∷ typeNumber (typeOf pdu) ∷ []) (payloads-inside R pdu s (rule .places)) (total-at-4 R pdu) (rule .short) refl refl
+      header-is (encoding R pdu s)
+      ∙ total-written s (encoding R pdu s) (behind pdu s) (encodedLength R pdu) (layoutOf R pdu) 2 (valuesIn pdu)
+      (versionNumber (versionOf pdu) ∷ typeNumber (typeOf pdu) ∷ []) (payloads-inside R pdu s (rule .places)) (total-at-4 R pdu) (rule .short) refl (encoding-is R pdu s)
 
   values-back : valuesOf (layoutOf R pdu) (encoding R pdu s) ≡ placed 2 (layoutOf R pdu) (valuesIn pdu)
-  unfolding encoding
   values-back =
       values-written s (encoding R pdu s) (behind pdu s) (encodedLength R pdu) (layoutOf R pdu) 2 (valuesIn pdu)
-      (versionNumber (versionOf pdu) ∷ typeNumber (typeOf pdu) ∷ []) (payloads-inside R pdu s (rule .places)) (rule .fits) refl refl
+      (versionNumber (versionOf pdu) ∷ typeNumber (typeOf pdu) ∷ []) (payloads-inside R pdu s (rule .places)) (rule .fits) refl (encoding-is R pdu s)
 
   version-written : number (encoding R pdu s) 0 1 ≡ versionNumber (versionOf pdu)
-  unfolding number encoding
-  version-written = simp zero-add
+  version-written = byte-at (encoding R pdu s) 0 ∙ ap (λ (l : List ℕ). getD l 0 0) (encoding-is R pdu s)
 
   type-written : number (encoding R pdu s) 1 1 ≡ typeNumber (typeOf pdu)
-  unfolding number encoding
-  type-written = simp zero-add
+  type-written = byte-at (encoding R pdu s) 1 ∙ ap (λ (l : List ℕ). getD l 1 0) (encoding-is R pdu s)
 
   read-written : read R (encoding R pdu s) ≡ accepted (readBack R pdu) (encodedLength R pdu)
-  unfolding encoding
   read-written =
-      read-kind R (encoding R pdu s) (versionOf pdu) (typeOf pdu) (omega (arith, length-written, large-written)) (omega (arith, length-written, header-written)) version-written type-written
-      ∙ as-back R (encoding R pdu s) pdu s (versionNumber (versionOf pdu) ∷ typeNumber (typeOf pdu) ∷ fixedBytes R pdu s) rule header-written values-back (omega (arith, length-fixed R pdu s (rule .places))) refl
+      let long : encodedLength R pdu ≡ lengthOf (layoutOf R pdu) + behindLength pdu = encoded-length-is R pdu in
+      let head = back-head R pdu in
+      reads-standing R (encoding R pdu s) (readBack R pdu) (encodedLength R pdu)
+      (record {
+        header = large-written;
+        whole = omega (arith, length-written);
+        total = sym header-written;
+        version = version-written ∙ ap versionNumber (sym (head .0));
+        type = type-written ∙ ap typeNumber (sym (head .1));
+        kind =
+            as-back R (encoding R pdu s) pdu s (versionNumber (versionOf pdu) ∷ typeNumber (typeOf pdu) ∷ fixedBytes R pdu s) rule (omega (arith, rule .short))
+            (header-written ∙ long) values-back (omega (arith, length-fixed R pdu s (rule .places))) (encoding-is R pdu s);
+      })
 
   all-there : needed (encoding R pdu s) ≤ length (encoding R pdu s)
-  unfolding needed
-  all-there =
-      simp (le-leb 8 (length (encoding R pdu s)) (omega (arith, length-written, large-written)))
-      (omega (arith, length-written, header-written))
+  all-there = omega (arith, needed-large (encoding R pdu s) (omega (arith, length-written, large-written)), length-written, header-written)
 
 -- reading the encoding of a PDU in rule gives back the PDU, its payloads where the encoding has them, whatever follows
 pub read-of-encode : (R : Reading) (pdu : RtrPdu) (s rest : List ℕ) → InRule R pdu s

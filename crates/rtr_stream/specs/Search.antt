@@ -2,11 +2,9 @@
 use Prim.Native.Nat.{ℕ, _+_}
 use mathlib.Core.Bool.{Bool, true, false, cond, _&&_}
 use mathlib.Core.List.{List, [], _∷_, _++_}
-use mathlib.Core.Path.{_≡_}
 use lib.ListN.{length, take, drop}
 use lib.Dec.{leb, eqb}
 use Rattle.rtr_models.specs.declared.RtrPdu.{RtrPdu}
-use Rattle.rtr_models.specs.declared.Place.{Place}
 use Rattle.rtr_codec.specs.Reading.{Reading, crate}
 use Rattle.rtr_codec.specs.Read.{Verdict}
 use Rattle.rtr_codec.specs.Answers.{refusal}

@@ -7,14 +7,11 @@ use rtr_codec::parse_rtr_pdu;
 use rtr_models::Place;
 use rtr_models::RtrPdu;
 ghost use mathlib.Core.Bool.{true};
-ghost use mathlib.Core.List.{[], _∷_, _++_};
+ghost use mathlib.Core.List.{_++_};
 ghost use mathlib.Core.Path.{_≡_};
 ghost use Prim.Native.Nat.{_+_, _-_, _≤_, _<_};
-ghost use lib.ListN.{length, take, drop, getD};
-ghost use Rattle.rtr_codec.specs.Reading.{crate};
+ghost use lib.ListN.{length, take, drop};
 ghost use Rattle.rtr_codec.specs.Answers.{numberOf};
-ghost use Rattle.rtr_stream.specs.Stream.{judge};
-ghost use Rattle.rtr_stream.specs.Stream.Heard.{waits};
 ghost use Rattle.rtr_stream.specs.Search.{isStream, search, searchSaid, streamRefusal, outcomeOf};
 ghost use Rattle.rtr_stream.specs.Turns.{LengthTested, Turned, ReadHere, HeaderHere, searchHere};
 

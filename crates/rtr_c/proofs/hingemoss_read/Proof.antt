@@ -1,6 +1,5 @@
 -- `hingemoss_read` tests the length, reads, and writes the PDU's numbers. Assumes nothing.
-use mathlib.Core.Path.{_≡_, refl, sym, ap, _∙_}
-use borrow.Author.Tests.{eq-eqb, ne-eqb}
+use borrow.Author.Tests.{ne-eqb}
 use denote.Ref.{now}
 use Rattle.rtr_c.specs.Calls.{readC}
 use Rattle.rtr_c.proofs.Steps.{read-accepted, read-refused}

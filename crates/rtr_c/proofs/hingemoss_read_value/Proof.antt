@@ -1,5 +1,5 @@
 -- `hingemoss_read_value` reads, and gives the refusal's value. Assumes nothing.
-use mathlib.Core.Path.{_≡_, refl, sym, ap, _∙_}
+use mathlib.Core.Path.{sym, ap, _∙_}
 use Rattle.rtr_codec.specs.Answers.{verdict}
 use Rattle.rtr_numbers.specs.Numbers.{valueOf}
 use borrow.Author.Needs.{needs}

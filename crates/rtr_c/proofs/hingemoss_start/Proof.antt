@@ -1,6 +1,6 @@
 -- `hingemoss_start` tests the length and the version, starts, and writes the session's numbers. Assumes nothing.
 use native.Mathlib.Omega.{arith}
-use borrow.Author.Tests.{eq-eqb, ne-eqb}
+use borrow.Author.Tests.{ne-eqb}
 use denote.Ref.{now}
 use Rattle.rtr_c.specs.Calls.{startC}
 use Rattle.rtr_c.proofs.Steps.{reads-back, begins, start-unknown, start-started, start-refused}

@@ -16,10 +16,9 @@ use ghost.Atoms.{Atoms, sem}
 use contract.Lifetimes.{AllOutlive}
 use contract.Monad.{Fun, fact}
 use contract.Running.{givenOf, tables, tablesOf}
-use types.Kit.{Given, Item, ‵, raw, _⊛_, ⋆, mean, _$_, _∵_, !, qed, move, use1, use2, join, fjoin, fjoin3, feqI, suffices, frame, done}
+use types.Kit.{Given, Item, ‵, raw, _⊛_, ⋆, mean, _$_, _∵_, !, qed, move, use1, join, fjoin, fjoin3, feqI, suffices, frame, done}
 use types.SemTy.{Body}
 use sound.WpLaws.{FmC, fmOf, WpFn-mono}
-use denote.RattleType.{owns}
 use denote.Laws.{Is}
 use denote.Memory.{mem, pointee}
 use denote.Plain.{uint-makes}

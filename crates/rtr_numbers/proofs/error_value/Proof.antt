@@ -1,5 +1,5 @@
 -- `error_value` goes by the place; behind the third there is none. Assumes nothing.
-use mathlib.Core.Path.{_≡_, refl, sym, ap, _∙_}
+use mathlib.Core.Path.{sym, ap, _∙_}
 use Prim.Native.Nat.{ℕ}
 use native.Mathlib.Omega.{arith}
 use Rattle.rtr_codec.specs.Answers.{refusal}

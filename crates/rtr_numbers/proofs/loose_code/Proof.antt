@@ -1,5 +1,5 @@
 -- `loose_code` finds in the table of codes. Assumes nothing.
-use mathlib.Core.Path.{_≡_, refl, sym, ap, _∙_}
+use mathlib.Core.Path.{sym, ap, _∙_}
 use Rattle.rtr_models.specs.Codes.{codeFound}
 use Rattle.rtr_numbers.specs.Back.{codeOr}
 use borrow.Author.Needs.{needs}

@@ -1,5 +1,5 @@
 -- `loose_note` goes by number 12. Assumes nothing.
-use mathlib.Core.Path.{_≡_, refl, sym, ap, _∙_}
+use mathlib.Core.Path.{sym, _∙_}
 use borrow.Author.Tests.{eq-eqb, ne-eqb}
 use Rattle.rtr_numbers.specs.Back.{looseNote}
 use borrow.Author.Needs.{needs}

@@ -1,6 +1,6 @@
 -- `loose_phase` goes by number 1. Assumes nothing.
-use mathlib.Core.Path.{_≡_, refl, sym, ap, _∙_}
-use borrow.Author.Tests.{eq-eqb, ne-eqb}
+use mathlib.Core.Path.{sym, _∙_}
+use borrow.Author.Tests.{ne-eqb}
 use Rattle.rtr_numbers.specs.Back.{loosePhase}
 use borrow.Author.Needs.{needs}
 use Rattle.rtr_numbers.proofs.loose_phase.Statement.{statement}

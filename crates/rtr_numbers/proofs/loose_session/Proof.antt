@@ -1,6 +1,5 @@
 -- `loose_session` guesses part by part. Assumes nothing.
-use mathlib.Core.Path.{_≡_, refl, sym, ap, _∙_}
-use Prim.Native.Nat.{ℕ}
+use mathlib.Core.Path.{ap, _∙_}
 use Rattle.rtr_numbers.specs.Back.{looseVersion, looseSession}
 use borrow.Author.Needs.{needs}
 use Rattle.rtr_numbers.proofs.loose_session.Statement.{statement}

@@ -1,5 +1,5 @@
 -- `loose_stop` goes by the number. Assumes nothing.
-use borrow.Author.Tests.{eq-eqb, ne-eqb}
+use borrow.Author.Tests.{ne-eqb}
 use Rattle.rtr_numbers.specs.Back.{looseStop}
 use borrow.Author.Needs.{needs}
 use Rattle.rtr_numbers.proofs.loose_stop.Statement.{statement}

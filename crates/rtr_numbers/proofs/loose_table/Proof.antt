@@ -1,5 +1,5 @@
 -- `loose_table` goes by number 6. Assumes nothing.
-use mathlib.Core.Path.{_≡_, refl, sym, ap, _∙_}
+use mathlib.Core.Path.{sym, _∙_}
 use borrow.Author.Tests.{eq-eqb, ne-eqb}
 use Rattle.rtr_numbers.specs.Back.{looseTable}
 use borrow.Author.Needs.{needs}

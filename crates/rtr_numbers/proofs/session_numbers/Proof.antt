@@ -1,5 +1,5 @@
 -- `session_numbers` writes each part's numbers. Assumes nothing.
-use mathlib.Core.Path.{_≡_, refl, sym, ap, _∙_}
+use mathlib.Core.Path.{ap, _∙_}
 use mathlib.Core.List.{[], _∷_}
 use Rattle.rtr_receiver.specs.declared.Table.{Table}
 use Rattle.rtr_numbers.specs.Numbers.{numbersOf}

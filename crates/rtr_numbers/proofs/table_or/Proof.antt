@@ -1,5 +1,5 @@
 -- `table_or` goes by the case. Assumes nothing.
-use mathlib.Core.Path.{_≡_, refl, sym, ap, _∙_}
+use mathlib.Core.Path.{sym, ap}
 use Rattle.rtr_numbers.specs.Numbers.{tableOr}
 use borrow.Author.Needs.{needs}
 use Rattle.rtr_numbers.proofs.table_or.Statement.{statement}

@@ -1,5 +1,5 @@
 -- `loose_end` takes number after number. Assumes nothing.
-use mathlib.Core.Path.{_≡_, refl, sym, ap, _∙_}
+use mathlib.Core.Path.{ap, _∙_}
 use Prim.Native.Nat.{ℕ, _%_}
 use Rattle.rtr_pdu_numbers.specs.Back.{looseInterval}
 use Rattle.rtr_models.specs.declared.RtrPdu.the-variants.{EndOfData}

@@ -1,5 +1,5 @@
 -- `loose_ipv4` takes number after number. Assumes nothing.
-use mathlib.Core.Path.{_≡_, refl, sym, ap, _∙_}
+use mathlib.Core.Path.{ap, _∙_}
 use Prim.Native.Nat.{ℕ, _%_}
 use Rattle.rtr_models.specs.declared.RtrPdu.the-variants.{IPv4Prefix}
 use borrow.Author.Needs.{needs}

@@ -1,5 +1,5 @@
 -- `loose_place` takes two numbers. Assumes nothing.
-use mathlib.Core.Path.{_≡_, refl, sym, ap, _∙_}
+use mathlib.Core.Path.{_∙_}
 use borrow.Author.Needs.{needs}
 use Rattle.rtr_pdu_numbers.proofs.loose_place.Statement.{statement}
 use Rattle.rtr_pdu_numbers.proofs.loose_place.Tie as tie

@@ -1,6 +1,5 @@
 -- `loose_report` takes number after number. Assumes nothing.
-use mathlib.Core.Path.{_≡_, refl, sym, ap, _∙_}
-use Prim.Native.Nat.{ℕ, _%_}
+use mathlib.Core.Path.{ap, _∙_}
 use Rattle.rtr_numbers.specs.Back.{looseCode}
 use Rattle.rtr_models.specs.declared.RtrPdu.the-variants.{ErrorReport}
 use borrow.Author.Needs.{needs}

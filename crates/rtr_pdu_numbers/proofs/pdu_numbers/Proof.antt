@@ -1,5 +1,5 @@
 -- `pdu_numbers` goes by the kind. Assumes nothing.
-use mathlib.Core.Path.{_≡_, refl, sym, ap, _∙_}
+use mathlib.Core.Path.{sym, ap, _∙_}
 use Rattle.rtr_models.specs.declared.RtrPdu.{RtrPdu}
 use Rattle.rtr_pdu_numbers.specs.Numbers.{pduNumbers}
 use borrow.Author.Needs.{needs}

@@ -1,5 +1,5 @@
 -- `seconds` goes by the version. Assumes nothing.
-use mathlib.Core.Path.{_≡_, refl, sym, ap, _∙_}
+use mathlib.Core.Path.{_∙_}
 use borrow.Author.Needs.{needs}
 use Rattle.rtr_pdu_numbers.proofs.seconds.Statement.{statement}
 use Rattle.rtr_pdu_numbers.proofs.seconds.Tie as tie

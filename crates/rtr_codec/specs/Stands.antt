@@ -1,0 +1,108 @@
+-- When a PDU is read, said of the PDU: which of its numbers stands at which byte, and which checks hold. RFC 8210, sections 5.2 to 5.11, byte by byte; for a Router Key and for an Error Report's end and codes the switches of a
+-- `Reading`. `read-exactly` (proofs/Exactly.antt): a slice is read as a PDU of n bytes exactly if the PDU stands so in it. So this is reading a second time, without an order of checks.
+use Prim.Native.Nat.{ℕ, _+_, _-_, _≤_}
+use mathlib.Core.Bool.{Bool, true, false}
+use mathlib.Core.List.{List}
+use mathlib.Core.Path.{_≡_}
+use lib.ListN.{length, take, drop}
+use Rattle.rtr_text.specs.Utf8.{wellFormed}
+use Rattle.rtr_models.specs.Codes.{versionNumber, typeNumber, codeNumber}
+use Rattle.rtr_models.specs.Values.{typeOf, versionOf}
+use Rattle.rtr_models.specs.declared.Place.{Place}
+use Rattle.rtr_models.specs.declared.Interval.the-variants.{Absent, Seconds}
+use Rattle.rtr_models.specs.declared.RtrProtocolVersion.{RtrProtocolVersion}
+use Rattle.rtr_models.specs.declared.RtrProtocolVersion.the-variants.{V0, V1}
+use Rattle.rtr_models.specs.declared.RtrEndOfData.{RtrEndOfData}
+use Rattle.rtr_models.specs.declared.RtrRouterKey.{RtrRouterKey}
+use Rattle.rtr_models.specs.declared.RtrErrorReport.{RtrErrorReport}
+use Rattle.rtr_models.specs.declared.RtrPdu.{RtrPdu}
+use Rattle.rtr_models.specs.declared.RtrPdu.the-variants.{SerialNotify, SerialQuery, ResetQuery, CacheResponse, IPv4Prefix, IPv6Prefix, EndOfData, CacheReset, RouterKey, ErrorReport}
+use Rattle.rtr_codec.specs.Bytes.{number}
+use Rattle.rtr_codec.specs.Reading.{Reading}
+use Rattle.rtr_codec.specs.Read.{headerLength, ends, codeIn}
+
+abbrev pub place : ℕ → ℕ → Place
+place start len = record { start = start; len = len }
+
+-- 5.8: version 0 has no intervals
+abbrev pub endStands : RtrProtocolVersion → RtrEndOfData → List ℕ → Type 0
+endStands V0 p s =
+    (headerLength s ≡ 12)
+    × (number s 2 2 ≡ p .«session_id»)
+    × (number s 8 4 ≡ p .«serial_number»)
+    × (Absent ≡ p .«refresh_interval»)
+    × (Absent ≡ p .«retry_interval»)
+    × (Absent ≡ p .«expire_interval»)
+endStands V1 p s =
+    (headerLength s ≡ 24)
+    × (number s 2 2 ≡ p .«session_id»)
+    × (number s 8 4 ≡ p .«serial_number»)
+    × (Seconds (number s 12 4) ≡ p .«refresh_interval»)
+    × (Seconds (number s 16 4) ≡ p .«retry_interval»)
+    × (Seconds (number s 20 4) ≡ p .«expire_interval»)
+
+-- 5.10: flags at byte 2, identifier, AS number, and the key info to the end; in the crate's arrangement flags at byte 8
+abbrev pub keyStands : Bool → RtrRouterKey → List ℕ → Type 0
+keyStands false p s =
+    (32 ≤ headerLength s)
+    × (number s 2 1 ≡ p .flags)
+    × (place 8 20 ≡ p .«subject_key_identifier»)
+    × (number s 28 4 ≡ p .asn)
+    × (place 32 (headerLength s - 32) ≡ p .«subject_public_key_info»)
+keyStands true p s =
+    (34 ≤ headerLength s)
+    × (number s 8 1 ≡ p .flags)
+    × (place 10 20 ≡ p .«subject_key_identifier»)
+    × (number s 30 4 ≡ p .asn)
+    × (place 34 (headerLength s - 34) ≡ p .«subject_public_key_info»)
+
+-- 5.11: the copy of e bytes behind its length at byte 8, the text of t bytes behind its own
+abbrev pub reportStands : Reading → RtrErrorReport → ℕ → ℕ → List ℕ → Type 0
+reportStands R p e t s =
+    (number s 2 2 ≡ codeNumber (p .«error_code»))
+    × (codeIn (R .codeEightInV0) (p .version) (number s 2 2) ≡ true)
+    × (place 12 e ≡ p .«erroneous_pdu»)
+    × (place (16 + e) t ≡ p .«error_text»)
+    × (ends (R .bytesBehindText) (16 + e + t) (headerLength s) ≡ true)
+    × (wellFormed (take t (drop (16 + e) s)) ≡ true)
+
+-- behind the header, by kind
+abbrev pub kindStands : Reading → List ℕ → RtrPdu → Type 0
+kindStands R s (SerialNotify p) = (headerLength s ≡ 12) × (number s 2 2 ≡ p .«session_id») × (number s 8 4 ≡ p .«serial_number»)
+kindStands R s (SerialQuery p) = (headerLength s ≡ 12) × (number s 2 2 ≡ p .«session_id») × (number s 8 4 ≡ p .«serial_number»)
+kindStands R s (ResetQuery p) = headerLength s ≡ 8
+kindStands R s (CacheResponse p) = (headerLength s ≡ 8) × (number s 2 2 ≡ p .«session_id»)
+kindStands R s (IPv4Prefix p) =
+    (headerLength s ≡ 20)
+    × (number s 8 1 ≡ p .flags)
+    × (number s 9 1 ≡ p .«prefix_length»)
+    × (number s 10 1 ≡ p .«max_length»)
+    × (number s 12 4 ≡ p .prefix)
+    × (number s 16 4 ≡ p .asn)
+    × (p .«prefix_length» ≤ p .«max_length»)
+    × (p .«max_length» ≤ 32)
+kindStands R s (IPv6Prefix p) =
+    (headerLength s ≡ 32)
+    × (number s 8 1 ≡ p .flags)
+    × (number s 9 1 ≡ p .«prefix_length»)
+    × (number s 10 1 ≡ p .«max_length»)
+    × (number s 12 4 ≡ p .prefix .w0)
+    × (number s 16 4 ≡ p .prefix .w1)
+    × (number s 20 4 ≡ p .prefix .w2)
+    × (number s 24 4 ≡ p .prefix .w3)
+    × (number s 28 4 ≡ p .asn)
+    × (p .«prefix_length» ≤ p .«max_length»)
+    × (p .«max_length» ≤ 128)
+kindStands R s (EndOfData p) = endStands (p .version) p s
+kindStands R s (CacheReset p) = headerLength s ≡ 8
+kindStands R s (RouterKey p) = (V1 ≡ p .version) × keyStands (R .keyByCrate) p s
+kindStands R s (ErrorReport p) = reportStands R p (number s 8 4) (number s (12 + number s 8 4) 4) s
+
+-- the PDU stands in the first n bytes of s
+pub record Stands (R : Reading) (s : List ℕ) (pdu : RtrPdu) (n : ℕ) : Type 0 where
+  pub header : 8 ≤ n
+  pub whole : n ≤ length s
+  pub total : n ≡ headerLength s
+  pub version : number s 0 1 ≡ versionNumber (versionOf pdu)
+  pub type : number s 1 1 ≡ typeNumber (typeOf pdu)
+  pub kind : kindStands R s pdu
