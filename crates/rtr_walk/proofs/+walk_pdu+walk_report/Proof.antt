@@ -1,7 +1,7 @@
 -- The proof of the cycle of calls {walk_pdu, walk_report}. `walk_pdu` hands the same `left` to `walk_report`, which calls back with one fewer,
 -- so the measures are 2 * left + 1 and 2 * left. Each way through a body is one step of the walk, of Steps.antt; what a callee promises is
 -- the rest of it. Assumes nothing.
-use Prim.Native.Nat.{ℕ, _+_, _*_}
+use Prim.Native.Nat.{ℕ, _+_, _*_, _<_}
 use mathlib.Core.Path.{sym, ap, _∙_}
 use native.Mathlib.Omega.{arith}
 use borrow.Author.Needs.{needs}
