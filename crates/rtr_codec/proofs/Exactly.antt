@@ -42,7 +42,7 @@ in-order a b limit e = go (leb a b) (leb b limit) refl refl e
     go false q s t e = absurd (let z : _≡_ {A = ℕ} 0 1 = cc in omega arith)
 
 -- a text that ends in rule does not end behind the PDU
-ends-within : (b : Bool) (x h : ℕ) → ends b x h ≡ true → x ≤ h
+pub ends-within : (b : Bool) (x h : ℕ) → ends b x h ≡ true → x ≤ h
 ends-within true x h e = leb-true x h e
 ends-within false x h e = omega (arith, eqb-true x h e)
 

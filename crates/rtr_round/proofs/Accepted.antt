@@ -6,7 +6,7 @@ use mathlib.Core.List.{List, [], _∷_, _++_}
 use mathlib.Core.Logic.{_↔_}
 use mathlib.Core.Path.{_≡_, refl, sym, ap, _∙_, subst}
 use native.Mathlib.Omega.{arith}
-use borrow.Author.Tests.{eqb-true, leb-true, le-leb}
+use borrow.Author.Tests.{le-leb}
 use lib.ListN.{length, getD, take, drop}
 use Rattle.rtr_models.specs.Codes.{versionNumber, typeNumber}
 use Rattle.rtr_models.specs.Values.{secondsOr, typeOf, versionOf}
@@ -22,10 +22,10 @@ use Rattle.rtr_models.specs.declared.RtrPdu.the-variants.{SerialNotify, SerialQ
 use Rattle.rtr_codec.specs.Bytes.{number}
 use Rattle.rtr_codec.specs.Reading.{Reading}
 use Rattle.rtr_codec.specs.Layout.{endLayout, lengthOf, valuesOf}
-use Rattle.rtr_codec.specs.Read.{ends, headerLength, keyFields, read}
+use Rattle.rtr_codec.specs.Read.{headerLength, keyFields, read}
 use Rattle.rtr_codec.specs.Read.Verdict.{accepted}
 use Rattle.rtr_codec.specs.Stands.{place, endStands, keyStands, reportStands, Stands}
-use Rattle.rtr_codec.proofs.Exactly.{stands-read}
+use Rattle.rtr_codec.proofs.Exactly.{ends-within, stands-read}
 use Rattle.rtr_encode.specs.Encode.{bytesOf, layoutOf, endValues, valuesIn, behind, behindLength, encodedLength, placesInside, textIn}
 use Rattle.rtr_encode.proofs.Laws.{encoded-length-is}
 use Rattle.rtr_round.specs.RoundTrip.{Bytes, nothingBehind, kindInRule, endBack, keyStart, readBack}
@@ -91,11 +91,6 @@ key-is false p s v k = λ i. record { version = v i; flags = k .1 i; «subject_k
 key-long : (byCrate : Bool) (p : RtrRouterKey) (s : List ℕ) → keyStands byCrate p s → lengthOf (keyFields byCrate) ≤ headerLength s
 key-long true p s k = k .0
 key-long false p s k = k .0
-
--- where a text ends in rule, it does not end behind the PDU
-ends-within : (b : Bool) (x h : ℕ) → ends b x h ≡ true → x ≤ h
-ends-within true x h e = leb-true x h e
-ends-within false x h e = omega (arith, eqb-true x h e)
 
 module _ (R : Reading) (s : List ℕ) (n : ℕ) where
   -- a PDU of fixed fields alone, as long as they are
