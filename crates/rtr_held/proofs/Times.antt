@@ -2,25 +2,20 @@
 -- (`times-unique`). They keep receiver shape (`times-shape`), and so many and so many more are as many together (`times-join`). A feed reads the hold up to the held count, and its length: memories that are alike up to there (`Alike`) lead to such memories. Assumes nothing.
 use Prim.Native.Nat.{ℕ, zero, suc, _+_}
 use native.Mathlib.Nat.{add-zero, add-suc}
-use mathlib.Core.Bool.{Bool, true, false, cond, _&&_}
+use mathlib.Core.Bool.{Bool, true, false}
 use mathlib.Core.List.{List, [], _∷_, _++_, append-assoc, append-nil}
 use mathlib.Core.Path.{_≡_, refl, sym, ap, _∙_, subst}
 use denote.Ref.{RefT}
-use lib.Dec.{leb}
 use lib.ListN.{length, take, replicate}
 use Rattle.rtr_models.specs.declared.RtrProtocolVersion.{RtrProtocolVersion}
-use Rattle.rtr_codec.specs.Reading.{crate}
-use Rattle.rtr_stream.specs.Stream.{judge}
-use Rattle.rtr_stream.specs.Search.{isStream, isWaits}
-use Rattle.rtr_room.specs.Room.{records, isRoom}
 use Rattle.rtr_receiver.specs.History.{tableOf, finished}
-use Rattle.rtr_receiver.specs.Receiver.{feed}
-use Rattle.rtr_receiver.specs.Promises.{FeedSays, stageOf, inOrder, isReceiver, receiverOf, leaves, fedTo, feedSays, fedSaid}
+use Rattle.rtr_receiver.specs.Promises.{isReceiver, feedSays, fedSaid}
 use Rattle.rtr_receiver.specs.Runs.{Memory, Call, Step, Run, liveIn, historyOf}
 use Rattle.rtr_receiver.specs.declared.Session.{Session}
 use Rattle.rtr_receiver.specs.declared.Fed.{Fed}
 use Rattle.rtr_receiver.specs.declared.FeedAnswer.{FeedAnswer}
 use Rattle.rtr_receiver.proofs.Laws.{refused-keeps-feed, keeps-shape}
+use Rattle.rtr_receiver.proofs.Shaped.{shape-alike, feed-alike}
 use Rattle.rtr_receiver.proofs.Runs.{history}
 use Rattle.rtr_receiver.proofs.Unique.{feed-unique}
 use Rattle.rtr_held.specs.Times.{FedTimes}
@@ -64,17 +59,6 @@ one-feed s live working hold piece r r′ live1 working1 hold1 live2 working2 ho
 
 -- two holds of one length, with the same bytes held
 module _ (s : Session) (live working hold hold′ : List ℕ) (size : length hold ≡ length hold′) (same : take (s .held) hold ≡ take (s .held) hold′) where
-  shape-alike : isReceiver 1024 s live working hold ≡ isReceiver 1024 s live working hold′
-  unfolding isReceiver isStream
-  shape-alike = λ i. isRoom 1024 (s .live) live && (isRoom 1024 (s .working) working && ((leb 8 (size i) && (leb (s .held) (size i) && isWaits (judge crate (size i) (same i)))) && inOrder s))
-
-  says-alike : (piece : List ℕ) → isReceiver 1024 s live working hold ≡ true → feedSays 1024 s live working hold piece ≡ feedSays 1024 s live working hold′ piece
-  unfolding feedSays
-  says-alike piece e =
-      ap (λ (b : Bool). cond b (fedTo 1024 (feed 1024 (length hold) (receiverOf s live working hold) piece)) (FeedSays.refusedFeed 22 0 0 (leaves s live working hold) hold)) e
-      ∙ (λ i. fedTo 1024 (feed 1024 (size i) (record { version = s .version; stage = stageOf (s .phase); table = s .table; note = s .note; live = records (s .live) live; working = records (s .working) working; held = same i }) piece))
-      ∙ sym (ap (λ (b : Bool). cond b (fedTo 1024 (feed 1024 (length hold′) (receiverOf s live working hold′) piece)) (FeedSays.refusedFeed 22 0 0 (leaves s live working hold′) hold′)) (sym shape-alike ∙ e))
-
   -- a refused feed
   abbrev still : Fed
   still = record { session = s; done = record { taken = 0; updates = 0; answer = FeedAnswer.NotAReceiver } }
@@ -85,11 +69,11 @@ module _ (s : Session) (live working hold hold′ : List ℕ) (size : length hol
     where
       by-shape : (b : Bool) → isReceiver 1024 s live working hold ≡ b → (r .session ≡ r′ .session) × (live1 ≡ live2) × (working1 ≡ working2) × (take (r .session .held) hold1 ≡ take (r′ .session .held) hold2)
       by-shape true e =
-          let one = one-feed s live working hold piece r r′ live1 working1 hold1 live2 working2 hold2 p (q ∙ sym (says-alike piece e)) in
+          let one = one-feed s live working hold piece r r′ live1 working1 hold1 live2 working2 hold2 p (q ∙ sym (feed-alike 1024 s live working hold hold′ size same piece e)) in
           (ap (λ (f : Fed). f .session) (one .0), one .1, one .2, one .3)
       by-shape false e =
           let one = one-feed s live working hold piece r still live1 working1 hold1 live working hold p (sym (refused-keeps-feed 1024 s live working hold piece e)) in
-          let other = one-feed s live working hold′ piece r′ still live2 working2 hold2 live working hold′ q (sym (refused-keeps-feed 1024 s live working hold′ piece (sym shape-alike ∙ e))) in
+          let other = one-feed s live working hold′ piece r′ still live2 working2 hold2 live working hold′ q (sym (refused-keeps-feed 1024 s live working hold′ piece (sym (shape-alike 1024 s live working hold hold′ size same) ∙ e))) in
           (ap (λ (f : Fed). f .session) (one .0 ∙ sym (other .0)), one .1 ∙ sym (other .1), one .2 ∙ sym (other .2), one .3 ∙ same ∙ sym (other .3))
 
 -- the same record and rooms, the same bytes held, and holds of one length

@@ -1,10 +1,12 @@
--- The laws that higher crates and readers cite of the receiver's calls, over every limit: a refused call changes nothing; every call keeps receiver shape; what a feed takes and counts;
+-- The laws that higher crates and readers cite of the receiver's calls, over every limit: a refused call changes nothing, and when a start is refused; every call keeps receiver shape; what a feed takes and counts;
 -- a stop clears and repeats. Each is about the promises of specs/Promises.antt. Assumes nothing.
 use Prim.Native.Nat.{ℕ, suc, _+_, _*_, _≤_, _<_}
 use mathlib.Core.Bool.{Bool, true, false, cond, _&&_}
 use mathlib.Core.List.{List, []}
+use mathlib.Core.Logic.{_↔_}
 use mathlib.Core.Path.{_≡_, refl, sym, ap, _∙_, subst}
 use native.Mathlib.Omega.{arith}
+use borrow.Author.Tests.{leb-true, le-leb, eqb-true, eq-eqb}
 use lib.Dec.{eqb, leb}
 use lib.ListN.{length, take}
 use Rattle.rtr_models.specs.declared.RtrProtocolVersion.{RtrProtocolVersion}
@@ -41,6 +43,25 @@ refused-keeps-start limit v live working hold live′ working′ k e = go (eqb (
     go : (b : Bool) → cond b (StartSays.started (inMemory limit (fresh v))) (StartSays.refusedStart 22 live working) ≡ StartSays.refusedStart k live′ working′ → (live′ ≡ live) × (working′ ≡ working) × (k ≡ 22)
     go true q = absurd (let z : _≡_ {A = ℕ} 0 1 = cc in omega arith)
     go false q = let a : live′ ≡ live = cc in let b : working′ ≡ working = cc in let c : k ≡ 22 = cc in (a, b, c)
+
+-- a start begins, and a fresh receiver, exactly where both rooms are rooms of the limit and the hold has 8 bytes or more
+pub start-exactly : (limit : ℕ) (v : RtrProtocolVersion) (live working hold : List ℕ) (left : Left) →
+    (startSays limit v live working hold ≡ StartSays.started left) ↔ ((left ≡ inMemory limit (fresh v)) × (length live ≡ 6 * limit) × (length working ≡ 6 * limit) × (8 ≤ length hold))
+unfolding startSays
+start-exactly limit v live working hold left = (go (eqb (length live) (6 * limit)) (eqb (length working) (6 * limit)) (leb 8 (length hold)) refl refl refl, back)
+  where
+    go : (a b c : Bool) → eqb (length live) (6 * limit) ≡ a → eqb (length working) (6 * limit) ≡ b → leb 8 (length hold) ≡ c →
+        cond (a && (b && c)) (StartSays.started (inMemory limit (fresh v))) (StartSays.refusedStart 22 live working) ≡ StartSays.started left →
+        (left ≡ inMemory limit (fresh v)) × (length live ≡ 6 * limit) × (length working ≡ 6 * limit) × (8 ≤ length hold)
+    go true true true x y z q = let same : left ≡ inMemory limit (fresh v) = cc in (same, eqb-true _ _ x, eqb-true _ _ y, leb-true _ _ z)
+    go true true false x y z q = absurd (let o : _≡_ {A = ℕ} 0 1 = cc in omega arith)
+    go true false c x y z q = absurd (let o : _≡_ {A = ℕ} 0 1 = cc in omega arith)
+    go false b c x y z q = absurd (let o : _≡_ {A = ℕ} 0 1 = cc in omega arith)
+
+    back : (left ≡ inMemory limit (fresh v)) × (length live ≡ 6 * limit) × (length working ≡ 6 * limit) × (8 ≤ length hold) → startSays limit v live working hold ≡ StartSays.started left
+    back h =
+        (λ i. cond (eq-eqb (length live) (6 * limit) (h .1) i && (eq-eqb (length working) (6 * limit) (h .2) i && le-leb 8 (length hold) (h .3) i)) (StartSays.started (inMemory limit (fresh v))) (StartSays.refusedStart 22 live working))
+        ∙ ap StartSays.started (sym (h .0))
 
 -- a refused ask changes neither receiver nor output
 refused-query : (q : Query) (r : Receiver) (out : List ℕ) (k : ℕ) (x : List ℕ) → ask q r out .says ≡ Writing.refused k x → (ask q r out .receiver ≡ r) × (ask q r out .out ≡ out)

@@ -1,4 +1,4 @@
--- `Laws`, `Shape`, `Unique`, `Runs` (demand 3), `Coded` and `Examples` are for readers and other crates; the others are the argument.
+-- `Laws`, `Shaped`, `Shape`, `Unique`, `Runs` (demand 3), `Coded` and `Examples` are for readers and other crates; the others are the argument.
 pub mod Memory
 pub mod Shape
 mod Calls
@@ -10,6 +10,7 @@ mod Good
 mod Steps
 mod Stepping
 pub mod Laws
+pub mod Shaped
 pub mod Unique
 pub mod Histories
 pub mod Counts

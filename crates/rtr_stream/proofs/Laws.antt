@@ -2,11 +2,12 @@
 -- what is held waits; and anything that goes by the bytes one by one goes by searches (`by-search`): that is the one lemma by which code
 -- that takes runs of bytes is code that takes bytes. Assumes nothing.
 use Prim.Native.Nat.{ℕ, suc, _+_, _-_, _≤_, _<_}
-use mathlib.Core.Bool.{true}
+use mathlib.Core.Bool.{true, _&&_}
 use mathlib.Core.List.{List, [], _∷_, _++_}
 use mathlib.Core.Logic.{_⊎_, inl, inr}
 use mathlib.Core.Path.{_≡_, refl, sym, ap, _∙_, subst}
 use native.Mathlib.Omega.{arith}
+use lib.Dec.{leb}
 use lib.ListN.{length, take, drop, length-append}
 use Rattle.rtr_models.specs.declared.RtrPdu.{RtrPdu}
 use Rattle.rtr_codec.specs.Reading.{Reading, crate}
@@ -14,7 +15,7 @@ use Rattle.rtr_codec.specs.Read.{Verdict, headerLength, read, needed}
 use Rattle.rtr_codec.proofs.Laws.{header-stays, read-consumes}
 use Rattle.rtr_stream.specs.Stream.{Heard, longest, heardOf, judge, Found, State, Listened, fresh, after, onByteIn, onByte, onPiece, onPieces}
 use Rattle.rtr_stream.specs.Stream.Heard.{waits, whole, refused}
-use Rattle.rtr_stream.specs.Search.{End, Search, over, searchFrom, isStream, outcomeOf, search, Outcome, searchSaid}
+use Rattle.rtr_stream.specs.Search.{End, Search, over, searchFrom, isWaits, isStream, outcomeOf, search, Outcome, searchSaid}
 use Rattle.rtr_stream.specs.declared.Searched.{Searched}
 use Rattle.rtr_stream.proofs.Runs.{runs-out}
 use Rattle.rtr_stream.proofs.Judge.{Waiting, waiting-grows, IsStream, judge-short, waits-waiting, waiting-waits, is-stream, stream-is, refused-numbers, whole-pdu, whole-exactly, few-or-many, judge-whole, judge-cut}
@@ -286,6 +287,11 @@ stream-exactly hold held h l w = is-stream (record { size = h; within = l; waiti
 pub stream-has : (hold : List ℕ) (held : ℕ) → isStream hold held ≡ true → (8 ≤ length hold) × (held ≤ length hold) × (judge crate (length hold) (take held hold) ≡ waits)
 stream-has hold held e =
     let i : IsStream hold held = stream-is hold held e in (i .size, i .within, waiting-waits crate (i .waiting))
+
+-- holds of one length with the same bytes held are alike: nothing is read past the held count
+pub stream-alike : (hold hold′ : List ℕ) (held : ℕ) → length hold ≡ length hold′ → take held hold ≡ take held hold′ → isStream hold held ≡ isStream hold′ held
+unfolding isStream
+stream-alike hold hold′ held size same = λ i. leb 8 (size i) && (leb held (size i) && isWaits (judge crate (size i) (same i)))
 
 -- what a search says of a stream
 pub search-is
