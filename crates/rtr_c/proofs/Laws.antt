@@ -2,8 +2,7 @@
 -- reconnect that does not answer 0 changes nothing, and neither does a feed that answers 22. Assumes nothing.
 use Prim.Native.Nat.{ℕ}
 use mathlib.Core.Bool.{Bool, true, false, cond}
-use mathlib.Core.List.{List, [], _∷_}
-use mathlib.Core.Logic.{_⊎_, inl, inr}
+use mathlib.Core.List.{List}
 use mathlib.Core.Path.{_≡_, refl, sym, ap, _∙_}
 use native.Mathlib.Omega.{arith}
 use borrow.Author.Tests.{leb-true, leb-false}
@@ -11,24 +10,15 @@ use lib.Dec.{eqb, leb}
 use lib.ListN.{length}
 use Rattle.rtr_models.specs.Codes.{versionFound}
 use Rattle.rtr_models.specs.declared.VersionFound.{VersionFound}
-use Rattle.rtr_codec.specs.declared.RtrError.the-variants.{IncompletePdu, InvalidProtocolVersion, InvalidPduType, InvalidLength, RouterKeyInV0, InvalidPrefixLength, InvalidErrorCode, InvalidUtf8}
-use Rattle.rtr_codec.specs.Reading.{crate}
 use Rattle.rtr_encode.specs.Encode.{Writing, Encoded}
 use Rattle.rtr_encode.specs.Answers.{numberOf}
-use Rattle.rtr_encode.proofs.Laws.{reset-query-says, serial-query-says}
-use Rattle.rtr_stream.specs.declared.StreamError.{StreamError}
 use Rattle.rtr_room.specs.Room.{records}
 use Rattle.rtr_listing.specs.Listing.{listing}
 use Rattle.rtr_listing.specs.Promises.{puts, isListed}
 use Rattle.rtr_listing.proofs.Laws.{written-is, short-is, refused-is, listed-is, receiver-is-listed}
-use Rattle.rtr_receiver.specs.Receiver.{Stage, Receiver, feed, fullQuery, serialQuery, changeQuery, askedBy, ask}
-use Rattle.rtr_receiver.specs.Receiver.Stage.{idle, mustReset, askedFull, askedChange, loading, stopped}
-use Rattle.rtr_receiver.specs.Promises.{Left, Ending, FeedSays, StartSays, AskSays, NotifySays, isReceiver, receiverOf, leaves, stageOf, fedTo, askedTo, feedSays, startSays, fullAskSays, changeAskSays, reconnectSays, notifySays}
-use Rattle.rtr_receiver.proofs.Kept.{isStop, stopsRightly}
+use Rattle.rtr_receiver.specs.Promises.{Ending, FeedSays, StartSays, AskSays, ReconnectSays, NotifySays, isReceiver, leaves, feedSays, startSays, fullAskSays, changeAskSays}
 use Rattle.rtr_receiver.proofs.Laws as receiver
-use Rattle.rtr_receiver.specs.declared.Stop.{Stop}
-use Rattle.rtr_receiver.specs.declared.Phase.{Phase}
-use Rattle.rtr_receiver.specs.declared.LiveTable.{LiveTable}
+use Rattle.rtr_receiver.proofs.Shaped as shaped
 use Rattle.rtr_receiver.specs.declared.Session.{Session}
 use Rattle.rtr_numbers.specs.Numbers.{leftNumbers}
 use Rattle.rtr_numbers.specs.Back.{sessionOf}
@@ -78,49 +68,31 @@ shapeless-keeps-feed n live working hold piece s known e =
     ∙ ap feedLeft (receiver.refused-keeps-feed 1024 s live working hold piece e)
     ∙ ap (λ (k : List ℕ). record { answer = 22; session = k; live = live; working = working; held = hold; taken = 0; updates = 0 }) (sym (numbers-of-session n s known))
 
--- what the receiver's calls say of such memory
-module _ (s : Session) (live working hold : List ℕ) (e : isReceiver 1024 s live working hold ≡ false) where
-  no-full : (out : List ℕ) → fullAskSays 1024 s live working hold out ≡ record { says = Writing.refused 22 []; out = out; left = leaves s live working hold }
-  unfolding fullAskSays
-  no-full out = simp e
-
-  no-change : (out : List ℕ) → changeAskSays 1024 s live working hold out ≡ record { says = Writing.refused 22 []; out = out; left = leaves s live working hold }
-  unfolding changeAskSays
-  no-change out = simp e
-
-  no-reconnect : reconnectSays 1024 s live working hold ≡ record { number = 22; left = leaves s live working hold }
-  unfolding reconnectSays
-  no-reconnect = simp e
-
-  no-notify : notifySays 1024 s live working hold ≡ NotifySays.refusedNotify 22
-  unfolding notifySays
-  no-notify = simp e
-
 module _ (n live working hold : List ℕ) (s : Session) (known : sessionOf n ≡ SessionFound.Known s) (e : isReceiver 1024 s live working hold ≡ false) where
   pub shapeless-keeps-full-ask : (out : List ℕ) → fullAskC n live working hold out ≡ askGives 22 n out
   unfolding fullAskC
   shapeless-keeps-full-ask out =
       ap (λ (x : SessionFound). askFound (λ (t : Session). fullAskSays 1024 t live working hold out) x n out) known
-      ∙ ap askLeft (no-full s live working hold e out)
+      ∙ ap askLeft (shaped.shapeless-full-ask 1024 s live working hold e out)
       ∙ ap (λ (k : List ℕ). askGives 22 k out) (sym (numbers-of-session n s known))
 
   pub shapeless-keeps-change-ask : (out : List ℕ) → changeAskC n live working hold out ≡ askGives 22 n out
   unfolding changeAskC
   shapeless-keeps-change-ask out =
       ap (λ (x : SessionFound). askFound (λ (t : Session). changeAskSays 1024 t live working hold out) x n out) known
-      ∙ ap askLeft (no-change s live working hold e out)
+      ∙ ap askLeft (shaped.shapeless-change-ask 1024 s live working hold e out)
       ∙ ap (λ (k : List ℕ). askGives 22 k out) (sym (numbers-of-session n s known))
 
   pub shapeless-keeps-reconnect : reconnectC n live working hold ≡ reconnectGives 22 n working
   unfolding reconnectC
   shapeless-keeps-reconnect =
       ap (λ (x : SessionFound). reconnectFound x n live working hold) known
-      ∙ ap reconnectLeft (no-reconnect s live working hold e)
+      ∙ ap reconnectLeft (shaped.shapeless-reconnect 1024 s live working hold e)
       ∙ ap (λ (k : List ℕ). reconnectGives 22 k working) (sym (numbers-of-session n s known))
 
   pub shapeless-notify : notifyC n live working hold ≡ notifyGives 22 0
   unfolding notifyC
-  shapeless-notify = ap (λ (x : SessionFound). notifyFound x live working hold) known ∙ ap notifyLeft (no-notify s live working hold e)
+  shapeless-notify = ap (λ (x : SessionFound). notifyFound x live working hold) known ∙ ap notifyLeft (shaped.shapeless-notify 1024 s live working hold e)
 
 -- a listing asks less of memory: the live room's rules, and a table where it has records
 pub shapeless-keeps-listing : (n live out : List ℕ) (s : Session) → sessionOf n ≡ SessionFound.Known s → isListed 1024 s live ≡ false → listingC n live out ≡ encodeGives 22 0 out
@@ -175,12 +147,12 @@ module _ (n live working hold : List ℕ) where
 
   -- a reconnect that does not answer 0 answers 22 and leaves the numbers and the working room
   pub refused-keeps-reconnect : (reconnectC n live working hold .answer ≡ 0 → ⊥) → reconnectC n live working hold ≡ reconnectGives 22 n working
-  unfolding reconnectC reconnectSays
+  unfolding reconnectC
   refused-keeps-reconnect refuses = go (sessionOf n) refl
     where
       by : (s : Session) → sessionOf n ≡ SessionFound.Known s → (b : Bool) → isReceiver 1024 s live working hold ≡ b → reconnectC n live working hold ≡ reconnectGives 22 n working
       by s e false t = shapeless-keeps-reconnect n live working hold s e t
-      by s e true t = absurd (refuses (ap (λ (x : SessionFound). reconnectFound x n live working hold .answer) e ∙ simp t))
+      by s e true t = absurd (refuses (ap (λ (x : SessionFound). reconnectFound x n live working hold .answer) e ∙ ap (λ (r : ReconnectSays). r .number) (shaped.shaped-reconnect 1024 s live working hold t)))
 
       go : (x : SessionFound) → sessionOf n ≡ x → reconnectC n live working hold ≡ reconnectGives 22 n working
       go SessionFound.Unknown e = unknown-keeps-reconnect n live working hold e
@@ -188,103 +160,15 @@ module _ (n live working hold : List ℕ) where
 
 -- ---- 22 is for nothing else
 
--- a session stops by 1, which never arises in a stream, or by 2 to 8 or 12 to 19
-phase-stops : (p : Phase) → (stopsRightly (stageOf p) ≡ true) ⊎ ((x : List ℕ) × (stageOf p ≡ stopped 1 x))
-phase-stops Phase.Idle = inl refl
-phase-stops Phase.MustReset = inl refl
-phase-stops Phase.AskedFull = inl refl
-phase-stops Phase.AskedChange = inl refl
-phase-stops (Phase.Loading kind session) = inl refl
-phase-stops (Phase.Stopped (Stop.Stream (StreamError.Read (IncompletePdu a b)))) = inr (a ∷ b ∷ [], refl)
-phase-stops (Phase.Stopped (Stop.Stream (StreamError.Read (InvalidPduType k)))) = inl refl
-phase-stops (Phase.Stopped (Stop.Stream (StreamError.Read (InvalidProtocolVersion k)))) = inl refl
-phase-stops (Phase.Stopped (Stop.Stream (StreamError.Read (InvalidErrorCode k)))) = inl refl
-phase-stops (Phase.Stopped (Stop.Stream (StreamError.Read (InvalidLength a b c)))) = inl refl
-phase-stops (Phase.Stopped (Stop.Stream (StreamError.Read (InvalidPrefixLength a b c)))) = inl refl
-phase-stops (Phase.Stopped (Stop.Stream (StreamError.Read InvalidUtf8))) = inl refl
-phase-stops (Phase.Stopped (Stop.Stream (StreamError.Read RouterKeyInV0))) = inl refl
-phase-stops (Phase.Stopped (Stop.Stream (StreamError.OverHold k))) = inl refl
-phase-stops (Phase.Stopped Stop.OutOfTurn) = inl refl
-phase-stops (Phase.Stopped Stop.OtherVersion) = inl refl
-phase-stops (Phase.Stopped Stop.OtherSession) = inl refl
-phase-stops (Phase.Stopped Stop.NotIn) = inl refl
-phase-stops (Phase.Stopped Stop.AlreadyIn) = inl refl
-phase-stops (Phase.Stopped Stop.RoomFull) = inl refl
-phase-stops (Phase.Stopped (Stop.ErrorReport c)) = inl refl
-
-module _ (s : Session) (live working hold piece : List ℕ) where
-  never-22 : (taken updates k : ℕ) (x : List ℕ) (left : Left) → feedSays 1024 s live working hold piece ≡ FeedSays.fed taken updates (Ending.stops k x) left → k ≡ 22 → ⊥
-  never-22 taken updates k x left e q = go (phase-stops (s .phase))
-    where
-      go : (stopsRightly (stageOf (s .phase)) ≡ true) ⊎ ((y : List ℕ) × (stageOf (s .phase) ≡ stopped 1 y)) → ⊥
-      go (inl t) =
-          let z : true ≡ false = sym (receiver.stops-are 1024 s live working hold piece taken updates k x left t e) ∙ ap isStop q in
-          let o : _≡_ {A = ℕ} 0 1 = cc in
-          omega arith
-      go (inr t) =
-          let m = receiver.fed-means 1024 s live working hold piece taken updates (Ending.stops k x) left e in
-          let again = receiver.stop-repeats 1024 s live working hold piece 1 (t .0) (m .shape) (t .1) in
-          let one : k ≡ 1 = cc in
-          omega arith
-
-  shaped : isReceiver 1024 s live working hold ≡ true → (number taken updates : ℕ) (left : Left) (h : List ℕ) → feedSays 1024 s live working hold piece ≡ FeedSays.refusedFeed number taken updates left h → ⊥
-  unfolding feedSays
-  shaped t number taken updates left h e =
-      let fed = ap (λ (b : Bool). cond b (fedTo 1024 (feed 1024 (length hold) (receiverOf s live working hold) piece)) (FeedSays.refusedFeed 22 0 0 (leaves s live working hold) hold)) t in
-      let o : _≡_ {A = ℕ} 0 1 = cc in
-      omega arith
-
--- what the queries say is never 22
-asked-says : (w : Writing) (stage : Stage) (r : Receiver) (out : List ℕ) → askedBy w stage r out .says ≡ w
-asked-says (Writing.written k) stage r out = refl
-asked-says (Writing.refused k x) stage r out = refl
-
-by-space : (b : Bool) (k : ℕ) → numberOf (cond b (Writing.written k) (Writing.refused 9 (k ∷ []))) ≡ 22 → ⊥
-by-space true k q = omega arith
-by-space false k q = omega arith
-
-module _ (r : Receiver) (out : List ℕ) where
-  full-never-22 : (stage : Stage) → numberOf (ask (fullQuery stage r) r out .says) ≡ 22 → ⊥
-  full-never-22 idle q = by-space (leb 8 (length out)) 8 (sym (ap numberOf (asked-says _ askedFull r _ ∙ reset-query-says crate (r .version) out)) ∙ q)
-  full-never-22 mustReset q = by-space (leb 8 (length out)) 8 (sym (ap numberOf (asked-says _ askedFull r _ ∙ reset-query-says crate (r .version) out)) ∙ q)
-  full-never-22 askedFull q = omega arith
-  full-never-22 askedChange q = omega arith
-  full-never-22 (loading kind session) q = omega arith
-  full-never-22 (stopped k x) q = omega arith
-
-  serial-never-22 : (table : LiveTable) → numberOf (ask (serialQuery table r) r out .says) ≡ 22 → ⊥
-  serial-never-22 LiveTable.NoTable q = omega arith
-  serial-never-22 (LiveTable.Known t) q = by-space (leb 12 (length out)) 12 (sym (ap numberOf (asked-says _ askedChange r _ ∙ serial-query-says crate (r .version) (t .session) (t .serial) out)) ∙ q)
-
-  change-never-22 : (stage : Stage) → numberOf (ask (changeQuery stage r) r out .says) ≡ 22 → ⊥
-  change-never-22 idle q = serial-never-22 (r .table) q
-  change-never-22 mustReset q = omega arith
-  change-never-22 askedFull q = omega arith
-  change-never-22 askedChange q = omega arith
-  change-never-22 (loading kind session) q = omega arith
-  change-never-22 (stopped k x) q = omega arith
-
 -- a session in memory of receiver shape is never refused by 22
 module _ (n live working hold : List ℕ) (s : Session) (known : sessionOf n ≡ SessionFound.Known s) (t : isReceiver 1024 s live working hold ≡ true) where
   pub shaped-full-ask : (out : List ℕ) → fullAskC n live working hold out .answer ≡ 22 → ⊥
-  unfolding fullAskC fullAskSays
-  shaped-full-ask out q =
-      let r : Receiver = receiverOf s live working hold in
-      full-never-22 r out (r .stage)
-      (sym
-      (ap (λ (x : SessionFound). askFound (λ (y : Session). fullAskSays 1024 y live working hold out) x n out .answer) known
-      ∙ ap (λ (b : Bool). askLeft (cond b (askedTo 1024 (ask (fullQuery (r .stage) r) r out)) (record { says = Writing.refused 22 []; out = out; left = leaves s live working hold })) .answer) t)
-      ∙ q)
+  unfolding fullAskC
+  shaped-full-ask out q = shaped.full-ask-not-22 1024 s live working hold t out (sym (ap (λ (x : SessionFound). askFound (λ (y : Session). fullAskSays 1024 y live working hold out) x n out .answer) known) ∙ q)
 
   pub shaped-change-ask : (out : List ℕ) → changeAskC n live working hold out .answer ≡ 22 → ⊥
-  unfolding changeAskC changeAskSays
-  shaped-change-ask out q =
-      let r : Receiver = receiverOf s live working hold in
-      change-never-22 r out (r .stage)
-      (sym
-      (ap (λ (x : SessionFound). askFound (λ (y : Session). changeAskSays 1024 y live working hold out) x n out .answer) known
-      ∙ ap (λ (b : Bool). askLeft (cond b (askedTo 1024 (ask (changeQuery (r .stage) r) r out)) (record { says = Writing.refused 22 []; out = out; left = leaves s live working hold })) .answer) t)
-      ∙ q)
+  unfolding changeAskC
+  shaped-change-ask out q = shaped.change-ask-not-22 1024 s live working hold t out (sym (ap (λ (x : SessionFound). askFound (λ (y : Session). changeAskSays 1024 y live working hold out) x n out .answer) known) ∙ q)
 
   pub shaped-feed : (piece : List ℕ) → feedC n live working hold piece .answer ≡ 22 → ⊥
   unfolding feedC
@@ -295,16 +179,16 @@ module _ (n live working hold : List ℕ) (s : Session) (known : sessionOf n ≡
 
       says : (x : FeedSays) → feedSays 1024 s live working hold piece ≡ x → ⊥
       says (FeedSays.fed taken updates Ending.goesOn left) p = let z = answer _ p in omega arith
-      says (FeedSays.fed taken updates (Ending.stops k x) left) p = never-22 s live working hold piece taken updates k x left p (answer _ p)
-      says (FeedSays.refusedFeed number taken updates left h) p = shaped s live working hold piece t number taken updates left h p
+      says (FeedSays.fed taken updates (Ending.stops k x) left) p = shaped.stops-not-22 1024 s live working hold piece taken updates k x left p (answer _ p)
+      says (FeedSays.refusedFeed number taken updates left h) p = shaped.shaped-not-refused 1024 s live working hold t piece number taken updates left h p
 
   pub shaped-reconnect : reconnectC n live working hold .answer ≡ 0
-  unfolding reconnectC reconnectSays
-  shaped-reconnect = ap (λ (x : SessionFound). reconnectFound x n live working hold .answer) known ∙ simp t
+  unfolding reconnectC
+  shaped-reconnect = ap (λ (x : SessionFound). reconnectFound x n live working hold .answer) known ∙ ap (λ (r : ReconnectSays). r .number) (shaped.shaped-reconnect 1024 s live working hold t)
 
   pub shaped-notify : notifyC n live working hold .answer ≡ 0
-  unfolding notifyC notifySays
-  shaped-notify = ap (λ (x : SessionFound). notifyFound x live working hold .answer) known ∙ simp t
+  unfolding notifyC
+  shaped-notify = ap (λ (x : SessionFound). notifyFound x live working hold .answer) known ∙ ap (λ (r : NotifySays). notifyLeft r .answer) (shaped.shaped-notify 1024 s live working hold t)
 
   pub shaped-listing : (out : List ℕ) → listingC n live out .answer ≡ 22 → ⊥
   unfolding listingC
