@@ -1,14 +1,16 @@
 -- Numbers that are no session's, and lent memory without receiver shape, are refused by 22, and then nothing changes. By the answer alone: a start, an ask or a
--- reconnect that does not answer 0 changes nothing, and neither does a feed that answers 22. Assumes nothing.
-use Prim.Native.Nat.{ℕ}
+-- reconnect that does not answer 0 changes nothing, and neither does a feed that answers 22. When a start answers 0 (`c-start-exactly`); and 22 is for nothing else (`shaped-..`). Assumes nothing.
+use Prim.Native.Nat.{ℕ, _*_, _≤_}
 use mathlib.Core.Bool.{Bool, true, false, cond}
 use mathlib.Core.List.{List}
+use mathlib.Core.Logic.{_↔_}
 use mathlib.Core.Path.{_≡_, refl, sym, ap, _∙_}
 use native.Mathlib.Omega.{arith}
-use borrow.Author.Tests.{leb-true, leb-false}
+use borrow.Author.Tests.{leb-true, leb-false, eqb-true, eq-eqb}
 use lib.Dec.{eqb, leb}
 use lib.ListN.{length}
 use Rattle.rtr_models.specs.Codes.{versionFound}
+use Rattle.rtr_models.specs.declared.RtrProtocolVersion.{RtrProtocolVersion}
 use Rattle.rtr_models.specs.declared.VersionFound.{VersionFound}
 use Rattle.rtr_encode.specs.Encode.{Writing, Encoded}
 use Rattle.rtr_encode.specs.Answers.{numberOf}
@@ -120,6 +122,33 @@ refused-keeps-start version n live working hold = by-length (eqb (length n) 18)
     by-length : (b : Bool) → (cond b (startFound (versionFound version) n live working hold) (startGives 22 n live working) .answer ≡ 0 → ⊥) → cond b (startFound (versionFound version) n live working hold) (startGives 22 n live working) ≡ startGives 22 n live working
     by-length true refuses = by-version (versionFound version) refuses
     by-length false refuses = refl
+
+-- a start answers 0 exactly where the numbers are 18 long, the version's number is known, both rooms are 6 * 1024 long and the hold has 8 bytes or more
+pub c-start-exactly : (version : ℕ) (n live working hold : List ℕ) →
+    (startC version n live working hold .answer ≡ 0)
+    ↔ ((length n ≡ 18) × ((v : RtrProtocolVersion) × (versionFound version ≡ VersionFound.Known v)) × (length live ≡ 6 * 1024) × (length working ≡ 6 * 1024) × (8 ≤ length hold))
+unfolding startC
+c-start-exactly version n live working hold = (by-length (eqb (length n) 18) refl, back)
+  where
+    Needs : Type 0
+    Needs = (length n ≡ 18) × ((v : RtrProtocolVersion) × (versionFound version ≡ VersionFound.Known v)) × (length live ≡ 6 * 1024) × (length working ≡ 6 * 1024) × (8 ≤ length hold)
+
+    by-says : length n ≡ 18 → (v : RtrProtocolVersion) → versionFound version ≡ VersionFound.Known v → (x : StartSays) → startSays 1024 v live working hold ≡ x → startLeft x n .answer ≡ 0 → Needs
+    by-says size v e (StartSays.started left) q z = let has = receiver.start-exactly 1024 v live working hold left .0 q in (size, (v, e), has .1, has .2, has .3)
+    by-says size v e (StartSays.refusedStart k l w) q z = absurd (omega (arith, z, receiver.refused-keeps-start 1024 v live working hold l w k q .2))
+
+    by-version : length n ≡ 18 → (x : VersionFound) → versionFound version ≡ x → startFound x n live working hold .answer ≡ 0 → Needs
+    by-version size (VersionFound.Known v) e z = by-says size v e (startSays 1024 v live working hold) refl z
+    by-version size VersionFound.Unknown e z = absurd (omega arith)
+
+    by-length : (b : Bool) → eqb (length n) 18 ≡ b → cond b (startFound (versionFound version) n live working hold) (startGives 22 n live working) .answer ≡ 0 → Needs
+    by-length true size z = by-version (eqb-true (length n) 18 size) (versionFound version) refl z
+    by-length false size z = absurd (omega arith)
+
+    back : Needs → startC version n live working hold .answer ≡ 0
+    back h =
+        (λ i. cond (eq-eqb (length n) 18 (h .0) i) (startFound (h .1 .1 i) n live working hold) (startGives 22 n live working) .answer)
+        ∙ ap (λ (x : StartSays). startLeft x n .answer) (receiver.start-exactly 1024 (h .1 .0) live working hold _ .1 (refl, h .2, h .3, h .4))
 
 -- an ask that does not answer 0 leaves the numbers and the output: by 22, 20 or 9, a change ask by 21 too
 module _ (n live working hold out : List ℕ) (ask : Session → AskSays) (law : (s : Session) (k : ℕ) (x : List ℕ) → ask s .says ≡ Writing.refused k x → (ask s .out ≡ out) × (ask s .left ≡ leaves s live working hold)) where

@@ -1,30 +1,32 @@
 -- Demand 3 at the C boundary. A C host's run reads back as a run of the receiver with the same calls (`c-run-is-run`), so the receiver's laws hold of it: its numbers are
 -- always a session's in memory of receiver shape (`c-in-shape`), so none of its calls is answered by 22 (`c-never-22`), and numbers 6 to 11 and the live room hold the table that the updates make which finished in the history
--- (`c-history`), wherever the bytes were cut (`c-cut-anywhere`). Assumes nothing.
+-- (`c-history`), wherever the bytes were cut (`c-cut-anywhere`); what a feed counts are the updates that finish in its bytes (`c-feed-counts`). Assumes nothing.
 use Prim.Native.Nat.{ℕ}
 use mathlib.Core.Bool.{true}
 use mathlib.Core.List.{List, []}
 use mathlib.Core.Logic.{_↔_}
 use mathlib.Core.Path.{_≡_, refl, sym, ap, _∙_, subst}
 use native.Mathlib.Omega.{arith}
-use lib.ListN.{getD}
+use lib.ListN.{length, take, getD}
 use Rattle.rtr_models.specs.Codes.{versionFound}
 use Rattle.rtr_models.specs.declared.RtrProtocolVersion.{RtrProtocolVersion}
 use Rattle.rtr_models.specs.declared.VersionFound.{VersionFound}
 use Rattle.rtr_room.specs.Room.{records}
-use Rattle.rtr_receiver.specs.History.{Event, Live, finished, tableOf}
-use Rattle.rtr_receiver.specs.Promises.{isReceiver}
-use Rattle.rtr_receiver.specs.Runs.{Call, Run, historyOf, liveIn}
+use Rattle.rtr_receiver.specs.History.{Event, Live, Place, items, updates, finished, tableOf}
+use Rattle.rtr_receiver.specs.Promises.{FeedSays, isReceiver, receiverOf}
+use Rattle.rtr_receiver.specs.Runs.{Call, Memory, Run, bytes, historyOf, liveIn}
 use Rattle.rtr_receiver.specs.declared.LiveTable.{LiveTable}
 use Rattle.rtr_receiver.specs.declared.Session.{Session}
-use Rattle.rtr_receiver.proofs.Laws.{shape-kept}
+use Rattle.rtr_receiver.proofs.Laws.{shape-kept, version-for-life, feed-counts}
+use Rattle.rtr_receiver.proofs.Shaped as receiver
+use Rattle.rtr_receiver.proofs.Histories.{At}
 use Rattle.rtr_receiver.proofs.Runs.{history, no-table}
 use Rattle.rtr_numbers.specs.Numbers.{tableNumber}
 use Rattle.rtr_numbers.specs.Back.{sessionOf}
 use Rattle.rtr_numbers.specs.declared.SessionFound.{SessionFound}
 use Rattle.rtr_numbers.proofs.Laws.{numbers-of-session, session-table}
 use Rattle.rtr_c.proofs.Laws.{shaped-full-ask, shaped-change-ask, shaped-feed, shaped-reconnect, shaped-notify, shaped-listing}
-use Rattle.rtr_c.specs.Calls.{fullAskC, changeAskC, feedC, reconnectC, notifyC, listingC}
+use Rattle.rtr_c.specs.Calls.{fullAskC, changeAskC, feedLeft, feedFound, feedC, reconnectC, notifyC, listingC}
 use Rattle.rtr_c.specs.Runs.{CMemory, memoryOf, LeadsOn, CStep, CRun, Holds}
 
 -- the session that the numbers are, and the receiver's run to it
@@ -111,6 +113,35 @@ c-history {version} {H} {calls} {c} v e r =
     (history 1024 H (b .spoken) calls (memoryOf c (b .known)) (b .run)
     ∙ ap (λ (x : RtrProtocolVersion). tableOf 1024 (finished 1024 H x (historyOf calls))) same)
     (table-held c (b .known) (b .known-is))
+
+-- What *updates counts of a piece fed next: the updates that finish in its bytes, behind those held, in the version that was started, from the history's table and the place where the connection stands. `items` and
+-- `updates` are on the same page; `At` is which place a receiver's phase and working table stand for (rtr_receiver, proofs/Histories.antt).
+pub c-feed-counts : {version H : ℕ} {calls : List Call} {c : CMemory} (v : RtrProtocolVersion) → versionFound version ≡ VersionFound.Known v → CRun version H calls c → (piece : List ℕ) →
+    (s : Session)
+    × (sessionOf (c .session) ≡ SessionFound.Known s)
+    × (p : Place)
+    × At 1024 H (receiverOf s (c .live) (c .working) (c .hold)) p
+    × (feedC (c .session) (c .live) (c .working) (c .hold) piece .updates ≡ length (updates 1024 v (tableOf 1024 (finished 1024 H v (historyOf calls))) p (items H (take (s .held) (c .hold)) (bytes piece))))
+unfolding feedC
+c-feed-counts {version} {H} {calls} {c} v e r piece =
+    let b = c-run-is-run r in
+    let s : Session = b .known in
+    let m : Memory = memoryOf c s in
+    let same : b .spoken ≡ v = cc (b .spoken-is, e) in
+    let run : Run 1024 v H calls m = subst (λ (x : RtrProtocolVersion). Run 1024 x H calls m) same (b .run) in
+    let said = receiver.shaped-feed 1024 s (c .live) (c .working) (c .hold) (shape-kept 1024 H v calls m run) piece in
+    let law = feed-counts 1024 H v calls m piece _ _ _ _ run said in
+    let spoken = version-for-life 1024 H v calls m run in
+    let table = history 1024 H v calls m run in (
+      s,
+      b .known-is,
+      law .0,
+      law .1,
+      ap (λ (x : SessionFound). feedFound x (c .session) (c .live) (c .working) (c .hold) piece .updates) (b .known-is)
+          ∙ ap (λ (x : FeedSays). feedLeft x .updates) said
+          ∙ law .2
+          ∙ (λ i. length (updates 1024 (spoken i) (table i) (law .0) (items H (take (s .held) (c .hold)) (bytes piece)))),
+    )
 
 -- the same bytes cut elsewhere, between the same asks and reconnects, leave the same table
 pub c-cut-anywhere : {version H : ℕ} {calls calls′ : List Call} {c c′ : CMemory} → CRun version H calls c → CRun version H calls′ c′ → historyOf calls ≡ historyOf calls′ → (t : Live) × Holds c t × Holds c′ t

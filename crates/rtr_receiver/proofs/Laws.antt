@@ -1,4 +1,4 @@
--- The laws that higher crates and readers cite of the receiver's calls, over every limit: a refused call changes nothing, and when a start is refused; every call keeps receiver shape; what a feed takes and counts;
+-- The laws that higher crates and readers cite of the receiver's calls, over every limit: a refused call changes nothing, and when a start is refused; every call keeps receiver shape and the version; what a feed takes and counts;
 -- a stop clears and repeats. Each is about the promises of specs/Promises.antt. Assumes nothing.
 use Prim.Native.Nat.{ℕ, suc, _+_, _*_, _≤_, _<_}
 use mathlib.Core.Bool.{Bool, true, false, cond, _&&_}
@@ -19,6 +19,7 @@ use Rattle.rtr_receiver.specs.Receiver.Stage.{idle, mustReset, askedFull
 use Rattle.rtr_receiver.specs.Promises.{Left, Ending, FeedSays, StartSays, AskSays, ReconnectSays, isReceiver, receiverOf, stageOf, leaves, inMemory, endingOf, fedTo, feedSays, startSays, askedTo, askSays, fullAskSays, changeAskSays, reconnectSays}
 use Rattle.rtr_receiver.specs.History.{Place, items, updates}
 use Rattle.rtr_receiver.specs.Runs.{Call, Memory, Step, Run, bytes, liveIn}
+use Rattle.rtr_receiver.specs.declared.LoadKind.{LoadKind}
 use Rattle.rtr_receiver.specs.declared.Session.{Session}
 use Rattle.rtr_receiver.proofs.Feeds.{from, stopped-takes-none}
 use Rattle.rtr_receiver.proofs.Memory.{standing}
@@ -26,7 +27,7 @@ use Rattle.rtr_receiver.proofs.Steps.{Shape, shape-of, good-of, stands-
 use Rattle.rtr_receiver.proofs.Kept.{toCome, stopsRightly, isStop, Cleared, Keeping, piece-keeps, Through, through}
 use Rattle.rtr_receiver.proofs.Histories.{At}
 use Rattle.rtr_receiver.proofs.Counts.{piece-counts}
-use Rattle.rtr_receiver.proofs.Runs.{Stands, run-along, in-shape, step-stands}
+use Rattle.rtr_receiver.proofs.Runs.{Stands, after, run-along, in-shape, step-stands}
 
 -- ---- A refused call changes nothing
 
@@ -262,6 +263,34 @@ keeps-shape limit call m m′ e step =
 -- so along a run 22 never comes
 pub shape-kept : (limit H : ℕ) (v : RtrProtocolVersion) (calls : List Call) (m : Memory) → Run limit v H calls m → isReceiver limit (m .session) (m .live) (m .working) (m .hold) ≡ true
 shape-kept limit H v calls m run = in-shape limit H (run-along limit H v calls m run .stands)
+
+-- ---- "A receiver has one version .. for its life"
+
+-- an ask keeps it, written or refused
+asked-version : (q : Query) (r : Receiver) (out : List ℕ) → ask q r out .receiver .version ≡ r .version
+asked-version (Query.refused number) r out = refl
+asked-version (Query.query pdu stage) r out = go (encode crate pdu [] out .says)
+  where
+    go : (w : Writing) → askedBy w stage r (encode crate pdu [] out .out) .receiver .version ≡ r .version
+    go (Writing.written n) = refl
+    go (Writing.refused k x) = refl
+
+-- and so does every call
+after-version : (limit H : ℕ) (call : Call) (r : Receiver) → after limit H call r .version ≡ r .version
+after-version limit H (Call.feed piece) r = piece-keeps limit H piece (from r 0 0) .version
+after-version limit H (Call.ask LoadKind.Full out) r = asked-version (fullQuery (r .stage) r) r out
+after-version limit H (Call.ask LoadKind.Change out) r = asked-version (changeQuery (r .stage) r) r out
+after-version limit H Call.reconnect r = refl
+
+-- along a run it is the one that was started
+pub version-for-life : (limit H : ℕ) (v : RtrProtocolVersion) (calls : List Call) (m : Memory) → Run limit v H calls m → m .session .version ≡ v
+version-for-life limit H v calls m (Run.started m₀ live working size e) = ap (λ (l : Left). l .version) (start-exactly limit v live working (m₀ .hold) _ .0 (sym e) .0)
+version-for-life limit H v calls m (Run.next {calls = before} {call = call} {m = m₀} run step) =
+    let along = run-along limit H v before m₀ run in
+    ap (λ (l : Left). l .version) (step-stands limit H call m₀ m (along .receiver) (along .stands) step .left)
+    ∙ after-version limit H call (along .receiver)
+    ∙ sym (ap (λ (l : Left). l .version) (along .stands .left))
+    ∙ version-for-life limit H v before m₀ run
 
 -- ---- What a feed counts is what the history's page counts: the updates that finish in its bytes, from the place where the connection stands
 

@@ -110,11 +110,12 @@ phase-stops (Phase.Stopped Stop.AlreadyIn) = inl refl
 phase-stops (Phase.Stopped Stop.RoomFull) = inl refl
 phase-stops (Phase.Stopped (Stop.ErrorReport c)) = inl refl
 
--- what a query says is its encoding's
+-- what an ask says is what its query's encoding says
 asked-says : (w : Writing) (stage : Stage) (r : Receiver) (out : List ℕ) → askedBy w stage r out .says ≡ w
 asked-says (Writing.written k) stage r out = refl
 asked-says (Writing.refused k x) stage r out = refl
 
+-- which is written, or refused by 9
 by-space : (b : Bool) (k : ℕ) → numberOf (cond b (Writing.written k) (Writing.refused 9 (k ∷ []))) ≡ 22 → ⊥
 by-space true k q = omega arith
 by-space false k q = omega arith
@@ -129,6 +130,7 @@ module _ (r : Receiver) (out : List ℕ) where
   full-never-22 (loading kind session) q = omega arith
   full-never-22 (stopped k x) q = omega arith
 
+  -- a change ask in Idle, by the table
   serial-never-22 : (table : LiveTable) → numberOf (ask (serialQuery table r) r out .says) ≡ 22 → ⊥
   serial-never-22 LiveTable.NoTable q = omega arith
   serial-never-22 (LiveTable.Known t) q = by-space (leb 12 (length out)) 12 (sym (ap numberOf (asked-says _ askedChange r _ ∙ serial-query-says crate (r .version) (t .session) (t .serial) out)) ∙ q)
@@ -175,6 +177,7 @@ module _ (limit : ℕ) (s : Session) (live working hold : List ℕ) where
 -- ---- Holds of one length, with the same bytes held
 
 module _ (limit : ℕ) (s : Session) (live working hold hold′ : List ℕ) (size : length hold ≡ length hold′) (same : take (s .held) hold ≡ take (s .held) hold′) where
+  -- shape goes by the stream's test
   pub shape-alike : isReceiver limit s live working hold ≡ isReceiver limit s live working hold′
   unfolding isReceiver
   shape-alike = ap (λ (b : Bool). isRoom limit (s .live) live && (isRoom limit (s .working) working && (b && inOrder s))) (stream-alike hold hold′ (s .held) size same)
