@@ -1,6 +1,6 @@
 -- The laws that higher crates and readers cite of the receiver's calls, over every limit: a refused call changes nothing, and when a start is refused; every call keeps receiver shape and the version; what a feed takes and counts;
 -- a stop clears and repeats. Each is about the promises of specs/Promises.antt. Assumes nothing.
-use Prim.Native.Nat.{ℕ, suc, _+_, _*_, _≤_, _<_}
+use Prim.Native.Nat.{ℕ, suc, _*_, _≤_, _<_}
 use mathlib.Core.Bool.{Bool, true, false, cond, _&&_}
 use mathlib.Core.List.{List, []}
 use mathlib.Core.Logic.{_↔_}
@@ -23,8 +23,8 @@ use Rattle.rtr_receiver.specs.declared.LoadKind.{LoadKind}
 use Rattle.rtr_receiver.specs.declared.Session.{Session}
 use Rattle.rtr_receiver.proofs.Feeds.{from, stopped-takes-none}
 use Rattle.rtr_receiver.proofs.Memory.{standing}
-use Rattle.rtr_receiver.proofs.Steps.{Shape, shape-of, good-of, stands-for}
-use Rattle.rtr_receiver.proofs.Kept.{toCome, stopsRightly, isStop, Cleared, Keeping, piece-keeps, Through, through}
+use Rattle.rtr_receiver.proofs.Steps.{shape-of, good-of, stands-for}
+use Rattle.rtr_receiver.proofs.Kept.{toCome, stopsRightly, isStop, Cleared, piece-keeps, Through, through}
 use Rattle.rtr_receiver.proofs.Histories.{At}
 use Rattle.rtr_receiver.proofs.Counts.{piece-counts}
 use Rattle.rtr_receiver.proofs.Runs.{Stands, after, run-along, in-shape, step-stands}
