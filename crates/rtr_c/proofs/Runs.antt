@@ -1,25 +1,24 @@
 -- Demand 3 at the C boundary. A C host's run reads back as a run of the receiver with the same calls (`c-run-is-run`), so the receiver's laws hold of it: its numbers are
 -- always a session's in memory of receiver shape (`c-in-shape`), so none of its calls is answered by 22 (`c-never-22`), and numbers 6 to 11 and the live room hold the table that the updates make which finished in the history
--- (`c-history`), wherever the bytes were cut (`c-cut-anywhere`); what a feed counts are the updates that finish in its bytes (`c-feed-counts`). Assumes nothing.
+-- (`c-history`), wherever the bytes were cut (`c-cut-anywhere`); the finished updates grow by as many as a feed counts (`c-feed-counts`). Assumes nothing.
 use Prim.Native.Nat.{ℕ}
 use mathlib.Core.Bool.{true}
-use mathlib.Core.List.{List, []}
+use mathlib.Core.List.{List, [], _∷_, _++_}
 use mathlib.Core.Logic.{_↔_}
 use mathlib.Core.Path.{_≡_, refl, sym, ap, _∙_, subst}
 use native.Mathlib.Omega.{arith}
-use lib.ListN.{length, take, getD}
+use lib.ListN.{length, getD}
 use Rattle.rtr_models.specs.Codes.{versionFound}
 use Rattle.rtr_models.specs.declared.RtrProtocolVersion.{RtrProtocolVersion}
 use Rattle.rtr_models.specs.declared.VersionFound.{VersionFound}
 use Rattle.rtr_room.specs.Room.{records}
-use Rattle.rtr_receiver.specs.History.{Event, Live, Place, items, updates, finished, tableOf}
-use Rattle.rtr_receiver.specs.Promises.{FeedSays, isReceiver, receiverOf}
-use Rattle.rtr_receiver.specs.Runs.{Call, Memory, Run, bytes, historyOf, liveIn}
+use Rattle.rtr_receiver.specs.History.{Event, Update, Live, finished, tableOf}
+use Rattle.rtr_receiver.specs.Promises.{FeedSays, isReceiver}
+use Rattle.rtr_receiver.specs.Runs.{Call, Memory, Run, historyOf, liveIn}
 use Rattle.rtr_receiver.specs.declared.LiveTable.{LiveTable}
 use Rattle.rtr_receiver.specs.declared.Session.{Session}
-use Rattle.rtr_receiver.proofs.Laws.{shape-kept, version-for-life, feed-counts}
+use Rattle.rtr_receiver.proofs.Laws.{shape-kept, feed-counts}
 use Rattle.rtr_receiver.proofs.Shaped as receiver
-use Rattle.rtr_receiver.proofs.Histories.{At}
 use Rattle.rtr_receiver.proofs.Runs.{history, no-table}
 use Rattle.rtr_numbers.specs.Numbers.{tableNumber}
 use Rattle.rtr_numbers.specs.Back.{sessionOf}
@@ -114,14 +113,11 @@ c-history {version} {H} {calls} {c} v e r =
     ∙ ap (λ (x : RtrProtocolVersion). tableOf 1024 (finished 1024 H x (historyOf calls))) same)
     (table-held c (b .known) (b .known-is))
 
--- What *updates counts of a piece fed next: the updates that finish in its bytes, behind those held, in the version that was started, from the history's table and the place where the connection stands. `items` and
--- `updates` are on the same page; `At` is which place a receiver's phase and working table stand for (rtr_receiver, proofs/Histories.antt).
+-- What *updates counts of a piece fed next: by so many do the updates that have finished in the history grow, at their end.
 pub c-feed-counts : {version H : ℕ} {calls : List Call} {c : CMemory} (v : RtrProtocolVersion) → versionFound version ≡ VersionFound.Known v → CRun version H calls c → (piece : List ℕ) →
-    (s : Session)
-    × (sessionOf (c .session) ≡ SessionFound.Known s)
-    × (p : Place)
-    × At 1024 H (receiverOf s (c .live) (c .working) (c .hold)) p
-    × (feedC (c .session) (c .live) (c .working) (c .hold) piece .updates ≡ length (updates 1024 v (tableOf 1024 (finished 1024 H v (historyOf calls))) p (items H (take (s .held) (c .hold)) (bytes piece))))
+    (us : List Update)
+    × (finished 1024 H v (historyOf (calls ++ Call.feed piece ∷ [])) ≡ finished 1024 H v (historyOf calls) ++ us)
+    × (length us ≡ feedC (c .session) (c .live) (c .working) (c .hold) piece .updates)
 unfolding feedC
 c-feed-counts {version} {H} {calls} {c} v e r piece =
     let b = c-run-is-run r in
@@ -130,17 +126,11 @@ c-feed-counts {version} {H} {calls} {c} v e r piece =
     let same : b .spoken ≡ v = cc (b .spoken-is, e) in
     let run : Run 1024 v H calls m = subst (λ (x : RtrProtocolVersion). Run 1024 x H calls m) same (b .run) in
     let said = receiver.shaped-feed 1024 s (c .live) (c .working) (c .hold) (shape-kept 1024 H v calls m run) piece in
-    let law = feed-counts 1024 H v calls m piece _ _ _ _ run said in
-    let spoken = version-for-life 1024 H v calls m run in
-    let table = history 1024 H v calls m run in (
-      s,
-      b .known-is,
+    let law = feed-counts 1024 H v calls m piece _ _ _ _ run said in (
       law .0,
       law .1,
-      ap (λ (x : SessionFound). feedFound x (c .session) (c .live) (c .working) (c .hold) piece .updates) (b .known-is)
-          ∙ ap (λ (x : FeedSays). feedLeft x .updates) said
-          ∙ law .2
-          ∙ (λ i. length (updates 1024 (spoken i) (table i) (law .0) (items H (take (s .held) (c .hold)) (bytes piece)))),
+      law .2
+          ∙ sym (ap (λ (x : SessionFound). feedFound x (c .session) (c .live) (c .working) (c .hold) piece .updates) (b .known-is) ∙ ap (λ (x : FeedSays). feedLeft x .updates) said),
     )
 
 -- the same bytes cut elsewhere, between the same asks and reconnects, leave the same table

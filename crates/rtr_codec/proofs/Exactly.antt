@@ -193,3 +193,11 @@ module _ (R : Reading) (s : List ℕ) where
 -- a slice is read as a PDU of n bytes exactly if the PDU stands in them
 pub read-exactly : (R : Reading) (s : List ℕ) (pdu : RtrPdu) (n : ℕ) → (read R s ≡ accepted pdu n) ↔ Stands R s pdu n
 read-exactly R s pdu n = (stands-read R s pdu n, reads-standing R s pdu n)
+
+-- so one PDU at most stands in a slice, in so many bytes
+pub stands-once : (R : Reading) (s : List ℕ) (pdu pdu′ : RtrPdu) (n n′ : ℕ) → Stands R s pdu n → Stands R s pdu′ n′ → (pdu ≡ pdu′) × (n ≡ n′)
+stands-once R s pdu pdu′ n n′ k k′ =
+    let e : accepted pdu n ≡ accepted pdu′ n′ = sym (reads-standing R s pdu n k) ∙ reads-standing R s pdu′ n′ k′ in
+    let p : pdu ≡ pdu′ = cc in
+    let q : n ≡ n′ = cc in
+    (p, q)

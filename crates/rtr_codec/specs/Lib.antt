@@ -1,5 +1,5 @@
 -- What people must believe of this crate. Read first: Read (what reading is), with Layout (the pictures of the RFCs) and Reading (where
--- the crate departs from them). Stands says the same of the PDU, byte by byte.
+-- the crate departs from them). Stands says of the PDU, byte by byte, what is accepted.
 pub mod Read
 pub mod Stands
 pub mod Reading

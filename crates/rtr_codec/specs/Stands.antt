@@ -1,5 +1,6 @@
--- When a PDU is read, said of the PDU: which of its numbers stands at which byte, and which checks hold. RFC 8210, sections 5.2 to 5.11, byte by byte; for a Router Key and for an Error Report's end and codes the switches of a
--- `Reading`. `read-exactly` (proofs/Exactly.antt): a slice is read as a PDU of n bytes exactly if the PDU stands so in it. So this is reading a second time, without an order of checks.
+-- Which slices are read, and as which PDU, said of the PDU: which of its numbers stands at which byte, and what holds of them. RFC 8210, sections 5.2 to 5.11, byte by byte (version 0: RFC 6810, 5.2 to 5.10); bytes that are not named are
+-- ignored. `read-exactly` (proofs/Exactly.antt): a slice is read as a PDU of n bytes exactly if the PDU stands so in it; `stands-once`: one PDU at most does. Of refusals this says nothing: their numbers, values and order are Read's.
+-- Read's too are `headerLength` and an Error Report's `ends` and `codeIn`, which, as a Router Key's arrangement, go by the switches of a `Reading`.
 use Prim.Native.Nat.{ℕ, _+_, _-_, _≤_}
 use mathlib.Core.Bool.{Bool, true, false}
 use mathlib.Core.List.{List}
@@ -41,7 +42,7 @@ endStands V1 p s =
     × (Seconds (number s 16 4) ≡ p .«retry_interval»)
     × (Seconds (number s 20 4) ≡ p .«expire_interval»)
 
--- 5.10: flags at byte 2, identifier, AS number, and the key info to the end; in the crate's arrangement flags at byte 8
+-- 5.10: flags at byte 2, identifier, AS number, and the key info to the end; in the crate's arrangement flags at byte 8, and all behind them two bytes later
 abbrev pub keyStands : Bool → RtrRouterKey → List ℕ → Type 0
 keyStands false p s =
     (32 ≤ headerLength s)
@@ -56,7 +57,7 @@ keyStands true p s =
     × (number s 30 4 ≡ p .asn)
     × (place 34 (headerLength s - 34) ≡ p .«subject_public_key_info»)
 
--- 5.11: the copy of e bytes behind its length at byte 8, the text of t bytes behind its own
+-- 5.11: the copy of e bytes behind its length, which is the 4 bytes from 8, and the text of t bytes behind its own, the 4 bytes behind the copy
 abbrev pub reportStands : Reading → RtrErrorReport → ℕ → ℕ → List ℕ → Type 0
 reportStands R p e t s =
     (number s 2 2 ≡ codeNumber (p .«error_code»))
@@ -66,12 +67,17 @@ reportStands R p e t s =
     × (ends (R .bytesBehindText) (16 + e + t) (headerLength s) ≡ true)
     × (wellFormed (take t (drop (16 + e) s)) ≡ true)
 
--- behind the header, by kind
+-- behind version and type, by kind
 abbrev pub kindStands : Reading → List ℕ → RtrPdu → Type 0
+-- 5.2, type 0
 kindStands R s (SerialNotify p) = (headerLength s ≡ 12) × (number s 2 2 ≡ p .«session_id») × (number s 8 4 ≡ p .«serial_number»)
+-- 5.3, type 1
 kindStands R s (SerialQuery p) = (headerLength s ≡ 12) × (number s 2 2 ≡ p .«session_id») × (number s 8 4 ≡ p .«serial_number»)
+-- 5.4, type 2
 kindStands R s (ResetQuery p) = headerLength s ≡ 8
+-- 5.5, type 3
 kindStands R s (CacheResponse p) = (headerLength s ≡ 8) × (number s 2 2 ≡ p .«session_id»)
+-- 5.6, type 4
 kindStands R s (IPv4Prefix p) =
     (headerLength s ≡ 20)
     × (number s 8 1 ≡ p .flags)
@@ -81,6 +87,7 @@ kindStands R s (IPv4Prefix p) =
     × (number s 16 4 ≡ p .asn)
     × (p .«prefix_length» ≤ p .«max_length»)
     × (p .«max_length» ≤ 32)
+-- 5.7, type 6
 kindStands R s (IPv6Prefix p) =
     (headerLength s ≡ 32)
     × (number s 8 1 ≡ p .flags)
@@ -93,9 +100,13 @@ kindStands R s (IPv6Prefix p) =
     × (number s 28 4 ≡ p .asn)
     × (p .«prefix_length» ≤ p .«max_length»)
     × (p .«max_length» ≤ 128)
+-- 5.8, type 7
 kindStands R s (EndOfData p) = endStands (p .version) p s
+-- 5.9, type 8
 kindStands R s (CacheReset p) = headerLength s ≡ 8
+-- 5.10, type 9, version 1 alone
 kindStands R s (RouterKey p) = (V1 ≡ p .version) × keyStands (R .keyByCrate) p s
+-- 5.11, type 10
 kindStands R s (ErrorReport p) = reportStands R p (number s 8 4) (number s (12 + number s 8 4) 4) s
 
 -- the PDU stands in the first n bytes of s

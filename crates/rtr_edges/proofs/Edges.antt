@@ -1,4 +1,4 @@
--- Every line of the table holds: each by the sample or the law of the floor that it is about; the notify lines are computed. Assumes nothing.
+-- Every line of the table holds: each by the sample or the law of the floor that it is about. Assumes nothing.
 use mathlib.Core.Path.{_≡_, refl}
 use native.Mathlib.Omega.{arith}
 use lib.ListN.{drop}
@@ -13,6 +13,7 @@ use Rattle.rtr_walk.specs.Walk.End.{plain}
 use Rattle.rtr_walk.specs.Walk.WalkVerdict.{walked}
 use Rattle.rtr_walk.specs.Walk.AtLevel.{first, next}
 use Rattle.rtr_walk.proofs.Laws.{walk-exactly}
+use Rattle.rtr_receiver.proofs.Examples.{past-the-largest, halfway-round}
 use Rattle.rtr_edges.specs.Edges.{AllHold, reportOfQuery, edges}
 
 -- a report about a Reset Query: its level 1 is that query, which ends the walk
@@ -23,7 +24,7 @@ query-at-level-1 =
 
 -- the lines from an unknown type on
 later-edges : AllHold (drop 5 edges)
-later-edges = (type-unknown-read, (key-in-version-0, (code-nine, (copy-past-the-end, (behind-in-crate, (rw behind-in-crate behind-not-written, (query-at-level-1, (refl, (refl, tt)))))))))
+later-edges = (type-unknown-read, (key-in-version-0, (code-nine, (copy-past-the-end, (behind-in-crate, (rw behind-in-crate behind-not-written, (query-at-level-1, (past-the-largest, (halfway-round, tt)))))))))
 
 -- document 01's edges hold
 pub edges-hold : AllHold edges

@@ -1,5 +1,5 @@
 -- What `FedTimes` (specs/Times.antt) comes to: the feeds are part of a run, so the live table is what the history's updates make (`times-run`, `times-table`); and they fix one session record, one content of both rooms and one of the hold up to the held count
--- (`times-unique`). They keep receiver shape (`times-shape`), and so many and so many more are as many together (`times-join`). A feed reads the hold up to the held count, and its length: memories that are alike up to there (`Alike`) lead to such memories. Assumes nothing.
+-- (`times-unique`), and leave all of memory under 22, the whole hold too (`times-refused`). They keep receiver shape (`times-shape`), and so many and so many more are as many together (`times-join`). A feed reads the hold up to the held count, and its length: memories that are alike up to there (`Alike`) lead to such memories. Assumes nothing.
 use Prim.Native.Nat.{ℕ, zero, suc, _+_}
 use native.Mathlib.Nat.{add-zero, add-suc}
 use mathlib.Core.Bool.{Bool, true, false}
@@ -17,7 +17,7 @@ use Rattle.rtr_receiver.specs.declared.FeedAnswer.{FeedAnswer}
 use Rattle.rtr_receiver.proofs.Laws.{refused-keeps-feed, keeps-shape}
 use Rattle.rtr_receiver.proofs.Shaped.{shape-alike, feed-alike}
 use Rattle.rtr_receiver.proofs.Runs.{history}
-use Rattle.rtr_receiver.proofs.Unique.{feed-unique}
+use Rattle.rtr_receiver.proofs.Unique.{feed-unique, feed-unique-refused}
 use Rattle.rtr_held.specs.Times.{FedTimes}
 
 -- ---- A run goes on with the feeds
@@ -57,12 +57,22 @@ one-feed : (s : Session) (live working hold piece : List ℕ) (r r′ : Fed) (li
 one-feed s live working hold piece r r′ live1 working1 hold1 live2 working2 hold2 p q =
     feed-unique ([], ([], ([], ([], tt)))) (s, (ref live, (ref working, (ref hold, (ref piece, tt))))) r r′ (s, (ref live1, (ref working1, (ref hold1, (ref piece, tt))))) (s, (ref live2, (ref working2, (ref hold2, (ref piece, tt))))) p q
 
+-- a refused feed
+abbrev still : Session → Fed
+still s = record { session = s; done = record { taken = 0; updates = 0; answer = FeedAnswer.NotAReceiver } }
+
+-- 22 leaves everything, the whole hold too
+refused-feed : (s : Session) (live working hold piece : List ℕ) (r : Fed) (live1 working1 hold1 : List ℕ) → isReceiver 1024 s live working hold ≡ false → fedSaid r live1 working1 hold1 ≡ feedSays 1024 s live working hold piece
+    → (r .session ≡ s) × (live1 ≡ live) × (working1 ≡ working) × (hold1 ≡ hold)
+refused-feed s live working hold piece r live1 working1 hold1 e p =
+    let q : fedSaid (still s) live working hold ≡ feedSays 1024 s live working hold piece = sym (refused-keeps-feed 1024 s live working hold piece e) in
+    let one = one-feed s live working hold piece r (still s) live1 working1 hold1 live working hold p q in
+    let whole : hold ≡ hold1 =
+    feed-unique-refused ([], ([], ([], ([], tt)))) (s, (ref live, (ref working, (ref hold, (ref piece, tt))))) (still s) r (s, (ref live, (ref working, (ref hold, (ref piece, tt))))) (s, (ref live1, (ref working1, (ref hold1, (ref piece, tt))))) q p refl in
+    (ap (λ (f : Fed). f .session) (one .0), one .1, one .2, sym whole)
+
 -- two holds of one length, with the same bytes held
 module _ (s : Session) (live working hold hold′ : List ℕ) (size : length hold ≡ length hold′) (same : take (s .held) hold ≡ take (s .held) hold′) where
-  -- a refused feed
-  abbrev still : Fed
-  still = record { session = s; done = record { taken = 0; updates = 0; answer = FeedAnswer.NotAReceiver } }
-
   fed-alike : (piece : List ℕ) (r r′ : Fed) (live1 working1 hold1 live2 working2 hold2 : List ℕ) → fedSaid r live1 working1 hold1 ≡ feedSays 1024 s live working hold piece → fedSaid r′ live2 working2 hold2 ≡ feedSays 1024 s live working hold′ piece
       → (r .session ≡ r′ .session) × (live1 ≡ live2) × (working1 ≡ working2) × (take (r .session .held) hold1 ≡ take (r′ .session .held) hold2)
   fed-alike piece r r′ live1 working1 hold1 live2 working2 hold2 p q = by-shape (isReceiver 1024 s live working hold) refl
@@ -72,9 +82,9 @@ module _ (s : Session) (live working hold hold′ : List ℕ) (size : length hol
           let one = one-feed s live working hold piece r r′ live1 working1 hold1 live2 working2 hold2 p (q ∙ sym (feed-alike 1024 s live working hold hold′ size same piece e)) in
           (ap (λ (f : Fed). f .session) (one .0), one .1, one .2, one .3)
       by-shape false e =
-          let one = one-feed s live working hold piece r still live1 working1 hold1 live working hold p (sym (refused-keeps-feed 1024 s live working hold piece e)) in
-          let other = one-feed s live working hold′ piece r′ still live2 working2 hold2 live working hold′ q (sym (refused-keeps-feed 1024 s live working hold′ piece (sym (shape-alike 1024 s live working hold hold′ size same) ∙ e))) in
-          (ap (λ (f : Fed). f .session) (one .0 ∙ sym (other .0)), one .1 ∙ sym (other .1), one .2 ∙ sym (other .2), one .3 ∙ same ∙ sym (other .3))
+          let one = refused-feed s live working hold piece r live1 working1 hold1 e p in
+          let other = refused-feed s live working hold′ piece r′ live2 working2 hold2 (sym (shape-alike 1024 s live working hold hold′ size same) ∙ e) q in
+          (one .0 ∙ sym (other .0), one .1 ∙ sym (other .1), one .2 ∙ sym (other .2), (λ i. take (one .0 i .held) (one .3 i)) ∙ same ∙ (λ i. take (sym (other .0) i .held) (sym (other .3) i)))
 
 -- the same record and rooms, the same bytes held, and holds of one length
 pub record Alike (m m′ : Memory) : Type 0 where
@@ -84,7 +94,7 @@ pub record Alike (m m′ : Memory) : Type 0 where
   pub held : take (m .session .held) (m .hold) ≡ take (m′ .session .held) (m′ .hold)
   pub size : length (m .hold) ≡ length (m′ .hold)
 
-pub step-alike : (piece : List ℕ) (m m′ z z′ : Memory) → Alike m m′ → Step 1024 m (Call.feed piece) z → Step 1024 m′ (Call.feed piece) z′ → Alike z z′
+step-alike : (piece : List ℕ) (m m′ z z′ : Memory) → Alike m m′ → Step 1024 m (Call.feed piece) z → Step 1024 m′ (Call.feed piece) z′ → Alike z z′
 step-alike piece m m′ z z′ a (Step.fed s done live working hold size e) (Step.fed s′ done′ live′ working′ hold′ size′ e′) =
     let one = fed-alike (m .session) (m .live) (m .working) (m .hold) (m′ .hold) (a .size) (a .held ∙ ap (λ (t : Session). take (t .held) (m′ .hold)) (sym (a .session))) piece (record { session = s; done = done }) (record { session = s′; done = done′ })
     live working hold live′ working′ hold′ e (e′ ∙ (λ i. feedSays 1024 (sym (a .session) i) (sym (a .live) i) (sym (a .working) i) (m′ .hold) piece)) in
@@ -96,3 +106,17 @@ times-alike piece m m′ (suc n) z z′ a (FedTimes.more {m = y} fed step) (FedT
 
 pub times-unique : (piece : List ℕ) (m : Memory) (n : ℕ) (z z′ : Memory) → FedTimes 1024 piece m n z → FedTimes 1024 piece m n z′ → Alike z z′
 times-unique piece m n z z′ fed fed′ = times-alike piece m m n z z′ (record { session = refl; live = refl; working = refl; held = refl; size = refl }) fed fed′
+
+-- ---- 22
+
+step-refused : (piece : List ℕ) (m z : Memory) → isReceiver 1024 (m .session) (m .live) (m .working) (m .hold) ≡ false → Step 1024 m (Call.feed piece) z → z ≡ m
+step-refused piece m z e (Step.fed s done live working hold size said) =
+    let left = refused-feed (m .session) (m .live) (m .working) (m .hold) piece (record { session = s; done = done }) live working hold e said in
+    λ i. record { session = left .0 i; live = left .1 i; working = left .2 i; hold = left .3 i }
+
+-- memory that has no receiver shape stays as it is, the whole hold too, however often it is fed
+pub times-refused : (piece : List ℕ) (m z : Memory) (n : ℕ) → isReceiver 1024 (m .session) (m .live) (m .working) (m .hold) ≡ false → FedTimes 1024 piece m n z → z ≡ m
+times-refused piece m z zero e FedTimes.none = refl
+times-refused piece m z (suc n) e (FedTimes.more {m = y} fed step) =
+    let same : y ≡ m = times-refused piece m y n e fed in
+    step-refused piece y z (ap (λ (x : Memory). isReceiver 1024 (x .session) (x .live) (x .working) (x .hold)) same ∙ e) step ∙ same

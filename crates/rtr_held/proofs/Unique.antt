@@ -1,5 +1,5 @@
 -- Each contract of this crate, as Rattle reads it off the source, is the by-value call's (`.._says`, by computation): of the record's exit content and the answer where the record is lent, of what is returned where it is lent on. So the
--- by-value call's uniqueness is this crate's too: one answer, one content of the record and one of lent memory (of the hold up to the held count, and all of it under 22). Many feeds are as unique as one (Times.antt), but that they leave open the hold past the held count under 22 too. A promise that is weakened
+-- by-value call's uniqueness is this crate's too: one answer, one content of the record and one of lent memory (of the hold up to the held count, and all of it under 22). Many feeds are as unique as one, and leave all of memory under 22 (Times.antt: `times-unique`, `times-refused`). A promise that is weakened
 -- breaks this file. Assumes nothing.
 use mathlib.Core.Bool.{Bool}
 use mathlib.Core.List.{List}

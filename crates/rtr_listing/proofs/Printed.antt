@@ -58,9 +58,9 @@ listed-without-update limit H v calls m run none =
     ∙ listing-of-none s
     ∙ ap (λ (b : List ℕ). stopLine m ++ b) (no-table-lines (s .table) (s .live) table)
 
--- the history of document 01's example: a full ask with 32 bytes for its query, and the input up to the End of Data's bytes that are given
+-- the history of document 01's example: a full ask with 8 bytes for its query, as rtr-table makes it, and the input up to the End of Data's bytes that are given
 abbrev exampleWith : List ℕ → List Event
-exampleWith end = Event.ask LoadKind.Full 32 ∷ (bytes responseBytes ++ (bytes (prefixBytes 1) ++ bytes end))
+exampleWith end = Event.ask LoadKind.Full 8 ∷ (bytes responseBytes ++ (bytes (prefixBytes 1) ++ bytes end))
 
 module _ (limit H : ℕ) (some : 1 ≤ limit) (size : 24 ≤ H) (calls : List Call) (m : Memory) (run : Run limit V1 H calls m) where
   -- document 01's input, cut anywhere

@@ -9,9 +9,8 @@ use native.Mathlib.Omega.{arith}
 use borrow.Author.Tests.{eq-eqb}
 use lib.Dec.{eqb}
 use lib.ListN.{length, getD}
-use Rattle.rtr_receiver.specs.Promises.{leaves}
 use Rattle.rtr_receiver.specs.declared.Session.{Session}
-use Rattle.rtr_numbers.specs.Numbers.{tableNumber, tableOr, numbersOf, sessionNumbers, leftNumbers}
+use Rattle.rtr_numbers.specs.Numbers.{tableNumber, tableOr, numbersOf, sessionNumbers}
 use Rattle.rtr_numbers.specs.Back.{alike, looseSession, sessionIf, sessionOf}
 use Rattle.rtr_numbers.specs.Ranges.{SessionFits}
 use Rattle.rtr_numbers.specs.declared.SessionFound.{SessionFound}
@@ -38,10 +37,6 @@ pub session-table : (s : Session) →
     × (getD (sessionNumbers s) 15 0 ≡ s .live)
 unfolding numbersOf
 session-table s = (refl, refl, refl, refl, refl, refl, refl)
-
--- a session's numbers are those of what it leaves
-pub session-leaves : (s : Session) (live working hold : List ℕ) → sessionNumbers s ≡ leftNumbers (leaves s live working hold)
-session-leaves s live working hold = refl
 
 -- a session that fits its types comes back from its numbers
 pub session-of-numbers : (s : Session) → SessionFits s → sessionOf (sessionNumbers s) ≡ SessionFound.Known s

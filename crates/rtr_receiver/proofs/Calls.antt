@@ -35,7 +35,7 @@ use Rattle.rtr_receiver.proofs.Memory.{left-alike, room-stands, room-si
 
 -- ---- The phases that a `_` stands for
 
-abbrev pub tag : Phase → ℕ
+abbrev tag : Phase → ℕ
 tag p = tagOf phase.the-type p
 
 pub no-change : (p : Phase) → OneOf (0 ∷ 1 ∷ 2 ∷ 5 ∷ []) (tag p) → changeUnderWay p ≡ false

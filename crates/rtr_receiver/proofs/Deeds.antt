@@ -37,7 +37,7 @@ use Rattle.rtr_receiver.proofs.Memory.{room-stands, room-size, left-ali
 -- ---- rooms
 
 -- zeros of that size are the empty room
-pub zeros-stand : (limit : ℕ) (w w′ : List ℕ) → length w ≡ 6 * limit → w′ ≡ replicate (length w) 0 → w′ ≡ room limit []
+zeros-stand : (limit : ℕ) (w w′ : List ℕ) → length w ≡ 6 * limit → w′ ≡ replicate (length w) 0 → w′ ≡ room limit []
 zeros-stand limit w w′ n e = e ∙ ap (λ (k : ℕ). replicate k 0) n ∙ empty-is limit .0
 
 -- ---- what a call leaves
@@ -51,7 +51,7 @@ pub rooms-stand : (limit : ℕ) (s : Session) (live working : List ℕ) (l w : L
 rooms-stand limit s live working l w lc wc h le we = left-alike refl refl refl refl lc wc (nothing-held (s .held) h) le we refl
 
 -- a stop, whatever is held
-pub stop-stands : (limit : ℕ) (s : Session) (live working hold : List ℕ) → isRoom limit (s .live) live ≡ true →
+stop-stands : (limit : ℕ) (s : Session) (live working hold : List ℕ) → isRoom limit (s .live) live ≡ true →
     (why : Stop) (number : ℕ) (values : List ℕ) → stopSaid why ≡ Verdict.refused number values →
     (w w′ : List ℕ) → length w ≡ 6 * limit → w′ ≡ replicate (length w) 0 → (r : Session) → r ≡ stoppedSession s why →
     leaves r live w′ hold ≡ inMemory limit (stop number values (receiverOf s live working hold))

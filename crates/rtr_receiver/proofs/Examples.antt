@@ -17,10 +17,12 @@ use Rattle.rtr_room.specs.Table.{Change, ipv4Record, leave}
 use Rattle.rtr_room.specs.declared.Record.{Record}
 use Rattle.rtr_room.proofs.Laws.{enter-first, leave-first, leave-empty}
 use Rattle.rtr_receiver.specs.History.{Event, Update, Live, Item, Place, noTable, kept, withAll, withUpdates, tableOf, itemsBy, items, takenIn, updates, finished}
+use Rattle.rtr_receiver.specs.Receiver.{Notified, notified}
 use Rattle.rtr_receiver.specs.Runs.{bytes}
 use Rattle.rtr_receiver.specs.declared.LoadKind.{LoadKind}
 use Rattle.rtr_receiver.specs.declared.Table.{Table}
 use Rattle.rtr_receiver.specs.declared.LiveTable.{LiveTable}
+use Rattle.rtr_receiver.specs.declared.Note.{Note}
 
 module _ (H : ℕ) where
   -- these bytes, no more and no fewer, are a PDU that is listened to
@@ -68,10 +70,10 @@ abbrev said : ℕ → Table
 said serial = record { session = 4660; serial = serial; refresh = 3600; retry = 600; expire = 7200 }
 
 abbrev fullAsk : List Event → List Event
-fullAsk es = Event.ask LoadKind.Full 32 ∷ es
+fullAsk es = Event.ask LoadKind.Full 8 ∷ es
 
 abbrev changeAsk : List Event → List Event
-changeAsk es = Event.ask LoadKind.Change 32 ∷ es
+changeAsk es = Event.ask LoadKind.Change 12 ∷ es
 
 abbrev response : List Event → List Event
 response es = bytes responseBytes ++ es
@@ -205,3 +207,13 @@ module _ (limit H : ℕ) (some : 1 ≤ limit) (size : 24 ≤ H) where
       ∙ ap (λ (c : Change). loaded ∷ updates limit V1 first (takenIn LoadKind.Change 4660 (record { announced = false; what = prefix } ∷ []) false prefix (leave prefix (kept (prefix ∷ []) c))) (items H [] (ended 8 []))) (leave-first prefix [])
       ∙ ap (λ (c : Change). loaded ∷ updates limit V1 first (takenIn LoadKind.Change 4660 (record { announced = false; what = prefix } ∷ []) false prefix c) (items H [] (ended 8 []))) (leave-empty prefix)
       ∙ ap (λ (is : List Item). loaded ∷ updates limit V1 first Place.lost is) (later-ended-items [])
+
+-- document 01's edges of the notify comparison: a serial just past the largest is newer, one halfway round is undefined
+abbrev tabled : ℕ → LiveTable
+tabled serial = LiveTable.Known (record { session = 0; serial = serial; refresh = 0; retry = 0; expire = 0 })
+
+pub past-the-largest : notified (tabled 4294967295) (Note.Noted 0 0) ≡ Notified.newer
+past-the-largest = refl
+
+pub halfway-round : notified (tabled 0) (Note.Noted 0 2147483648) ≡ Notified.undefined
+halfway-round = refl

@@ -2,9 +2,9 @@
 -- a stop clears and repeats. Each is about the promises of specs/Promises.antt. Assumes nothing.
 use Prim.Native.Nat.{ℕ, suc, _*_, _≤_, _<_}
 use mathlib.Core.Bool.{Bool, true, false, cond, _&&_}
-use mathlib.Core.List.{List, []}
+use mathlib.Core.List.{List, [], _∷_, _++_, append-nil}
 use mathlib.Core.Logic.{_↔_}
-use mathlib.Core.Path.{_≡_, refl, sym, ap, _∙_, subst}
+use mathlib.Core.Path.{_≡_, refl, sym, ap, _∙_}
 use native.Mathlib.Omega.{arith}
 use borrow.Author.Tests.{leb-true, le-leb, eqb-true, eq-eqb}
 use lib.Dec.{eqb, leb}
@@ -17,17 +17,16 @@ use Rattle.rtr_stream.proofs.Laws.{stream-has}
 use Rattle.rtr_receiver.specs.Receiver.{Stage, Receiver, Feed, Query, fresh, feed, fullQuery, changeQuery, listens, onPiece, askedBy, ask, reconnected}
 use Rattle.rtr_receiver.specs.Receiver.Stage.{idle, mustReset, askedFull, askedChange, loading, stopped}
 use Rattle.rtr_receiver.specs.Promises.{Left, Ending, FeedSays, StartSays, AskSays, ReconnectSays, isReceiver, receiverOf, stageOf, leaves, inMemory, endingOf, fedTo, feedSays, startSays, askedTo, askSays, fullAskSays, changeAskSays, reconnectSays}
-use Rattle.rtr_receiver.specs.History.{Place, items, updates}
-use Rattle.rtr_receiver.specs.Runs.{Call, Memory, Step, Run, bytes, liveIn}
+use Rattle.rtr_receiver.specs.History.{Event, Update, finished}
+use Rattle.rtr_receiver.specs.Runs.{Call, Memory, Step, Run, bytes, historyOf}
 use Rattle.rtr_receiver.specs.declared.LoadKind.{LoadKind}
 use Rattle.rtr_receiver.specs.declared.Session.{Session}
 use Rattle.rtr_receiver.proofs.Feeds.{from, stopped-takes-none}
 use Rattle.rtr_receiver.proofs.Memory.{standing}
-use Rattle.rtr_receiver.proofs.Steps.{shape-of, good-of, stands-for}
+use Rattle.rtr_receiver.proofs.Steps.{shape-of, good-of}
 use Rattle.rtr_receiver.proofs.Kept.{toCome, stopsRightly, isStop, Cleared, piece-keeps, Through, through}
-use Rattle.rtr_receiver.proofs.Histories.{At}
-use Rattle.rtr_receiver.proofs.Counts.{piece-counts}
-use Rattle.rtr_receiver.proofs.Runs.{Stands, after, run-along, in-shape, step-stands}
+use Rattle.rtr_receiver.proofs.Histories.{piece-follows, onward-by, all-between}
+use Rattle.rtr_receiver.proofs.Runs.{Stands, after, run-along, in-shape, is-receiver, step-stands, history-snoc}
 
 -- ---- A refused call changes nothing
 
@@ -292,25 +291,25 @@ version-for-life limit H v calls m (Run.next {calls = before} {call = call} {m =
     ∙ sym (ap (λ (l : Left). l .version) (along .stands .left))
     ∙ version-for-life limit H v before m₀ run
 
--- ---- What a feed counts is what the history's page counts: the updates that finish in its bytes, from the place where the connection stands
+-- ---- What a feed counts is what the history's page counts: the updates that have finished grow at their end by as many
 
 pub feed-counts : (limit H : ℕ) (v : RtrProtocolVersion) (calls : List Call) (m : Memory) (piece : List ℕ) (taken counted : ℕ) (ending : Ending) (left : Left) →
     Run limit v H calls m →
     feedSays limit (m .session) (m .live) (m .working) (m .hold) piece ≡ FeedSays.fed taken counted ending left →
-    (p : Place)
-    × At limit H (receiverOf (m .session) (m .live) (m .working) (m .hold)) p
-    × (counted ≡ length (updates limit (m .session .version) (liveIn m) p (items H (take (m .session .held) (m .hold)) (bytes piece))))
-unfolding feed
+    (us : List Update)
+    × (finished limit H v (historyOf (calls ++ Call.feed piece ∷ [])) ≡ finished limit H v (historyOf calls) ++ us)
+    × (length us ≡ counted)
+unfolding feed historyOf
 feed-counts limit H v calls m piece taken counted ending left run e =
     let along = run-along limit H v calls m run in
-    let r : Receiver = receiverOf (m .session) (m .live) (m .working) (m .hold) in
-    let same : r ≡ along .receiver = stands-for limit (m .session) (m .live) (m .working) (m .hold) (along .receiver) (along .stands .left) in
-    let at : At limit H r (along .place) = subst (λ (x : Receiver). At limit H x (along .place)) (sym same) (along .at) in
-    let means = fed-means limit (m .session) (m .live) (m .working) (m .hold) piece taken counted ending left e in (
-      along .place,
-      at,
-      sym (means .updates-is)
-          ∙ ap (λ (h : ℕ). onPiece limit h (from r 0 0) piece .updates) (along .stands .size)
-          ∙ piece-counts limit H piece r (along .place) 0 0 at
-          ∙ omega arith,
+    let fed = piece-follows limit H piece (along .receiver) (along .way .place) 0 0 (along .way .at) in
+    let us : List Update = fed .0 .between in
+    let means = fed-means limit (m .session) (m .live) (m .working) (m .hold) piece taken counted ending left e in
+    let said : counted ≡ length us =
+    sym (means .updates-is) ∙ (λ i. feed limit (along .stands .size i) (is-receiver limit H (along .stands) i) piece .updates) ∙ fed .1 ∙ omega arith in (
+      us,
+      ap (finished limit H v) (sym (history-snoc limit H calls (Call.feed piece)) ∙ ap (λ (es : List Event). historyOf calls ++ es) (append-nil (bytes piece)))
+          ∙ all-between limit H (onward-by limit H (along .way) (fed .0))
+          ∙ ap (λ (done : List Update). done ++ us) (sym (all-between limit H (along .way))),
+      sym said,
     )

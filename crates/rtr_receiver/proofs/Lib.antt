@@ -1,5 +1,5 @@
--- `Laws`, `Shaped`, `Shape`, `Unique`, `Runs` (demand 3), `Coded` and `Examples` are for readers and other crates; the others are the argument.
-pub mod Memory
+-- `Laws`, `Shaped`, `Shape`, `Unique`, `Runs` (demand 3), `Coded` and `Examples` are for readers and other crates, and with them `Kept`, of which they say something; the others are the argument.
+mod Memory
 pub mod Shape
 mod Calls
 mod Deeds
@@ -12,8 +12,7 @@ mod Stepping
 pub mod Laws
 pub mod Shaped
 pub mod Unique
-pub mod Histories
-pub mod Counts
+mod Histories
 pub mod Runs
 pub mod Coded
 pub mod Examples

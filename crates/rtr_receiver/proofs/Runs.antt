@@ -4,7 +4,7 @@ use Prim.Native.Nat.{ℕ, _+_, _*_, _≤_}
 use mathlib.Core.Bool.{Bool, true, false, cond, _&&_}
 use mathlib.Core.List.{List, [], _∷_, _++_, append-assoc, append-nil}
 use mathlib.Core.Logic.{_⊎_, inl, inr, _↔_}
-use mathlib.Core.Path.{_≡_, refl, sym, ap, _∙_}
+use mathlib.Core.Path.{_≡_, refl, sym, ap, _∙_, subst}
 use native.Mathlib.Omega.{arith}
 use borrow.Author.Tests.{leb-true}
 use lib.Dec.{eqb, leb}
@@ -18,7 +18,7 @@ use Rattle.rtr_stream.specs.Stream.{Heard, judge}
 use Rattle.rtr_stream.proofs.Laws.{nothing-waits, whole-is-read, stream-exactly, waits-fits}
 use Rattle.rtr_room.proofs.Laws.{empty-table}
 use Rattle.rtr_receiver.specs.Receiver.{Stage, Receiver, Feed, fresh, holding, inStage, heard, listens, onByte, onPiece, feed, fullQuery, changeQuery, serialQuery, askedBy, ask, reconnected}
-use Rattle.rtr_receiver.specs.History.{Event, Update, Live, Place, noTable, withUpdates, tableOf, updated, items, updates, finished, hasTable}
+use Rattle.rtr_receiver.specs.History.{Event, Update, Live, Place, noTable, withUpdates, tableOf, updated, finished, hasTable}
 use Rattle.rtr_receiver.specs.Promises.{Left, StartSays, AskSays, ReconnectSays, receiverOf, isReceiver, leaves, inMemory, fedTo, feedSays, fedSaidBy, startSays, startSaid, askedTo, fullAskSays, changeAskSays, reconnectSays}
 use Rattle.rtr_receiver.specs.Runs.{Call, Memory, Step, Run, bytes, historyOf, liveIn}
 use Rattle.rtr_receiver.specs.declared.LoadKind.{LoadKind}
@@ -30,7 +30,7 @@ use Rattle.rtr_receiver.proofs.Feeds.{from}
 use Rattle.rtr_receiver.proofs.Good.{Good, fresh-good, stop-good, pdu-good, changeIn, loadingIn, stoppedIn}
 use Rattle.rtr_receiver.proofs.Steps.{shape-is, shape-of-good, stands-for}
 use Rattle.rtr_receiver.proofs.Kept.{told-drops}
-use Rattle.rtr_receiver.proofs.Histories.{At, liveOf, outcome, piece-follows, full-follows, change-follows, reconnect-follows}
+use Rattle.rtr_receiver.proofs.Histories.{At, Leads, liveOf, onward-by, all-between, piece-follows, full-follows, change-follows, reconnect-follows}
 
 module _ (limit H : ℕ) where
   -- ---- every call keeps the shape
@@ -95,7 +95,7 @@ module _ (limit H : ℕ) where
       go true e = by (judge crate H (f .receiver .held ++ b ∷ [])) e refl
       go false e = sound
 
-  pub piece-sound : (piece : List ℕ) (f : Feed) → Sound (f .receiver) → Sound (onPiece limit H f piece .receiver)
+  piece-sound : (piece : List ℕ) (f : Feed) → Sound (f .receiver) → Sound (onPiece limit H f piece .receiver)
   unfolding onPiece
   piece-sound [] f sound = sound
   piece-sound (b ∷ piece) f sound = piece-sound piece (onByte limit H f b) (byte-sound f b sound)
@@ -133,7 +133,7 @@ module _ (limit H : ℕ) where
   by-writing (Writing.written n) stage r out sound then = then
   by-writing (Writing.refused number values) stage r out sound then = sound
 
-  pub full-sound : (r : Receiver) (out : List ℕ) → Sound r → (stage : Stage) → r .stage ≡ stage → Sound (ask (fullQuery stage r) r out .receiver)
+  full-sound : (r : Receiver) (out : List ℕ) → Sound r → (stage : Stage) → r .stage ≡ stage → Sound (ask (fullQuery stage r) r out .receiver)
   full-sound r out sound Stage.idle e = let w = encode crate (ResetQuery (record { version = r .version })) [] out in by-writing (w .says) Stage.askedFull r (w .out) sound (asked-sound r Stage.askedFull sound (ap loadingIn e) (inr refl) refl)
   full-sound r out sound Stage.mustReset e = let w = encode crate (ResetQuery (record { version = r .version })) [] out in by-writing (w .says) Stage.askedFull r (w .out) sound (asked-sound r Stage.askedFull sound (ap loadingIn e) (inr refl) refl)
   full-sound r out sound Stage.askedFull e = sound
@@ -141,7 +141,7 @@ module _ (limit H : ℕ) where
   full-sound r out sound (Stage.loading kind session) e = sound
   full-sound r out sound (Stage.stopped k x) e = sound
 
-  pub change-sound : (r : Receiver) (out : List ℕ) → Sound r → (stage : Stage) → r .stage ≡ stage → Sound (ask (changeQuery stage r) r out .receiver)
+  change-sound : (r : Receiver) (out : List ℕ) → Sound r → (stage : Stage) → r .stage ≡ stage → Sound (ask (changeQuery stage r) r out .receiver)
   change-sound r out sound Stage.idle e = table (r .table) refl
     where
       table : (t : LiveTable) → r .table ≡ t → Sound (ask (serialQuery t r) r out .receiver)
@@ -153,7 +153,7 @@ module _ (limit H : ℕ) where
   change-sound r out sound (Stage.loading kind session) e = sound
   change-sound r out sound (Stage.stopped k x) e = sound
 
-  pub reconnect-sound : (r : Receiver) → Sound r → Sound (reconnected r)
+  reconnect-sound : (r : Receiver) → Sound r → Sound (reconnected r)
   reconnect-sound r sound =
       let g : Good limit r = sound .good in
       record {
@@ -220,7 +220,7 @@ module _ (limit H : ℕ) where
   reconnect-said m e = simp e
 
   -- the receiver that memory stands for
-  is-receiver : {m : Memory} {r : Receiver} → Stands m r → receiverOf (m .session) (m .live) (m .working) (m .hold) ≡ r
+  pub is-receiver : {m : Memory} {r : Receiver} → Stands m r → receiverOf (m .session) (m .live) (m .working) (m .hold) ≡ r
   is-receiver {m} {r} s = stands-for limit (m .session) (m .live) (m .working) (m .hold) r (s .left)
 
   -- the receiver after a call
@@ -270,21 +270,26 @@ module _ (limit H : ℕ) where
         sound = reconnect-sound r (st .sound);
       }
 
-  -- a run so far: memory stands for a receiver at a place, and whatever comes makes of the history what it makes of the receiver
+  -- what a call leads to, from a place
+  leads : (call : Call) (r : Receiver) (p : Place) → At limit H r p → Leads limit H r p (historyOf (call ∷ [])) (after call r)
+  unfolding historyOf
+  leads (Call.feed piece) r p a = subst (λ (es : List Event). Leads limit H r p es (after (Call.feed piece) r)) (sym (append-nil (bytes piece))) (piece-follows limit H piece r p 0 0 a .0)
+  leads (Call.ask LoadKind.Full out) r p a = full-follows limit H r p out a
+  leads (Call.ask LoadKind.Change out) r p a = change-follows limit H r p out a
+  leads Call.reconnect r p a = reconnect-follows limit H r p
+
+  -- a run so far: memory stands for a receiver, to which the history leads from a fresh start
   pub record Along (v : RtrProtocolVersion) (calls : List Call) (m : Memory) : Type 0 where
     pub receiver : Receiver
-    pub place : Place
     pub stands : Stands m receiver
-    pub at : At limit H receiver place
-    pub to-come : (es : List Event) → tableOf limit (finished limit H v (historyOf calls ++ es)) ≡ outcome limit H receiver place es
+    pub way : Leads limit H (fresh v) Place.idle (historyOf calls) receiver
 
-  history-snoc : (calls : List Call) (call : Call) (es : List Event) → historyOf (calls ++ call ∷ []) ++ es ≡ historyOf calls ++ (historyOf (call ∷ []) ++ es)
+  pub history-snoc : (calls : List Call) (call : Call) → historyOf calls ++ historyOf (call ∷ []) ≡ historyOf (calls ++ call ∷ [])
   unfolding historyOf
-  history-snoc [] call es = refl
-  history-snoc (Call.feed piece ∷ calls) call es =
-      append-assoc (bytes piece) (historyOf (calls ++ call ∷ [])) es ∙ ap (λ (x : List Event). bytes piece ++ x) (history-snoc calls call es) ∙ sym (append-assoc (bytes piece) (historyOf calls) (historyOf (call ∷ []) ++ es))
-  history-snoc (Call.ask kind out ∷ calls) call es = ap (λ (x : List Event). Event.ask kind (length out) ∷ x) (history-snoc calls call es)
-  history-snoc (Call.reconnect ∷ calls) call es = ap (λ (x : List Event). Event.reconnect ∷ x) (history-snoc calls call es)
+  history-snoc [] call = refl
+  history-snoc (Call.feed piece ∷ calls) call = append-assoc (bytes piece) (historyOf calls) (historyOf (call ∷ [])) ∙ ap (λ (x : List Event). bytes piece ++ x) (history-snoc calls call)
+  history-snoc (Call.ask kind out ∷ calls) call = ap (λ (x : List Event). Event.ask kind (length out) ∷ x) (history-snoc calls call)
+  history-snoc (Call.reconnect ∷ calls) call = ap (λ (x : List Event). Event.reconnect ∷ x) (history-snoc calls call)
 
   start-along : (v : RtrProtocolVersion) (m : Memory) (live working : List ℕ) → length (m .hold) ≡ H → startSaid (StartAnswer.Started (m .session)) (m .live) (m .working) (m .hold) ≡ startSays limit v live working (m .hold) → Along v [] m
   unfolding startSays historyOf withUpdates
@@ -297,7 +302,6 @@ module _ (limit H : ℕ) where
       go true true true t q =
           record {
             receiver = fresh v;
-            place = Place.idle;
             stands =
                 record {
                   size = size;
@@ -305,8 +309,7 @@ module _ (limit H : ℕ) where
                   left = cc;
                   sound = record { good = fresh-good limit v; waits = nothing-waits crate H };
                 };
-            at = At.at-idle refl;
-            to-come = λ es. refl;
+            way = record { place = Place.idle; at = At.at-idle refl; between = []; table = refl; to-come = λ es. refl };
           }
       go true true false t q = absurd (let z : _≡_ {A = ℕ} 0 1 = cc in omega arith)
       go true false c t q = absurd (let z : _≡_ {A = ℕ} 0 1 = cc in omega arith)
@@ -314,58 +317,14 @@ module _ (limit H : ℕ) where
 
   -- one call more
   step-along : (v : RtrProtocolVersion) (calls : List Call) (call : Call) (m m′ : Memory) → Along v calls m → Step limit m call m′ → Along v (calls ++ call ∷ []) m′
-  unfolding historyOf
-  step-along v calls (Call.feed piece) m m′ along step =
-      let r : Receiver = along .receiver in
-      let f = piece-follows limit H piece r (along .place) 0 0 (along .at) in
-      record {
-        receiver = after (Call.feed piece) r;
-        place = f .0;
-        stands = step-stands (Call.feed piece) m m′ r (along .stands) step;
-        at = f .1;
-        to-come = λ es.
-            ap (λ (h : List Event). tableOf limit (finished limit H v h)) (history-snoc calls (Call.feed piece) es)
-            ∙ along .to-come ((bytes piece ++ []) ++ es)
-            ∙ ap (λ (x : List Event). outcome limit H r (along .place) (x ++ es)) (append-nil (bytes piece))
-            ∙ f .2 es;
-      }
-  step-along v calls (Call.ask LoadKind.Full out) m m′ along step =
-      let r : Receiver = along .receiver in
-      let f = full-follows limit H r (along .place) out (along .at) in
-      record {
-        receiver = after (Call.ask LoadKind.Full out) r;
-        place = f .0;
-        stands = step-stands (Call.ask LoadKind.Full out) m m′ r (along .stands) step;
-        at = f .1;
-        to-come = λ es.
-            ap (λ (h : List Event). tableOf limit (finished limit H v h)) (history-snoc calls (Call.ask LoadKind.Full out) es)
-            ∙ along .to-come (Event.ask LoadKind.Full (length out) ∷ es)
-            ∙ f .2 es;
-      }
-  step-along v calls (Call.ask LoadKind.Change out) m m′ along step =
-      let r : Receiver = along .receiver in
-      let f = change-follows limit H r (along .place) out (along .at) in
-      record {
-        receiver = after (Call.ask LoadKind.Change out) r;
-        place = f .0;
-        stands = step-stands (Call.ask LoadKind.Change out) m m′ r (along .stands) step;
-        at = f .1;
-        to-come = λ es.
-            ap (λ (h : List Event). tableOf limit (finished limit H v h)) (history-snoc calls (Call.ask LoadKind.Change out) es)
-            ∙ along .to-come (Event.ask LoadKind.Change (length out) ∷ es)
-            ∙ f .2 es;
-      }
-  step-along v calls Call.reconnect m m′ along step =
+  step-along v calls call m m′ along step =
       let r : Receiver = along .receiver in
       record {
-        receiver = reconnected r;
-        place = Place.idle;
-        stands = step-stands Call.reconnect m m′ r (along .stands) step;
-        at = At.at-idle refl;
-        to-come = λ es.
-            ap (λ (h : List Event). tableOf limit (finished limit H v h)) (history-snoc calls Call.reconnect es)
-            ∙ along .to-come (Event.reconnect ∷ es)
-            ∙ reconnect-follows limit H r (along .place) es;
+        receiver = after call r;
+        stands = step-stands call m m′ r (along .stands) step;
+        way =
+            subst (λ (es : List Event). Leads limit H (fresh v) Place.idle es (after call r)) (history-snoc calls call)
+            (onward-by limit H (along .way) (leads call r (along .way .place) (along .way .at)));
       }
 
   pub run-along : (v : RtrProtocolVersion) (calls : List Call) (m : Memory) → Run limit v H calls m → Along v calls m
@@ -377,12 +336,9 @@ module _ (limit H : ℕ) where
 -- In every run, over every version, hold size, list of calls and cut, the live table with its session, serial and intervals is what the updates make that
 -- finished in the history.
 pub history : (limit H : ℕ) (v : RtrProtocolVersion) (calls : List Call) (m : Memory) → Run limit v H calls m → liveIn m ≡ tableOf limit (finished limit H v (historyOf calls))
-unfolding items updates withUpdates
 history limit H v calls m run =
     let along = run-along limit H v calls m run in
-    ap liveOf (is-receiver limit H (along .stands))
-    ∙ sym (along .to-come [])
-    ∙ ap (λ (h : List Event). tableOf limit (finished limit H v h)) (append-nil (historyOf calls))
+    ap liveOf (is-receiver limit H (along .stands)) ∙ along .way .table ∙ ap (tableOf limit) (sym (all-between limit H (along .way)))
 
 -- the same bytes cut elsewhere, between the same asks and reconnects, leave the same live table
 pub cut-anywhere : (limit H : ℕ) (v : RtrProtocolVersion) (calls calls′ : List Call) (m m′ : Memory) → Run limit v H calls m → Run limit v H calls′ m′ → historyOf calls ≡ historyOf calls′ → liveIn m ≡ liveIn m′

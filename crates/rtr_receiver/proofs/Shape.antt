@@ -5,7 +5,7 @@ use mathlib.Core.List.{List}
 use mathlib.Core.Logic.{_↔_, _⊎_, inl, inr}
 use mathlib.Core.Path.{_≡_, refl, sym, ap, _∙_}
 use native.Mathlib.Omega.{arith}
-use borrow.Author.Tests.{leb-true, leb-false, eqb-true, eqb-false, eq-eqb, not-true, not-false}
+use borrow.Author.Tests.{leb-true, leb-false, eqb-true, eqb-false, not-true, not-false}
 use lib.Dec.{leb, eqb}
 use lib.ListN.{length, take}
 use Rattle.rtr_codec.specs.Reading.{crate}
@@ -14,7 +14,7 @@ use Rattle.rtr_stream.specs.Search.{isStream}
 use Rattle.rtr_stream.proofs.Laws.{stream-has, stream-exactly}
 use Rattle.rtr_room.specs.Room.{isRoom}
 use Rattle.rtr_room.proofs.Laws.{rules-exactly}
-use Rattle.rtr_room.proofs.Laws.Tests.{first-of, second-of, both, not-both, unless}
+use Rattle.rtr_room.proofs.Laws.Tests.{first-of, second-of, not-both, unless}
 use Rattle.rtr_receiver.specs.History.{hasTable}
 use Rattle.rtr_receiver.specs.Promises.{changeUnderWay, isLoading, isStopped, inOrder, isReceiver, BreaksRules, Reason}
 use Rattle.rtr_receiver.specs.Promises.Reason.{liveSize, workingSize, holdSize, liveOver, workingOver, heldOver, liveRules, workingRules, recordsWithoutTable, changeWithoutTable, workingOutsideLoading, heldInStopped, heldPdu, heldRefusal}
@@ -35,10 +35,6 @@ or-fails false b e = (refl, e)
 or-other : (a b : Bool) → a || b ≡ true → a ≡ false → b ≡ true
 or-other true b e q = absurd (true≢false q)
 or-other false b e q = e
-
-or-is : (a b : Bool) → (a ≡ false → b ≡ true) → a || b ≡ true
-or-is true b h = refl
-or-is false b h = h refl
 
 no-table : (t : LiveTable) → hasTable t ≡ false → t ≡ LiveTable.NoTable
 no-table LiveTable.NoTable e = refl
@@ -66,13 +62,13 @@ room-keeps : (limit count : ℕ) (s : List ℕ) → isRoom limit count s ≡ tru
 room-keeps limit count s e breaks = let r = rules-exactly limit count s .0 e in breaks (r .0) (r .1) (r .2) (r .4)
 
 -- what a session in order has
-pub record InOrder (s : Session) : Type 0 where
+record InOrder (s : Session) : Type 0 where
   pub records : s .table ≡ LiveTable.NoTable → s .live ≡ 0
   pub change : s .table ≡ LiveTable.NoTable → changeUnderWay (s .phase) ≡ false
   pub working : isLoading (s .phase) ≡ false → s .working ≡ 0
   pub held : isStopped (s .phase) ≡ true → s .held ≡ 0
 
-pub order-has : (s : Session) → inOrder s ≡ true → InOrder s
+order-has : (s : Session) → inOrder s ≡ true → InOrder s
 order-has s e =
     let table = first-of (hasTable (s .table) || (eqb (s .live) 0 && not (changeUnderWay (s .phase)))) _ e in
     let rest = second-of (hasTable (s .table) || (eqb (s .live) 0 && not (changeUnderWay (s .phase)))) _ e in
@@ -82,16 +78,6 @@ order-has s e =
       working = λ l. eqb-true (s .working) 0 (or-other (isLoading (s .phase)) _ (first-of (isLoading (s .phase) || eqb (s .working) 0) _ rest) l);
       held = λ l. eqb-true (s .held) 0 (or-other (not (isStopped (s .phase))) _ (second-of (isLoading (s .phase) || eqb (s .working) 0) _ rest) (ap not l));
     }
-
--- and nothing else is asked of it
-pub order-is : (s : Session) → InOrder s → inOrder s ≡ true
-order-is s o =
-    both _ _
-    (or-is (hasTable (s .table)) _
-    (λ e. let t = no-table (s .table) e in both _ _ (eq-eqb (s .live) 0 (o .records t)) (ap not (o .change t))))
-    (both _ _
-    (or-is (isLoading (s .phase)) _ (λ e. eq-eqb (s .working) 0 (o .working e)))
-    (or-is (not (isStopped (s .phase))) _ (λ e. eq-eqb (s .held) 0 (o .held (not-false _ e)))))
 
 module _ (limit : ℕ) (s : Session) (live working hold : List ℕ) where
   by-live : isRoom limit (s .live) live ≡ false → Reason limit s live working hold

@@ -223,7 +223,7 @@ waiting-grows {H} {s} (cut h i e) u l =
     cut (simp length-append (omega arith)) (rw (header-stays s u h) i) (rw (header-stays s u h) (simp length-append (omega (arith, needed-large s h))))
 
 -- A stream: what `isStream` tests.
-pub not-waiting : (R : Reading) (H : ℕ) (s : List ℕ) → (Waiting H s → ⊥) → isWaits (judge R H s) ≡ false
+not-waiting : (R : Reading) (H : ℕ) (s : List ℕ) → (Waiting H s → ⊥) → isWaits (judge R H s) ≡ false
 not-waiting R H s never = go (judge R H s) refl
   where
     go : (h : Heard) → judge R H s ≡ h → isWaits h ≡ false

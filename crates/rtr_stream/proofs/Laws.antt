@@ -13,7 +13,7 @@ use Rattle.rtr_models.specs.declared.RtrPdu.{RtrPdu}
 use Rattle.rtr_codec.specs.Reading.{Reading, crate}
 use Rattle.rtr_codec.specs.Read.{Verdict, headerLength, read, needed}
 use Rattle.rtr_codec.proofs.Laws.{header-stays, read-consumes}
-use Rattle.rtr_stream.specs.Stream.{Heard, longest, heardOf, judge, Found, State, Listened, fresh, after, onByteIn, onByte, onPiece, onPieces}
+use Rattle.rtr_stream.specs.Stream.{Heard, longest, heardOf, judge, Found, State, Listened, after, onByteIn, onByte, onPiece, onPieces}
 use Rattle.rtr_stream.specs.Stream.Heard.{waits, whole, refused}
 use Rattle.rtr_stream.specs.Search.{End, Search, over, searchFrom, isWaits, isStream, outcomeOf, search, Outcome, searchSaid}
 use Rattle.rtr_stream.specs.declared.Searched.{Searched}
@@ -77,9 +77,6 @@ module _ (R : Reading) (H : ℕ) where
       byte : (t : State) → HoldsWaiting t → HoldsWaiting (onByteIn R H (l .taken) (l .pdus) t b .state)
       byte (State.holding s) w = heard (s ++ b ∷ []) (judge R H (s ++ b ∷ [])) refl
       byte (State.stopped number values) w = tt
-
-  pub fresh-waits : (piece : List ℕ) → HoldsWaiting (onPiece R H fresh piece .state)
-  fresh-waits piece = held-waits piece fresh nothing-waits
 
   -- ---- Searches
 

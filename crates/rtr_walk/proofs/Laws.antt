@@ -187,10 +187,6 @@ too-deep-at-16 R s level w = walk-exactly R s level tooDeep .0 w .0
 pub too-deep-exactly : (R : Reading) (s : List ℕ) → walk R s ≡ walked 16 tooDeep ↔ HoldsAt R s 16
 too-deep-exactly R s = (λ w. walk-exactly R s 16 tooDeep .0 w .1, λ h. walk-exactly R s 16 tooDeep .1 (refl, h))
 
--- where a PDU holds bytes it is a report, and they are that part of the slice which the report names
-pub holds-is-report : (pdu : RtrPdu) (s inside : List ℕ) → inner pdu s ≡ holds inside → (report : RtrErrorReport) × (pdu ≡ ErrorReport report) × (encapsulated report s ≡ inside)
-holds-is-report pdu s inside h = subst (Means pdu s) h (means pdu s)
-
 -- a walk is refused exactly where level 0 is, by the same number and values
 pub refused-at-once : (R : Reading) (s : List ℕ) (k : ℕ) (values : List ℕ) → walk R s ≡ refused k values ↔ read R s ≡ Verdict.refused k values
 refused-at-once R s k values = (λ w. go w (read R s) refl, walk-unread R s k values)
