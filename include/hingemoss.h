@@ -2,7 +2,8 @@
  * needs memset alone.
  *
  * Every call takes every input and answers; nothing is allocated, and nothing is kept between calls but the memory that you lend. A call's answer is 0 or a refusal's number (below); where several
- * would fit, the first in the order that the call names is given. What is proved of calls one after another (the table is that of the last finished update, however the bytes were cut) is `c-history` of crates/rtr_c. A refused call changes nothing, but for the numbers that it answers with (written, taken, updates, level, end, value, compared), which are
+ * would fit, the first in the order that the call names is given. What is proved of calls one after another (the table is that of the last finished update, however the bytes were cut) is `c-history` of crates/rtr_c: it asks that
+ * the same session, rooms and hold are lent each time, the hold with one length, and that nobody else writes them in between. A refused call changes nothing, but for the numbers that it answers with (written, taken, updates, level, end, value, compared), which are
  * then 0 unless the call says otherwise. A stop is no such refusal: it is the receiver's new state.
  *
  * What you owe: a slice is a pointer and a length in elements, one behind the other, and so many elements are there, readable, set to something, and writable where there is no const. A pointer is never NULL (not
@@ -156,7 +157,7 @@ enum hingemoss_compared {
 /* Reads the first PDU of bytes. 9: pdu is not exactly HINGEMOSS_PDU_NUMBERS numbers (fewer or more), nothing was read. 1 to 8: why it is not read. 0: pdu has its numbers. */
 uint8_t hingemoss_read(const uint8_t *bytes, size_t bytes_len, uint64_t *pdu, size_t pdu_len);
 
-/* Value i of that refusal, from 0 on; 0 where it has none, or where the PDU is read. */
+/* Value i of the refusal of these bytes (1 to 8, not the 9 above), from 0 on; 0 where it has none, or where the PDU is read. */
 uint64_t hingemoss_read_value(const uint8_t *bytes, size_t bytes_len, size_t i);
 
 /* Encodes a PDU into out; its payloads are taken from payload. Tested in this order: 22, the numbers are no PDU's; 11; 8; 10; 9, written is how many bytes are needed. 0: written is how many
@@ -164,21 +165,21 @@ uint64_t hingemoss_read_value(const uint8_t *bytes, size_t bytes_len, size_t i);
 uint8_t hingemoss_encode(const uint64_t *pdu, size_t pdu_len, const uint8_t *payload, size_t payload_len, uint8_t *out, size_t out_len, uint64_t *written);
 
 /* Walks from a PDU to the one in it while it is an Error Report. 0: level is that of the last PDU read (0 is the first), end and value say how it ended.
- * 1 to 8: why the first is not read. */
+ * 1 to 8: why the first is not read; hingemoss_read_value has the values. */
 uint8_t hingemoss_walk(const uint8_t *bytes, size_t bytes_len, uint64_t *level, uint64_t *end, uint64_t *value);
 
-/* ---- Receiver: HINGEMOSS_SESSION_NUMBERS numbers, two rooms of HINGEMOSS_ROOM_NUMBERS numbers and a hold. Each call but the listing tests all of
+/* ---- Receiver: HINGEMOSS_SESSION_NUMBERS numbers, two rooms of HINGEMOSS_ROOM_NUMBERS numbers and a hold. Each call but the start and the listing tests all of
  * them first (22). A session that is lent may hold any stop, also 1, which no call makes: it is given back as it stands. */
 
 /* A fresh receiver of version 0 or 1: session is set, both rooms are zeroed. 0. 22: a size or the version is wrong. */
 uint8_t hingemoss_start(uint8_t version, uint64_t *session, size_t session_len, uint32_t *live, size_t live_len, uint32_t *working, size_t working_len,
                         const uint8_t *hold, size_t hold_len);
 
-/* Asks for the whole table. 0: out begins with a Reset Query of 8 bytes. 22, 20; 9: out is shorter. */
+/* Asks for the whole table. 0: out begins with a Reset Query of 8 bytes. 22, 20; 9: out is shorter than HINGEMOSS_FULL_QUERY. */
 uint8_t hingemoss_full_ask(uint64_t *session, size_t session_len, const uint32_t *live, size_t live_len, const uint32_t *working, size_t working_len,
                            const uint8_t *hold, size_t hold_len, uint8_t *out, size_t out_len);
 
-/* Asks for what changed since the table's serial. 0: out begins with a Serial Query of 12 bytes. 22, 20, 21; 9: out is shorter. */
+/* Asks for what changed since the table's serial. 0: out begins with a Serial Query of 12 bytes. 22, 20, 21; 9: out is shorter than HINGEMOSS_CHANGE_QUERY. */
 uint8_t hingemoss_change_ask(uint64_t *session, size_t session_len, const uint32_t *live, size_t live_len, const uint32_t *working, size_t working_len,
                              const uint8_t *hold, size_t hold_len, uint8_t *out, size_t out_len);
 
