@@ -22,6 +22,7 @@ use Rattle.rtr_codec.specs.Bytes.{number}
 use Rattle.rtr_codec.specs.Reading.{Reading}
 use Rattle.rtr_codec.specs.Read.{headerLength, ends, codeIn}
 
+-- a payload is named by its place: where it begins, and how many bytes it has (document 01, "What must change shape")
 abbrev pub place : ℕ → ℕ → Place
 place start len = record { start = start; len = len }
 
@@ -42,7 +43,7 @@ endStands V1 p s =
     × (Seconds (number s 16 4) ≡ p .«retry_interval»)
     × (Seconds (number s 20 4) ≡ p .«expire_interval»)
 
--- 5.10: flags at byte 2, identifier, AS number, and the key info to the end; in the crate's arrangement flags at byte 8, and all behind them two bytes later
+-- 5.10: flags at byte 2, identifier, AS number, and the key info to the end; in the crate's arrangement (document 01, "Reading") flags at byte 8, and all behind them two bytes later
 abbrev pub keyStands : Bool → RtrRouterKey → List ℕ → Type 0
 keyStands false p s =
     (32 ≤ headerLength s)
@@ -109,7 +110,7 @@ kindStands R s (RouterKey p) = (V1 ≡ p .version) × keyStands (R .keyByCrate) 
 -- 5.11, type 10
 kindStands R s (ErrorReport p) = reportStands R p (number s 8 4) (number s (12 + number s 8 4) 4) s
 
--- the PDU stands in the first n bytes of s
+-- the PDU stands in the first n bytes of s, n being the header's length, the version byte 0 and the type byte 1 (5.1)
 pub record Stands (R : Reading) (s : List ℕ) (pdu : RtrPdu) (n : ℕ) : Type 0 where
   pub header : 8 ≤ n
   pub whole : n ≤ length s
