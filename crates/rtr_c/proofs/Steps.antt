@@ -12,7 +12,7 @@ use Rattle.rtr_models.specs.Codes.{versionFound}
 use Rattle.rtr_models.specs.declared.RtrProtocolVersion.{RtrProtocolVersion}
 use Rattle.rtr_models.specs.declared.VersionFound.{VersionFound}
 use Rattle.rtr_models.specs.declared.RtrPdu.{RtrPdu}
-use Rattle.rtr_codec.specs.Reading.{crate}
+use Rattle.rtr_codec.specs.Reading.{inUse}
 use Rattle.rtr_codec.specs.Read.{Verdict, read}
 use Rattle.rtr_codec.specs.Answers as codec
 use Rattle.rtr_codec.specs.declared.RtrError.{RtrError}
@@ -64,12 +64,12 @@ refused-read (InvalidPrefixLength a b c) n = refl
 refused-read InvalidUtf8 n = refl
 refused-read RouterKeyInV0 n = refl
 
-module _ (bytes n : List ℕ) (answer : ReadAnswer) (long : length n ≡ 12) (said : codec.verdict answer ≡ read crate bytes) where
+module _ (bytes n : List ℕ) (answer : ReadAnswer) (long : length n ≡ 12) (said : codec.verdict answer ≡ read inUse bytes) where
   by-reading : (v : Verdict) → codec.verdict answer ≡ v → readLeft v n ≡ readC bytes n
   unfolding readC
   by-reading v e =
       ap (λ (x : Verdict). readLeft x n) (sym e ∙ said)
-      ∙ sym (ap (λ (b : Bool). cond b (readLeft (read crate bytes) n) (readGives 9 n)) (eq-eqb (length n) 12 long))
+      ∙ sym (ap (λ (b : Bool). cond b (readLeft (read inUse bytes) n) (readGives 9 n)) (eq-eqb (length n) 12 long))
 
   pub read-accepted : (n′ : List ℕ) (p : RtrPdu) (k : ℕ) → answer ≡ ReadAnswer.Read p k → n′ ≡ cond (eqb (length n) 12) (pduNumbers p k) n → readGives 0 n′ ≡ readC bytes n
   read-accepted n′ p k e put = ap (readGives 0) (set-at 12 n n′ (pduNumbers p k) long put) ∙ by-reading (Verdict.accepted p k) (ap codec.verdict e)
@@ -83,7 +83,7 @@ module _ (bytes n : List ℕ) (answer : ReadAnswer) (long : length n ≡ 12) (sa
 pub encode-known : (n payload out out′ : List ℕ) (found : PduFound) (p : RtrPdu) (k : ℕ) (answer : EncodeAnswer) (number amount : ℕ) →
     found ≡ pduOf n →
     found ≡ PduFound.Known p k →
-    encoding.leaves answer out′ ≡ encode crate p payload out →
+    encoding.leaves answer out′ ≡ encode inUse p payload out →
     number ≡ encoding.numberOf (encoding.writing answer) →
     amount ≡ amountOf (encoding.writing answer) →
     encodeGives number amount out′ ≡ encodeC n payload out
@@ -109,7 +109,7 @@ refused-walk (InvalidPrefixLength a b c) = refl
 refused-walk InvalidUtf8 = refl
 refused-walk RouterKeyInV0 = refl
 
-module _ (bytes : List ℕ) (answer : WalkAnswer) (said : walkSaid answer ≡ walk crate bytes) where
+module _ (bytes : List ℕ) (answer : WalkAnswer) (said : walkSaid answer ≡ walk inUse bytes) where
   pub walk-walked : (level : ℕ) (end : WalkEnd) (number value : ℕ) → answer ≡ WalkAnswer.Walked level end → number ≡ endNumber (endSaid end) → value ≡ endValue (endSaid end) → walkGives 0 level number value ≡ walkC bytes
   unfolding walkC
   walk-walked level end number value told named valued =

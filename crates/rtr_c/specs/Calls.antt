@@ -7,7 +7,7 @@ use lib.Dec.{eqb}
 use lib.ListN.{length, getD, take}
 use Rattle.rtr_models.specs.Codes.{typeNumber, versionFound}
 use Rattle.rtr_models.specs.declared.VersionFound.{VersionFound}
-use Rattle.rtr_codec.specs.Reading.{crate}
+use Rattle.rtr_codec.specs.Reading.{inUse}
 use Rattle.rtr_codec.specs.Read.{Verdict, read}
 use Rattle.rtr_codec.specs.Answers as codec
 use Rattle.rtr_encode.specs.Encode.{Writing, Encoded, encode}
@@ -51,7 +51,7 @@ readLeft (Verdict.refused number values) numbers = readGives number numbers
 
 -- the promise of `hingemoss_read`
 unfoldable pub readC : List ℕ → List ℕ → ReadLeft
-readC bytes numbers = cond (eqb (length numbers) 12) (readLeft (read crate bytes) numbers) (readGives 9 numbers)
+readC bytes numbers = cond (eqb (length numbers) 12) (readLeft (read inUse bytes) numbers) (readGives 9 numbers)
 
 -- ---- encode: 22 where the numbers are no PDU's, else 0, 8, 9, 10 or 11; the bytes written, or needed (9), or 0; and the output
 pub record EncodeLeft : Type 0 where
@@ -74,7 +74,7 @@ encodeLeft e = encodeGives (numberOf (e .says)) (amountOf (e .says)) (e .out)
 
 -- a PDU that was found is encoded
 abbrev pub encodeFound : PduFound → List ℕ → List ℕ → EncodeLeft
-encodeFound (PduFound.Known pdu consumed) payload out = encodeLeft (encode crate pdu payload out)
+encodeFound (PduFound.Known pdu consumed) payload out = encodeLeft (encode inUse pdu payload out)
 encodeFound PduFound.Unknown payload out = encodeGives 22 0 out
 
 -- the promise of `hingemoss_encode`
@@ -113,7 +113,7 @@ walkLeft (WalkVerdict.refused number values) = walkGives number 0 0 0
 
 -- the promise of `hingemoss_walk`
 unfoldable pub walkC : List ℕ → WalkLeft
-walkC bytes = walkLeft (walk crate bytes)
+walkC bytes = walkLeft (walk inUse bytes)
 
 -- ---- start: 0, the fresh session and both rooms zeroed; or 22 and all as it was
 pub record StartLeft : Type 0 where

@@ -19,7 +19,7 @@ use rtr_walk::WalkEnd;
 ghost use mathlib.Core.Bool.{true};
 ghost use mathlib.Core.Path.{_≡_};
 ghost use Rattle.rtr_codec.specs.Read.{read};
-ghost use Rattle.rtr_codec.specs.Reading.{crate};
+ghost use Rattle.rtr_codec.specs.Reading.{inUse};
 ghost use Rattle.rtr_encode.specs.Answers.{writing, numberOf};
 ghost use Rattle.rtr_listing.specs.Promises.{listSaid};
 ghost use Rattle.rtr_receiver.specs.Promises.{askWriting, reconnectNumber};
@@ -183,7 +183,7 @@ pub extern "C" fn hingemoss_read(bytes: &[u8], pdu: &mut [u64]) -> u8
 // Value i of that refusal.
 #[no_mangle]
 pub extern "C" fn hingemoss_read_value(bytes: &[u8], i: usize) -> u64
-    ensures { λ r. ⌜ r ≡ valueOf i (read crate (now (bytes .entry))) ⌝ }
+    ensures { λ r. ⌜ r ≡ valueOf i (read inUse (now (bytes .entry))) ⌝ }
 {
     let answer = rtr_codec::parse_rtr_pdu(bytes);
     match answer {

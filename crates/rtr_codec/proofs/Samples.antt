@@ -12,7 +12,7 @@ use Rattle.rtr_models.specs.declared.Interval.{Interval}
 use Rattle.rtr_models.specs.declared.RtrPdu.{RtrPdu}
 use Rattle.rtr_models.specs.declared.RtrPdu.the-variants.{ResetQuery, CacheResponse, IPv4Prefix, EndOfData, RouterKey, ErrorReport}
 use Rattle.rtr_codec.specs.Bytes.{number}
-use Rattle.rtr_codec.specs.Reading.{rfc, crate}
+use Rattle.rtr_codec.specs.Reading.{rfc, crate, inUse}
 use Rattle.rtr_codec.specs.Departures.{applies}
 use Rattle.rtr_codec.specs.Departures.Departure.{codeEightInV0, bytesBehindText, keyByCrate}
 use Rattle.rtr_codec.specs.Read.{headerLength, readResetQuery, readCacheResponse, readIPv4Prefix, readEndOfData, readRouterKey, readText, readEncapsulated, readCode, readErrorReport, readAs, readTyped, readVersioned, read}
@@ -88,45 +88,45 @@ departures-spare = (refl, refl, refl)
 
 -- Document 01, Either side of each edge: the lines for reading
 
-pub nothing-read : read crate [] ≡ refused 1 (0 ∷ 8 ∷ [])
+pub nothing-read : read inUse [] ≡ refused 1 (0 ∷ 8 ∷ [])
 unfolding read
 nothing-read = refl
 
-pub query-read : read crate (0x01 ∷ 0x02 ∷ 0x00 ∷ 0x00 ∷ 0x00 ∷ 0x00 ∷ 0x00 ∷ 0x08 ∷ []) ≡ accepted (ResetQuery (record { version = V1 })) 8
+pub query-read : read inUse (0x01 ∷ 0x02 ∷ 0x00 ∷ 0x00 ∷ 0x00 ∷ 0x00 ∷ 0x00 ∷ 0x08 ∷ []) ≡ accepted (ResetQuery (record { version = V1 })) 8
 unfolding number headerLength readResetQuery readAs readTyped readVersioned read
 query-read = refl
 
-pub query-of-no-length : read crate (0x01 ∷ 0x02 ∷ 0x00 ∷ 0x00 ∷ 0x00 ∷ 0x00 ∷ 0x00 ∷ 0x00 ∷ []) ≡ refused 4 (8 ∷ 0 ∷ 2 ∷ [])
+pub query-of-no-length : read inUse (0x01 ∷ 0x02 ∷ 0x00 ∷ 0x00 ∷ 0x00 ∷ 0x00 ∷ 0x00 ∷ 0x00 ∷ []) ≡ refused 4 (8 ∷ 0 ∷ 2 ∷ [])
 unfolding number headerLength readResetQuery readAs readTyped readVersioned read
 query-of-no-length = refl
 
-pub missing-before-version : read crate (0x09 ∷ 0x05 ∷ 0x00 ∷ 0x00 ∷ 0x00 ∷ 0x00 ∷ 0x00 ∷ 0x09 ∷ []) ≡ refused 1 (8 ∷ 9 ∷ [])
+pub missing-before-version : read inUse (0x09 ∷ 0x05 ∷ 0x00 ∷ 0x00 ∷ 0x00 ∷ 0x00 ∷ 0x00 ∷ 0x09 ∷ []) ≡ refused 1 (8 ∷ 9 ∷ [])
 unfolding number headerLength read
 missing-before-version = refl
 
-pub version-before-type : read crate (0x09 ∷ 0x05 ∷ 0x00 ∷ 0x00 ∷ 0x00 ∷ 0x00 ∷ 0x00 ∷ 0x08 ∷ []) ≡ refused 2 (9 ∷ [])
+pub version-before-type : read inUse (0x09 ∷ 0x05 ∷ 0x00 ∷ 0x00 ∷ 0x00 ∷ 0x00 ∷ 0x00 ∷ 0x08 ∷ []) ≡ refused 2 (9 ∷ [])
 unfolding number headerLength readVersioned read
 version-before-type = refl
 
-pub type-unknown-read : read crate (0x01 ∷ 0x05 ∷ 0x00 ∷ 0x00 ∷ 0x00 ∷ 0x00 ∷ 0x00 ∷ 0x08 ∷ []) ≡ refused 3 (5 ∷ [])
+pub type-unknown-read : read inUse (0x01 ∷ 0x05 ∷ 0x00 ∷ 0x00 ∷ 0x00 ∷ 0x00 ∷ 0x00 ∷ 0x08 ∷ []) ≡ refused 3 (5 ∷ [])
 unfolding number headerLength readTyped readVersioned read
 type-unknown-read = refl
 
-pub key-in-version-0 : read crate (0x00 ∷ 0x09 ∷ 0x00 ∷ 0x00 ∷ 0x00 ∷ 0x00 ∷ 0x00 ∷ 0x08 ∷ []) ≡ refused 5 []
+pub key-in-version-0 : read inUse (0x00 ∷ 0x09 ∷ 0x00 ∷ 0x00 ∷ 0x00 ∷ 0x00 ∷ 0x00 ∷ 0x08 ∷ []) ≡ refused 5 []
 unfolding number headerLength readRouterKey readAs readTyped readVersioned read
 key-in-version-0 = refl
 
-pub code-nine : read crate (0x01 ∷ 0x0a ∷ 0x00 ∷ 0x09 ∷ 0x00 ∷ 0x00 ∷ 0x00 ∷ 0x10 ∷ replicate 8 0) ≡ refused 7 (9 ∷ [])
+pub code-nine : read inUse (0x01 ∷ 0x0a ∷ 0x00 ∷ 0x09 ∷ 0x00 ∷ 0x00 ∷ 0x00 ∷ 0x10 ∷ replicate 8 0) ≡ refused 7 (9 ∷ [])
 unfolding number headerLength readCode readErrorReport readAs readTyped readVersioned read
 code-nine = refl
 
 pub copy-past-the-end
-    : read crate (0x01 ∷ 0x0a ∷ 0x00 ∷ 0x00 ∷ 0x00 ∷ 0x00 ∷ 0x00 ∷ 0x10 ∷ 0x00 ∷ 0x00 ∷ 0x00 ∷ 0x01 ∷ replicate 4 0) ≡ refused 4 (17 ∷ 16 ∷ 10 ∷ [])
+    : read inUse (0x01 ∷ 0x0a ∷ 0x00 ∷ 0x00 ∷ 0x00 ∷ 0x00 ∷ 0x00 ∷ 0x10 ∷ 0x00 ∷ 0x00 ∷ 0x00 ∷ 0x01 ∷ replicate 4 0) ≡ refused 4 (17 ∷ 16 ∷ 10 ∷ [])
 unfolding number headerLength readEncapsulated readCode readErrorReport readAs readTyped readVersioned read
 copy-past-the-end = refl
 
 -- a report about that Reset Query
-pub report-of-query : read crate
+pub report-of-query : read inUse
     (0x01 ∷ 0x0a ∷ 0x00 ∷ 0x00 ∷ 0x00 ∷ 0x00 ∷ 0x00 ∷ 0x18 ∷ 0x00 ∷ 0x00 ∷ 0x00 ∷ 0x08
     ∷ 0x01 ∷ 0x02 ∷ 0x00 ∷ 0x00 ∷ 0x00 ∷ 0x00 ∷ 0x00 ∷ 0x08 ∷ replicate 4 0)
     ≡ accepted
@@ -171,26 +171,26 @@ endPdu session serial =
       «expire_interval» = Interval.Seconds 7200;
     })
 
-pub response-read : read crate responseBytes ≡ accepted responsePdu 8
+pub response-read : read inUse responseBytes ≡ accepted responsePdu 8
 unfolding number headerLength readCacheResponse readAs readTyped readVersioned read
 response-read = refl
 
-pub announced-read : read crate (prefixBytes 1) ≡ accepted (prefixPdu 1) 20
+pub announced-read : read inUse (prefixBytes 1) ≡ accepted (prefixPdu 1) 20
 unfolding number headerLength readIPv4Prefix readAs readTyped readVersioned read
 announced-read = refl
 
-pub withdrawn-read : read crate (prefixBytes 0) ≡ accepted (prefixPdu 0) 20
+pub withdrawn-read : read inUse (prefixBytes 0) ≡ accepted (prefixPdu 0) 20
 unfolding number headerLength readIPv4Prefix readAs readTyped readVersioned read
 withdrawn-read = refl
 
-pub end-read : read crate (endBytes 0x12 0x34 7) ≡ accepted (endPdu 4660 7) 24
+pub end-read : read inUse (endBytes 0x12 0x34 7) ≡ accepted (endPdu 4660 7) 24
 unfolding number headerLength readEndOfData readAs readTyped readVersioned read
 end-read = refl
 
-pub later-end-read : read crate (endBytes 0x12 0x34 8) ≡ accepted (endPdu 4660 8) 24
+pub later-end-read : read inUse (endBytes 0x12 0x34 8) ≡ accepted (endPdu 4660 8) 24
 unfolding number headerLength readEndOfData readAs readTyped readVersioned read
 later-end-read = refl
 
-pub other-end-read : read crate (endBytes 0x12 0x35 7) ≡ accepted (endPdu 4661 7) 24
+pub other-end-read : read inUse (endBytes 0x12 0x35 7) ≡ accepted (endPdu 4661 7) 24
 unfolding number headerLength readEndOfData readAs readTyped readVersioned read
 other-end-read = refl

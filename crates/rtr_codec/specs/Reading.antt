@@ -16,3 +16,7 @@ rfc = record { codeEightInV0 = false; bytesBehindText = false; keyByCrate = fals
 -- bgpkit-parser 0.23.0
 abbrev pub crate : Reading
 crate = record { codeEightInV0 = true; bytesBehindText = true; keyByCrate = true }
+
+-- the reading that stream, walk, run reader, receiver and C use, and that the public calls of reading and encoding promise
+abbrev pub inUse : Reading
+inUse = crate

@@ -1,13 +1,13 @@
 // Reading one PDU from any bytes, in the order of the Rust's src/parser/rpki/rtr.rs: parse_rtr_pdu takes every slice, answers as
-// document 01's order of checks asks, and copies nothing: payloads are handed over by place. The promise is an equation with `read` of specs/, at the crate's
-// reading; no contract can say how long it takes.
+// document 01's order of checks asks, and copies nothing: payloads are handed over by place. The promise is an equation with `read` of specs/, at the reading
+// in use; no contract can say how long it takes.
 use rtr_models::*;
 ghost use mathlib.Core.Bool.{true};
 ghost use mathlib.Core.Path.{_≡_};
 ghost use Prim.Native.Nat.{_+_, _≤_, _<_};
 ghost use lib.ListN.{length};
 ghost use Rattle.rtr_codec.specs.Bytes.{number};
-ghost use Rattle.rtr_codec.specs.Reading.{crate};
+ghost use Rattle.rtr_codec.specs.Reading.{crate, inUse};
 ghost use Rattle.rtr_codec.specs.Read.{read, needed, headerLength, Framed, readSerialNotify, readSerialQuery, readResetQuery, readCacheResponse, readIPv4Prefix, readIPv6Prefix, readEndOfData, readCacheReset, readRouterKey, capped, readText, readEncapsulated, readErrorReport, readAs, readTyped};
 ghost use Rattle.rtr_models.specs.Codes.{typeFound};
 ghost use Rattle.rtr_codec.specs.Answers.{verdict, refusal, numberOf};
@@ -401,7 +401,7 @@ fn parse_router_key_v1(input: &[u8], actual: u32) -> ReadAnswer
 // Type 9: version 1 only, and that is tested before the length.
 fn parse_router_key(input: &[u8], version: RtrProtocolVersion, actual: u32) -> ReadAnswer
     requires { ⌜ Framed actual (now input) ⌝ }
-    ensures { λ r. ⌜ verdict r ≡ readRouterKey crate version (now (input .entry)) ⌝ }
+    ensures { λ r. ⌜ verdict r ≡ readRouterKey inUse version (now (input .entry)) ⌝ }
 {
     match version {
         RtrProtocolVersion::V0 => ReadAnswer::Refused(RtrError::RouterKeyInV0),
@@ -425,7 +425,7 @@ fn parse_error_text(
     actual: u32,
 ) -> ReadAnswer
     requires { ⌜ (actual ≡ headerLength (now input)) × ((actual ≤ length (now input)) × (16 + «encap_pdu_len» ≤ actual)) ⌝ }
-    ensures { λ r. ⌜ verdict r ≡ readText crate version «error_code» «encap_pdu_len» (number (now (input .entry)) (12 + «encap_pdu_len») 4) (now (input .entry)) ⌝ }
+    ensures { λ r. ⌜ verdict r ≡ readText inUse version «error_code» «encap_pdu_len» (number (now (input .entry)) (12 + «encap_pdu_len») 4) (now (input .entry)) ⌝ }
 {
     let error_text_len = be32(input, 12 + encap_pdu_len) as usize;
     let error_text_offset = 16 + encap_pdu_len;
@@ -461,7 +461,7 @@ fn parse_error_pdu(
     actual: u32,
 ) -> ReadAnswer
     requires { ⌜ (actual ≡ headerLength (now input)) × ((actual ≤ length (now input)) × (16 ≤ actual)) ⌝ }
-    ensures { λ r. ⌜ verdict r ≡ readEncapsulated crate version «error_code» (number (now (input .entry)) 8 4) (now (input .entry)) ⌝ }
+    ensures { λ r. ⌜ verdict r ≡ readEncapsulated inUse version «error_code» (number (now (input .entry)) 8 4) (now (input .entry)) ⌝ }
 {
     let encap_pdu_len = be32(input, 8) as usize;
     let end = 16 + encap_pdu_len;
@@ -474,7 +474,7 @@ fn parse_error_pdu(
 // Type 10: the error code stands where others have the session.
 fn parse_error_report(input: &[u8], version: RtrProtocolVersion, actual: u32) -> ReadAnswer
     requires { ⌜ Framed actual (now input) ⌝ }
-    ensures { λ r. ⌜ verdict r ≡ readErrorReport crate version (now (input .entry)) ⌝ }
+    ensures { λ r. ⌜ verdict r ≡ readErrorReport inUse version (now (input .entry)) ⌝ }
 {
     if actual < RTR_ERROR_REPORT_MIN_LEN {
         return invalid_length(RTR_ERROR_REPORT_MIN_LEN, actual, 10);
@@ -497,7 +497,7 @@ fn parse_as(
     actual: u32,
 ) -> ReadAnswer
     requires { ⌜ Framed actual (now input) ⌝ }
-    ensures { λ r. ⌜ verdict r ≡ readAs crate version «pdu_type» (now (input .entry)) ⌝ }
+    ensures { λ r. ⌜ verdict r ≡ readAs inUse version «pdu_type» (now (input .entry)) ⌝ }
 {
     match pdu_type {
         RtrPduType::SerialNotify => parse_serial_notify(input, version, actual),
@@ -516,7 +516,7 @@ fn parse_as(
 // The version is known: the type comes next.
 fn parse_typed(input: &[u8], version: RtrProtocolVersion, actual: u32) -> ReadAnswer
     requires { ⌜ Framed actual (now input) ⌝ }
-    ensures { λ r. ⌜ verdict r ≡ readTyped crate version (number (now (input .entry)) 1 1) (typeFound (number (now (input .entry)) 1 1)) (now (input .entry)) ⌝ }
+    ensures { λ r. ⌜ verdict r ≡ readTyped inUse version (number (now (input .entry)) 1 1) (typeFound (number (now (input .entry)) 1 1)) (now (input .entry)) ⌝ }
 {
     let pdu_type_byte = be8(input, 1);
     let found = RtrPduType::from_u8(pdu_type_byte);
@@ -528,7 +528,7 @@ fn parse_typed(input: &[u8], version: RtrProtocolVersion, actual: u32) -> ReadAn
 
 // One PDU of any kind: completeness is tested before all else.
 fn parse_any(input: &[u8]) -> ReadAnswer
-    ensures { λ r. ⌜ verdict r ≡ read crate (now (input .entry)) ⌝ }
+    ensures { λ r. ⌜ verdict r ≡ read inUse (now (input .entry)) ⌝ }
 {
     if input.len() < RTR_HEADER_LEN {
         return ReadAnswer::Refused(RtrError::IncompletePdu {
@@ -579,7 +579,7 @@ fn is_plain(input: &[u8], pdu_type: u8, n: u32, limit: u8) -> bool
 
 // One PDU from the front of any bytes. Prefixes, nearly all that a cache sends, come first: the compiler then stores their answer where it goes.
 pub fn parse_rtr_pdu(input: &[u8]) -> ReadAnswer
-    ensures { λ r. ⌜ verdict r ≡ read crate (now (input .entry)) ⌝ }
+    ensures { λ r. ⌜ verdict r ≡ read inUse (now (input .entry)) ⌝ }
 {
     if is_plain(input, 4, RTR_IPV4_PREFIX_LEN, 32) {
         return ipv4_fields(input, RtrProtocolVersion::V1);
@@ -611,7 +611,7 @@ pub struct RunRead {
 // The PDU at a place of a run; at or past the end that is 1 (0, 8). The PDU's own places count from its first byte, so ask its parts of
 // the run from `at` on.
 pub fn read_at(input: &[u8], at: usize) -> RunRead
-    ensures { λ r. ⌜ runSaid r ≡ readAt crate (now (input .entry)) at ⌝ }
+    ensures { λ r. ⌜ runSaid r ≡ readAt inUse (now (input .entry)) at ⌝ }
 {
     if at > input.len() {
         let answer = parse_rtr_pdu(&input[..0]);

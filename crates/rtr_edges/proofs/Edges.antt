@@ -5,7 +5,7 @@ use lib.ListN.{drop}
 use Rattle.rtr_models.specs.declared.RtrProtocolVersion.the-variants.{V1}
 use Rattle.rtr_models.specs.declared.RtrPduType.{RtrPduType}
 use Rattle.rtr_models.specs.declared.RtrPdu.the-variants.{ResetQuery}
-use Rattle.rtr_codec.specs.Reading.{crate}
+use Rattle.rtr_codec.specs.Reading.{inUse}
 use Rattle.rtr_codec.proofs.Samples.{nothing-read, query-read, query-of-no-length, missing-before-version, version-before-type, type-unknown-read, key-in-version-0, code-nine, copy-past-the-end, behind-in-crate, report-of-query}
 use Rattle.rtr_encode.proofs.Samples.{behind-not-written}
 use Rattle.rtr_walk.specs.Walk.{walk}
@@ -17,9 +17,9 @@ use Rattle.rtr_receiver.proofs.Examples.{past-the-largest, halfway-round}
 use Rattle.rtr_edges.specs.Edges.{AllHold, reportOfQuery, edges}
 
 -- a report about a Reset Query: its level 1 is that query, which ends the walk
-query-at-level-1 : walk crate reportOfQuery ≡ walked 1 (plain RtrPduType.ResetQuery)
+query-at-level-1 : walk inUse reportOfQuery ≡ walked 1 (plain RtrPduType.ResetQuery)
 query-at-level-1 =
-    walk-exactly crate reportOfQuery 1 (plain RtrPduType.ResetQuery) .1
+    walk-exactly inUse reportOfQuery 1 (plain RtrPduType.ResetQuery) .1
     (omega arith, (ResetQuery (record { version = V1 }), _, next (first report-of-query) refl query-read, refl))
 
 -- the lines from an unknown type on

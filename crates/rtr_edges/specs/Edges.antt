@@ -7,7 +7,7 @@ use Rattle.rtr_models.specs.declared.RtrProtocolVersion.the-variants.{V1}
 use Rattle.rtr_models.specs.declared.RtrErrorCode.the-variants.{CorruptData}
 use Rattle.rtr_models.specs.declared.RtrPduType.{RtrPduType}
 use Rattle.rtr_models.specs.declared.RtrPdu.the-variants.{ResetQuery, ErrorReport}
-use Rattle.rtr_codec.specs.Reading.{crate}
+use Rattle.rtr_codec.specs.Reading.{inUse}
 use Rattle.rtr_codec.specs.Read.{Verdict, read}
 use Rattle.rtr_codec.specs.Read.Verdict.{accepted, refused}
 use Rattle.rtr_encode.specs.Encode.{Encoded, encode}
@@ -30,14 +30,14 @@ pub data Edge : Type 0 where
 
 -- a slice is read, and encoding what was read gives this
 abbrev pub Recodes : List ℕ → List ℕ → Encoded → Verdict → Type 0
-Recodes s out left (accepted pdu n) = encode crate pdu s out ≡ left
+Recodes s out left (accepted pdu n) = encode inUse pdu s out ≡ left
 Recodes s out left (refused n values) = ⊥
 
 -- what an edge says
 abbrev pub Holds : Edge → Type 0
-Holds (reads s v) = read crate s ≡ v
-Holds (recodes s out left) = Recodes s out left (read crate s)
-Holds (walks s v) = walk crate s ≡ v
+Holds (reads s v) = read inUse s ≡ v
+Holds (recodes s out left) = Recodes s out left (read inUse s)
+Holds (walks s v) = walk inUse s ≡ v
 Holds (notifies table serial v) = notified (LiveTable.Known (record { session = 0; serial = table; refresh = 0; retry = 0; expire = 0 })) (Note.Noted 0 serial) ≡ v
 
 abbrev pub AllHold : List Edge → Type 0

@@ -17,7 +17,7 @@ use Rattle.rtr_models.specs.declared.RtrRouterKey.{RtrRouterKey}
 use Rattle.rtr_models.specs.declared.RtrErrorReport.{RtrErrorReport}
 use Rattle.rtr_models.specs.declared.RtrPdu.{RtrPdu}
 use Rattle.rtr_models.specs.declared.RtrPdu.the-variants.{RouterKey, ErrorReport}
-use Rattle.rtr_codec.specs.Reading.{Reading, crate}
+use Rattle.rtr_codec.specs.Reading.{Reading, inUse}
 use Rattle.rtr_base.specs.Over.{over}
 use Rattle.rtr_base.proofs.Overs.{over-front}
 use Rattle.rtr_encode.specs.Encode.{bytesOf, at, placesInside, textIn, encodedLength, encoding, encodeSays, encode, keyBytes, reportBytes, lastChecks}
@@ -73,12 +73,12 @@ key-inside-20 p s r e k =
 
 -- the picture's bytes are the code's, read from left to right
 key-encoding : (p : RtrRouterKey) (s : List ℕ) → p .«subject_key_identifier» .len ≡ 20
-    → encoding crate (RouterKey p) s ≡ keyBytes (p .version) (p .flags) (at (p .«subject_key_identifier») s) (p .asn) (at (p .«subject_public_key_info») s) (34 + p .«subject_public_key_info» .len)
+    → encoding inUse (RouterKey p) s ≡ keyBytes (p .version) (p .flags) (at (p .«subject_key_identifier») s) (p .asn) (at (p .«subject_public_key_info») s) (34 + p .«subject_public_key_info» .len)
 unfolding bytesOf encoding encodedLength
 key-encoding p s e = simp e
 
 report-encoding : (p : RtrErrorReport) (s : List ℕ) → inside (p .«erroneous_pdu») s ≡ true → inside (p .«error_text») s ≡ true
-    → encoding crate (ErrorReport p) s
+    → encoding inUse (ErrorReport p) s
     ≡ reportBytes (p .version) (codeNumber (p .«error_code»)) (at (p .«erroneous_pdu») s) (at (p .«error_text») s) (16 + p .«erroneous_pdu» .len + p .«error_text» .len)
 unfolding bytesOf encoding encodedLength
 report-encoding p s i j =
@@ -86,12 +86,12 @@ report-encoding p s i j =
     simp (part-long (p .«erroneous_pdu») s i, part-long (p .«error_text») s j, w)
 
 key-core : (p : RtrRouterKey) (s out : List ℕ) → keyInside (p .«subject_key_identifier») s ≡ true → inside (p .«subject_public_key_info») s ≡ true
-    → lastChecks (34 + p .«subject_public_key_info» .len) (encoding crate (RouterKey p) s) out ≡ encode crate (RouterKey p) s out
+    → lastChecks (34 + p .«subject_public_key_info» .len) (encoding inUse (RouterKey p) s) out ≡ encode inUse (RouterKey p) s out
 unfolding encode encodeSays encodedLength
 key-core p s out k i = simp (k, i)
 
 report-core : (p : RtrErrorReport) (s out : List ℕ) → inside (p .«erroneous_pdu») s ≡ true → inside (p .«error_text») s ≡ true → wellFormed (at (p .«error_text») s) ≡ true
-    → lastChecks (16 + p .«erroneous_pdu» .len + p .«error_text» .len) (encoding crate (ErrorReport p) s) out ≡ encode crate (ErrorReport p) s out
+    → lastChecks (16 + p .«erroneous_pdu» .len + p .«error_text» .len) (encoding inUse (ErrorReport p) s) out ≡ encode inUse (ErrorReport p) s out
 unfolding encode encodeSays encodedLength
 report-core p s out i j w =
     let n : 8 + (8 + p .«erroneous_pdu» .len + p .«error_text» .len) ≡ 16 + p .«erroneous_pdu» .len + p .«error_text» .len = omega arith in
@@ -99,30 +99,30 @@ report-core p s out i j w =
 
 pub key-encodes : (p : RtrRouterKey) (s out identifier info : List ℕ) → keyInside (p .«subject_key_identifier») s ≡ true → inside (p .«subject_public_key_info») s ≡ true
     → identifier ≡ at (p .«subject_key_identifier») s → info ≡ at (p .«subject_public_key_info») s
-    → lastChecks (34 + length info) (keyBytes (p .version) (p .flags) identifier (p .asn) info (34 + length info)) out ≡ encode crate (RouterKey p) s out
+    → lastChecks (34 + length info) (keyBytes (p .version) (p .flags) identifier (p .asn) info (34 + length info)) out ≡ encode inUse (RouterKey p) s out
 key-encodes p s out identifier info k i e₁ e₂ =
     let long : length info ≡ p .«subject_public_key_info» .len = ap length e₂ ∙ part-long (p .«subject_public_key_info») s i in
-    let bytes : keyBytes (p .version) (p .flags) identifier (p .asn) info (34 + length info) ≡ encoding crate (RouterKey p) s =
+    let bytes : keyBytes (p .version) (p .flags) identifier (p .asn) info (34 + length info) ≡ encoding inUse (RouterKey p) s =
     ap (λ (n : ℕ). keyBytes (p .version) (p .flags) identifier (p .asn) info (34 + n)) long
     ∙ ap (λ (x : List ℕ). keyBytes (p .version) (p .flags) x (p .asn) info (34 + p .«subject_public_key_info» .len)) e₁
     ∙ ap (λ (x : List ℕ). keyBytes (p .version) (p .flags) (at (p .«subject_key_identifier») s) (p .asn) x (34 + p .«subject_public_key_info» .len)) e₂
     ∙ sym (key-encoding p s (eqb-true (p .«subject_key_identifier» .len) 20 (and-first (eqb (p .«subject_key_identifier» .len) 20) _ k))) in
     ap (λ (x : List ℕ). lastChecks (34 + length info) x out) bytes
-    ∙ ap (λ (n : ℕ). lastChecks (34 + n) (encoding crate (RouterKey p) s) out) long
+    ∙ ap (λ (n : ℕ). lastChecks (34 + n) (encoding inUse (RouterKey p) s) out) long
     ∙ key-core p s out k i
 
 pub report-encodes : (p : RtrErrorReport) (s out copy text : List ℕ) (code : ℕ) → inside (p .«erroneous_pdu») s ≡ true → inside (p .«error_text») s ≡ true
     → wellFormed text ≡ true → code ≡ codeNumber (p .«error_code») → copy ≡ at (p .«erroneous_pdu») s → text ≡ at (p .«error_text») s
-    → lastChecks (16 + length copy + length text) (reportBytes (p .version) code copy text (16 + length copy + length text)) out ≡ encode crate (ErrorReport p) s out
+    → lastChecks (16 + length copy + length text) (reportBytes (p .version) code copy text (16 + length copy + length text)) out ≡ encode inUse (ErrorReport p) s out
 report-encodes p s out copy text code i j w c e₁ e₂ =
     let l₁ : length copy ≡ p .«erroneous_pdu» .len = ap length e₁ ∙ part-long (p .«erroneous_pdu») s i in
     let l₂ : length text ≡ p .«error_text» .len = ap length e₂ ∙ part-long (p .«error_text») s j in
     let n : 16 + length copy + length text ≡ 16 + p .«erroneous_pdu» .len + p .«error_text» .len = omega arith in
     let same : (a b : List ℕ) (k m : ℕ) → a ≡ copy → b ≡ text → k ≡ code → m ≡ 16 + length copy + length text
     → reportBytes (p .version) code copy text (16 + length copy + length text) ≡ reportBytes (p .version) k a b m = λ a b k m q r t u. cc in
-    let bytes : reportBytes (p .version) code copy text (16 + length copy + length text) ≡ encoding crate (ErrorReport p) s =
+    let bytes : reportBytes (p .version) code copy text (16 + length copy + length text) ≡ encoding inUse (ErrorReport p) s =
     same (at (p .«erroneous_pdu») s) (at (p .«error_text») s) (codeNumber (p .«error_code»)) (16 + p .«erroneous_pdu» .len + p .«error_text» .len) (sym e₁) (sym e₂) (sym c) (sym n)
     ∙ sym (report-encoding p s i j) in
     ap (λ (x : List ℕ). lastChecks (16 + length copy + length text) x out) bytes
-    ∙ ap (λ (m : ℕ). lastChecks m (encoding crate (ErrorReport p) s) out) n
+    ∙ ap (λ (m : ℕ). lastChecks m (encoding inUse (ErrorReport p) s) out) n
     ∙ report-core p s out i j (ap wellFormed (sym e₂) ∙ w)

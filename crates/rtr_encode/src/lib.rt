@@ -6,7 +6,7 @@ ghost use mathlib.Core.List.{[], _∷_, _++_};
 ghost use Prim.Native.Nat.{_+_, _≤_, _<_};
 ghost use lib.ListN.{length, take, drop};
 ghost use Rattle.rtr_models.specs.Codes.{versionNumber};
-ghost use Rattle.rtr_codec.specs.Reading.{crate};
+ghost use Rattle.rtr_codec.specs.Reading.{inUse};
 ghost use Rattle.rtr_encode.specs.Encode.{bytesOf, encode, withVersion, endOfData, keyBytes, reportBytes, lastChecks};
 ghost use Rattle.rtr_encode.specs.Answers.{leaves, encodeRefusal, numberOf};
 ghost use Rattle.rtr_base.specs.Over.{over};
@@ -91,7 +91,7 @@ fn short(needed: usize) -> EncodeAnswer
 }
 
 pub fn encode_serial_notify(pdu: RtrSerialNotify, out: &mut [u8]) -> EncodeAnswer
-    ensures { λ r. ⌜ leaves r (now (out .exit)) ≡ encode crate (RtrPdu.SerialNotify pdu) [] (now (out .entry)) ⌝ }
+    ensures { λ r. ⌜ leaves r (now (out .exit)) ≡ encode inUse (RtrPdu.SerialNotify pdu) [] (now (out .entry)) ⌝ }
 {
     if out.len() < 12 {
         return short(12);
@@ -103,7 +103,7 @@ pub fn encode_serial_notify(pdu: RtrSerialNotify, out: &mut [u8]) -> EncodeAnswe
 }
 
 pub fn encode_serial_query(pdu: RtrSerialQuery, out: &mut [u8]) -> EncodeAnswer
-    ensures { λ r. ⌜ leaves r (now (out .exit)) ≡ encode crate (RtrPdu.SerialQuery pdu) [] (now (out .entry)) ⌝ }
+    ensures { λ r. ⌜ leaves r (now (out .exit)) ≡ encode inUse (RtrPdu.SerialQuery pdu) [] (now (out .entry)) ⌝ }
 {
     if out.len() < 12 {
         return short(12);
@@ -115,7 +115,7 @@ pub fn encode_serial_query(pdu: RtrSerialQuery, out: &mut [u8]) -> EncodeAnswer
 }
 
 pub fn encode_reset_query(pdu: RtrResetQuery, out: &mut [u8]) -> EncodeAnswer
-    ensures { λ r. ⌜ leaves r (now (out .exit)) ≡ encode crate (RtrPdu.ResetQuery pdu) [] (now (out .entry)) ⌝ }
+    ensures { λ r. ⌜ leaves r (now (out .exit)) ≡ encode inUse (RtrPdu.ResetQuery pdu) [] (now (out .entry)) ⌝ }
 {
     if out.len() < 8 {
         return short(8);
@@ -126,7 +126,7 @@ pub fn encode_reset_query(pdu: RtrResetQuery, out: &mut [u8]) -> EncodeAnswer
 }
 
 pub fn encode_cache_response(pdu: RtrCacheResponse, out: &mut [u8]) -> EncodeAnswer
-    ensures { λ r. ⌜ leaves r (now (out .exit)) ≡ encode crate (RtrPdu.CacheResponse pdu) [] (now (out .entry)) ⌝ }
+    ensures { λ r. ⌜ leaves r (now (out .exit)) ≡ encode inUse (RtrPdu.CacheResponse pdu) [] (now (out .entry)) ⌝ }
 {
     if out.len() < 8 {
         return short(8);
@@ -148,7 +148,7 @@ fn put_lengths(out: &mut [u8], flags: u8, prefix_length: u8, max_length: u8)
 }
 
 pub fn encode_ipv4_prefix(pdu: RtrIPv4Prefix, out: &mut [u8]) -> EncodeAnswer
-    ensures { λ r. ⌜ leaves r (now (out .exit)) ≡ encode crate (RtrPdu.IPv4Prefix pdu) [] (now (out .entry)) ⌝ }
+    ensures { λ r. ⌜ leaves r (now (out .exit)) ≡ encode inUse (RtrPdu.IPv4Prefix pdu) [] (now (out .entry)) ⌝ }
 {
     if out.len() < 20 {
         return short(20);
@@ -162,7 +162,7 @@ pub fn encode_ipv4_prefix(pdu: RtrIPv4Prefix, out: &mut [u8]) -> EncodeAnswer
 }
 
 pub fn encode_ipv6_prefix(pdu: RtrIPv6Prefix, out: &mut [u8]) -> EncodeAnswer
-    ensures { λ r. ⌜ leaves r (now (out .exit)) ≡ encode crate (RtrPdu.IPv6Prefix pdu) [] (now (out .entry)) ⌝ }
+    ensures { λ r. ⌜ leaves r (now (out .exit)) ≡ encode inUse (RtrPdu.IPv6Prefix pdu) [] (now (out .entry)) ⌝ }
 {
     if out.len() < 32 {
         return short(32);
@@ -181,7 +181,7 @@ pub fn encode_ipv6_prefix(pdu: RtrIPv6Prefix, out: &mut [u8]) -> EncodeAnswer
 
 // Version 0 drops the intervals.
 fn encode_end_of_data_v0(pdu: RtrEndOfData, out: &mut [u8]) -> EncodeAnswer
-    ensures { λ r. ⌜ leaves r (now (out .exit)) ≡ encode crate (RtrPdu.EndOfData (withVersion RtrProtocolVersion.V0 pdu)) [] (now (out .entry)) ⌝ }
+    ensures { λ r. ⌜ leaves r (now (out .exit)) ≡ encode inUse (RtrPdu.EndOfData (withVersion RtrProtocolVersion.V0 pdu)) [] (now (out .entry)) ⌝ }
 {
     if out.len() < 12 {
         return short(12);
@@ -199,7 +199,7 @@ fn encode_end_of_data_v1(
     expire: u32,
     out: &mut [u8],
 ) -> EncodeAnswer
-    ensures { λ r. ⌜ leaves r (now (out .exit)) ≡ encode crate (RtrPdu.EndOfData (endOfData «session_id» «serial_number» refresh retry expire)) [] (now (out .entry)) ⌝ }
+    ensures { λ r. ⌜ leaves r (now (out .exit)) ≡ encode inUse (RtrPdu.EndOfData (endOfData «session_id» «serial_number» refresh retry expire)) [] (now (out .entry)) ⌝ }
 {
     if out.len() < 24 {
         return short(24);
@@ -214,7 +214,7 @@ fn encode_end_of_data_v1(
 
 // In version 1 an absent interval is written as its default.
 pub fn encode_end_of_data(pdu: RtrEndOfData, out: &mut [u8]) -> EncodeAnswer
-    ensures { λ r. ⌜ leaves r (now (out .exit)) ≡ encode crate (RtrPdu.EndOfData pdu) [] (now (out .entry)) ⌝ }
+    ensures { λ r. ⌜ leaves r (now (out .exit)) ≡ encode inUse (RtrPdu.EndOfData pdu) [] (now (out .entry)) ⌝ }
 {
     let version = pdu.version;
     match version {
@@ -236,7 +236,7 @@ pub fn encode_end_of_data(pdu: RtrEndOfData, out: &mut [u8]) -> EncodeAnswer
 }
 
 pub fn encode_cache_reset(pdu: RtrCacheReset, out: &mut [u8]) -> EncodeAnswer
-    ensures { λ r. ⌜ leaves r (now (out .exit)) ≡ encode crate (RtrPdu.CacheReset pdu) [] (now (out .entry)) ⌝ }
+    ensures { λ r. ⌜ leaves r (now (out .exit)) ≡ encode inUse (RtrPdu.CacheReset pdu) [] (now (out .entry)) ⌝ }
 {
     if out.len() < 8 {
         return short(8);
@@ -460,7 +460,7 @@ fn encode_key_parts(
 }
 
 pub fn encode_router_key(pdu: RtrRouterKey, input: &[u8], out: &mut [u8]) -> EncodeAnswer
-    ensures { λ r. ⌜ leaves r (now (out .exit)) ≡ encode crate (RtrPdu.RouterKey pdu) (now (input .entry)) (now (out .entry)) ⌝ }
+    ensures { λ r. ⌜ leaves r (now (out .exit)) ≡ encode inUse (RtrPdu.RouterKey pdu) (now (input .entry)) (now (out .entry)) ⌝ }
 {
     let identifier = pdu.subject_key_identifier_answer(input);
     if let PartAnswer::Refused = identifier {
@@ -511,7 +511,7 @@ fn encode_report_parts(
 }
 
 pub fn encode_error_report(pdu: RtrErrorReport, input: &[u8], out: &mut [u8]) -> EncodeAnswer
-    ensures { λ r. ⌜ leaves r (now (out .exit)) ≡ encode crate (RtrPdu.ErrorReport pdu) (now (input .entry)) (now (out .entry)) ⌝ }
+    ensures { λ r. ⌜ leaves r (now (out .exit)) ≡ encode inUse (RtrPdu.ErrorReport pdu) (now (input .entry)) (now (out .entry)) ⌝ }
 {
     let copy = pdu.erroneous_pdu_answer(input);
     if let PartAnswer::Refused = copy {
@@ -539,7 +539,7 @@ pub fn encode_error_report(pdu: RtrErrorReport, input: &[u8], out: &mut [u8]) ->
 
 // Any PDU; the slice is looked at only for payloads.
 pub fn encode(pdu: RtrPdu, input: &[u8], out: &mut [u8]) -> EncodeAnswer
-    ensures { λ r. ⌜ leaves r (now (out .exit)) ≡ encode crate pdu (now (input .entry)) (now (out .entry)) ⌝ }
+    ensures { λ r. ⌜ leaves r (now (out .exit)) ≡ encode inUse pdu (now (input .entry)) (now (out .entry)) ⌝ }
 {
     match pdu {
         RtrPdu::SerialNotify(p) => encode_serial_notify(p, out),

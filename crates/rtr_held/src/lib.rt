@@ -23,7 +23,7 @@ ghost use mathlib.Core.Path.{_≡_};
 ghost use Prim.Native.Nat.{_-_};
 ghost use lib.Dec.{leb};
 ghost use lib.ListN.{length};
-ghost use Rattle.rtr_codec.specs.Reading.{crate};
+ghost use Rattle.rtr_codec.specs.Reading.{inUse};
 ghost use Rattle.rtr_codec.specs.Run.{readAt, runSaid};
 ghost use Rattle.rtr_held.specs.Times.{FedTimes};
 ghost use Rattle.rtr_receiver.specs.Promises.{feedSays, fedSaid, fullAskSays, changeAskSays, askSaid, reconnectSays, reconnectSaid, notifySays, notifySaid};
@@ -262,7 +262,7 @@ pub fn is_done<'a>(run: RtrRun<'a>) -> bool
 // The next PDU, and the place behind it; or the refusal, with the place unmoved: at or past the end 1 (0, 8).
 // The PDU's own places count from its first byte, which is the place before this call: ask its parts of the bytes from there on.
 pub fn next_pdu<'s, 'a>(run: &'s mut RtrRun<'a>) -> ReadAnswer
-    ensures { λ r. ⌜ (runSaid (record { answer = r; next = now (run .exit) .at }) ≡ readAt crate (now (now (run .entry) .bytes)) (now (run .entry) .at))
+    ensures { λ r. ⌜ (runSaid (record { answer = r; next = now (run .exit) .at }) ≡ readAt inUse (now (now (run .entry) .bytes)) (now (run .entry) .at))
         × (now (run .exit) .bytes ≡ now (run .entry) .bytes) ⌝ }
 {
     let read = read_at(run.bytes, run.at);
@@ -273,7 +273,7 @@ pub fn next_pdu<'s, 'a>(run: &'s mut RtrRun<'a>) -> ReadAnswer
 // The same from a place, with no run to keep: makes one, lends it, and gives back the answer and its place.
 // The PDU's own places count from `at`.
 pub fn read_run(bytes: &[u8], at: usize) -> RunRead
-    ensures { λ r. ⌜ runSaid r ≡ readAt crate (now (bytes .entry)) at ⌝ }
+    ensures { λ r. ⌜ runSaid r ≡ readAt inUse (now (bytes .entry)) at ⌝ }
 {
     let mut run = RtrRun { bytes, at };
     let answer = next_pdu(&mut run);

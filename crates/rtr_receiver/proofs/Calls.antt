@@ -11,7 +11,7 @@ use types.Run.{OneOf, miss}
 use denote.Enum.Declared.{tagOf}
 use Rattle.rtr_models.specs.declared.RtrProtocolVersion.{RtrProtocolVersion}
 use Rattle.rtr_models.specs.declared.RtrPdu.{RtrPdu}
-use Rattle.rtr_codec.specs.Reading.{crate}
+use Rattle.rtr_codec.specs.Reading.{inUse}
 use Rattle.rtr_encode.specs.Encode.{Writing, Encoded, encode}
 use Rattle.rtr_encode.specs.Answers.{writing}
 use Rattle.rtr_encode.specs.declared.EncodeError.{EncodeError}
@@ -174,7 +174,7 @@ module _ (limit : ℕ) (s : Session) (live working hold : List ℕ) where
         t ≡ askedFor s answer phase →
         isReceiver limit s live working hold ≡ true →
         queryOf (receiverOf s live working hold) ≡ Query.query pdu (stageOf phase) →
-        record { says = writing answer; out = out′ } ≡ encode crate pdu [] out →
+        record { says = writing answer; out = out′ } ≡ encode inUse pdu [] out →
         askSaid t live working hold out′ ≡ askSays limit queryOf s live working hold out
     ask-written t answer phase pdu out′ q e f g =
         ap (λ (x : AskedSession). askSaid x live working hold out′) q

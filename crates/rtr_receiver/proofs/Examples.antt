@@ -8,7 +8,7 @@ use native.Mathlib.Omega.{arith}
 use lib.ListN.{length, take}
 use Rattle.rtr_models.specs.declared.RtrPdu.{RtrPdu}
 use Rattle.rtr_models.specs.declared.RtrProtocolVersion.the-variants.{V1}
-use Rattle.rtr_codec.specs.Reading.{crate}
+use Rattle.rtr_codec.specs.Reading.{inUse}
 use Rattle.rtr_codec.specs.Read.{Verdict, read}
 use Rattle.rtr_codec.proofs.Samples.{responseBytes, prefixBytes, endBytes, responsePdu, prefixPdu, endPdu, response-read, announced-read, withdrawn-read, end-read, later-end-read, other-end-read}
 use Rattle.rtr_stream.specs.Stream.{Heard, longest}
@@ -27,16 +27,16 @@ use Rattle.rtr_receiver.specs.declared.Note.{Note}
 module _ (H : ℕ) where
   -- these bytes, no more and no fewer, are a PDU that is listened to
   abbrev Says : List ℕ → RtrPdu → Type 0
-  Says s pdu = (length s ≤ longest) × (length s ≤ H) × (read crate s ≡ Verdict.accepted pdu (length s))
+  Says s pdu = (length s ≤ longest) × (length s ≤ H) × (read inUse s ≡ Verdict.accepted pdu (length s))
 
   -- the bytes of a PDU, of which s are in hand and t are to come, come to it
   rest-told : (s t : List ℕ) (pdu : RtrPdu) → 0 < length t → Says (s ++ t) pdu → (es : List Event) → items H s (bytes t ++ es) ≡ Item.told pdu ∷ items H [] es
   unfolding items
   rest-told s [] pdu more says es = absurd (omega arith)
-  rest-told s (b ∷ []) pdu more says es = ap (λ (h : Heard). itemsBy (s ++ b ∷ []) h (λ held. items H held es)) (pdu-is-heard crate H (s ++ b ∷ []) pdu (says .0) (says .1) (says .2))
+  rest-told s (b ∷ []) pdu more says es = ap (λ (h : Heard). itemsBy (s ++ b ∷ []) h (λ held. items H held es)) (pdu-is-heard inUse H (s ++ b ∷ []) pdu (says .0) (says .1) (says .2))
   rest-told s (b ∷ c ∷ t) pdu more says es =
       let later : Says ((s ++ b ∷ []) ++ c ∷ t) pdu = subst (λ (x : List ℕ). Says x pdu) (sym (append-assoc s (b ∷ []) (c ∷ t))) says in
-      ap (λ (h : Heard). itemsBy (s ++ b ∷ []) h (λ held. items H held (bytes (c ∷ t) ++ es))) (front-waits crate H (s ++ b ∷ []) (c ∷ t) pdu (omega arith) (later .0) (later .1) (later .2))
+      ap (λ (h : Heard). itemsBy (s ++ b ∷ []) h (λ held. items H held (bytes (c ∷ t) ++ es))) (front-waits inUse H (s ++ b ∷ []) (c ∷ t) pdu (omega arith) (later .0) (later .1) (later .2))
       ∙ rest-told (s ++ b ∷ []) (c ∷ t) pdu (omega arith) later es
 
   -- the bytes of a PDU come to it
@@ -49,7 +49,7 @@ module _ (H : ℕ) where
   rest-cut s [] u pdu more says = refl
   rest-cut s (b ∷ t) u pdu more says =
       let later : Says ((s ++ b ∷ []) ++ (t ++ u)) pdu = subst (λ (x : List ℕ). Says x pdu) (sym (append-assoc s (b ∷ []) (t ++ u))) says in
-      ap (λ (h : Heard). itemsBy (s ++ b ∷ []) h (λ held. items H held (bytes t))) (front-waits crate H (s ++ b ∷ []) (t ++ u) pdu (longer t u more) (later .0) (later .1) (later .2))
+      ap (λ (h : Heard). itemsBy (s ++ b ∷ []) h (λ held. items H held (bytes t))) (front-waits inUse H (s ++ b ∷ []) (t ++ u) pdu (longer t u more) (later .0) (later .1) (later .2))
       ∙ rest-cut (s ++ b ∷ []) t u pdu more later
     where
       longer : (t u : List ℕ) → 0 < length u → 0 < length (t ++ u)
@@ -99,7 +99,7 @@ abbrev emptied : Update
 emptied = record { kind = LoadKind.Change; records = record { announced = false; what = prefix } ∷ []; end = said 8 }
 
 module _ (limit H : ℕ) (some : 1 ≤ limit) (size : 24 ≤ H) where
-  heard : (s : List ℕ) (pdu : RtrPdu) → 0 < length s → length s ≤ 24 → read crate s ≡ Verdict.accepted pdu (length s) → (es : List Event) → items H [] (bytes s ++ es) ≡ Item.told pdu ∷ items H [] es
+  heard : (s : List ℕ) (pdu : RtrPdu) → 0 < length s → length s ≤ 24 → read inUse s ≡ Verdict.accepted pdu (length s) → (es : List Event) → items H [] (bytes s ++ es) ≡ Item.told pdu ∷ items H [] es
   heard s pdu more few e es = told-by H s pdu more (omega arith, omega arith, e) es
 
   -- ---- what the bytes come to

@@ -6,7 +6,7 @@ use mathlib.Core.List.{List, [], _∷_, _++_}
 use mathlib.Core.Path.{_≡_, refl, sym, ap, _∙_}
 use lib.ListN.{drop}
 use Rattle.rtr_models.specs.declared.RtrPdu.{RtrPdu}
-use Rattle.rtr_codec.specs.Reading.{crate}
+use Rattle.rtr_codec.specs.Reading.{inUse}
 use Rattle.rtr_stream.specs.Stream.{Heard, judge}
 use Rattle.rtr_stream.specs.Search.{End, Search, searchFrom}
 use Rattle.rtr_stream.proofs.Laws.{byHeard, byEnd, by-search}
@@ -22,7 +22,7 @@ module _ (limit H : ℕ) where
   stopped-takes-none [] f e = refl
   stopped-takes-none (b ∷ p) f e =
       ap
-      (λ (t : Bool). onPiece limit H (cond t (heard limit (f .taken + 1) (f .updates) (f .receiver) (f .receiver .held ++ b ∷ []) (judge crate H (f .receiver .held ++ b ∷ []))) f) p)
+      (λ (t : Bool). onPiece limit H (cond t (heard limit (f .taken + 1) (f .updates) (f .receiver) (f .receiver .held ++ b ∷ []) (judge inUse H (f .receiver .held ++ b ∷ []))) f) p)
       e
       ∙ stopped-takes-none p f e
 
@@ -42,13 +42,13 @@ module _ (limit H : ℕ) where
     refusing : ℕ → ℕ → List ℕ → List ℕ → Feed
     refusing at number values rest = onPiece limit H (from (stop number values r) at updates) rest
 
-    byte : (at : ℕ) (s : List ℕ) (b : ℕ) (rest : List ℕ) → waiting at s (b ∷ rest) ≡ byHeard waiting told refusing (at + 1) (s ++ b ∷ []) rest (judge crate H (s ++ b ∷ []))
+    byte : (at : ℕ) (s : List ℕ) (b : ℕ) (rest : List ℕ) → waiting at s (b ∷ rest) ≡ byHeard waiting told refusing (at + 1) (s ++ b ∷ []) rest (judge inUse H (s ++ b ∷ []))
     unfolding waiting told refusing onPiece onByte
     byte at s b rest =
         ap
-        (λ (t : Bool). onPiece limit H (cond t (heard limit (at + 1) updates (holding s r) (s ++ b ∷ []) (judge crate H (s ++ b ∷ []))) (from (holding s r) at updates)) rest)
+        (λ (t : Bool). onPiece limit H (cond t (heard limit (at + 1) updates (holding s r) (s ++ b ∷ []) (judge inUse H (s ++ b ∷ []))) (from (holding s r) at updates)) rest)
         on
-        ∙ go (judge crate H (s ++ b ∷ []))
+        ∙ go (judge inUse H (s ++ b ∷ []))
       where
         go : (h : Heard) → onPiece limit H (heard limit (at + 1) updates (holding s r) (s ++ b ∷ []) h) rest ≡ byHeard waiting told refusing (at + 1) (s ++ b ∷ []) rest h
         go Heard.waits = refl
@@ -58,37 +58,37 @@ module _ (limit H : ℕ) where
     -- the search from a place decides
     feed-by-search
         : (p : List ℕ) (at : ℕ) (s : List ℕ) (found : Search) →
-        found ≡ searchFrom crate H at s p →
+        found ≡ searchFrom inUse H at s p →
         onPiece limit H (from (holding s r) at updates) p ≡ byEnd waiting told refusing p at (found .next) (found .held) (found .end)
     unfolding waiting
     feed-by-search p at s found e =
-        by-search crate H waiting told refusing byte p at s
+        by-search inUse H waiting told refusing byte p at s
         ∙ ap (λ (x : Search). byEnd waiting told refusing p at (x .next) (x .held) (x .end)) (sym e)
 
-    pub fed-more : (p : List ℕ) (at : ℕ) (s : List ℕ) → searchFrom crate H at s p .end ≡ End.more → onPiece limit H (from (holding s r) at updates) p ≡ from (holding (searchFrom crate H at s p .held) r) (searchFrom crate H at s p .next) updates
+    pub fed-more : (p : List ℕ) (at : ℕ) (s : List ℕ) → searchFrom inUse H at s p .end ≡ End.more → onPiece limit H (from (holding s r) at updates) p ≡ from (holding (searchFrom inUse H at s p .held) r) (searchFrom inUse H at s p .next) updates
     unfolding waiting onPiece
     fed-more p at s e =
-        feed-by-search p at s (searchFrom crate H at s p) refl
-        ∙ ap (byEnd waiting told refusing p at (searchFrom crate H at s p .next) (searchFrom crate H at s p .held)) e
+        feed-by-search p at s (searchFrom inUse H at s p) refl
+        ∙ ap (byEnd waiting told refusing p at (searchFrom inUse H at s p .next) (searchFrom inUse H at s p .held)) e
 
     pub fed-pdu
         : (p : List ℕ) (at : ℕ) (s : List ℕ) (pdu : RtrPdu) (bytes : List ℕ) →
-        searchFrom crate H at s p .end ≡ End.found pdu bytes →
+        searchFrom inUse H at s p .end ≡ End.found pdu bytes →
         onPiece limit H (from (holding s r) at updates) p
         ≡ onPiece limit H
-        (from (onPdu limit pdu (holding [] r) .then) (searchFrom crate H at s p .next) (updates + onPdu limit pdu (holding [] r) .updates))
-        (drop (searchFrom crate H at s p .next - at) p)
+        (from (onPdu limit pdu (holding [] r) .then) (searchFrom inUse H at s p .next) (updates + onPdu limit pdu (holding [] r) .updates))
+        (drop (searchFrom inUse H at s p .next - at) p)
     unfolding told
     fed-pdu p at s pdu bytes e =
-        feed-by-search p at s (searchFrom crate H at s p) refl
-        ∙ ap (byEnd waiting told refusing p at (searchFrom crate H at s p .next) (searchFrom crate H at s p .held)) e
+        feed-by-search p at s (searchFrom inUse H at s p) refl
+        ∙ ap (byEnd waiting told refusing p at (searchFrom inUse H at s p .next) (searchFrom inUse H at s p .held)) e
 
     pub fed-stop
         : (p : List ℕ) (at : ℕ) (s : List ℕ) (number : ℕ) (values : List ℕ) →
-        searchFrom crate H at s p .end ≡ End.stop number values →
-        onPiece limit H (from (holding s r) at updates) p ≡ from (stop number values r) (searchFrom crate H at s p .next) updates
+        searchFrom inUse H at s p .end ≡ End.stop number values →
+        onPiece limit H (from (holding s r) at updates) p ≡ from (stop number values r) (searchFrom inUse H at s p .next) updates
     unfolding refusing
     fed-stop p at s number values e =
-        feed-by-search p at s (searchFrom crate H at s p) refl
-        ∙ ap (byEnd waiting told refusing p at (searchFrom crate H at s p .next) (searchFrom crate H at s p .held)) e
-        ∙ stopped-takes-none (drop (searchFrom crate H at s p .next - at) p) (from (stop number values r) (searchFrom crate H at s p .next) updates) refl
+        feed-by-search p at s (searchFrom inUse H at s p) refl
+        ∙ ap (byEnd waiting told refusing p at (searchFrom inUse H at s p .next) (searchFrom inUse H at s p .held)) e
+        ∙ stopped-takes-none (drop (searchFrom inUse H at s p .next - at) p) (from (stop number values r) (searchFrom inUse H at s p .next) updates) refl

@@ -12,7 +12,7 @@ use Rattle.rtr_models.specs.declared.RtrProtocolVersion.{RtrProtocolVersion}
 use Rattle.rtr_models.specs.declared.RtrEndOfData.{RtrEndOfData}
 use Rattle.rtr_models.specs.declared.RtrPdu.{RtrPdu}
 use Rattle.rtr_models.specs.declared.RtrPdu.the-variants.{SerialNotify, SerialQuery, ResetQuery, CacheResponse, IPv4Prefix, IPv6Prefix, EndOfData, CacheReset, RouterKey, ErrorReport}
-use Rattle.rtr_codec.specs.Reading.{crate}
+use Rattle.rtr_codec.specs.Reading.{inUse}
 use Rattle.rtr_encode.specs.Encode.{Writing, encode}
 use Rattle.rtr_encode.proofs.Laws.{reset-query-says, serial-query-says}
 use Rattle.rtr_stream.specs.Stream.{Heard, judge}
@@ -246,8 +246,8 @@ module _ (limit H : ℕ) where
   unfolding updates items
   lost-forgets v live [] s s′ = refl
   lost-forgets v live (Event.byte b ∷ es) s s′ =
-      drops (s ++ b ∷ []) (lost-forgets v live es (s ++ b ∷ []) []) (judge crate H (s ++ b ∷ []))
-      ∙ sym (drops (s′ ++ b ∷ []) (lost-forgets v live es (s′ ++ b ∷ []) []) (judge crate H (s′ ++ b ∷ [])))
+      drops (s ++ b ∷ []) (lost-forgets v live es (s ++ b ∷ []) []) (judge inUse H (s ++ b ∷ []))
+      ∙ sym (drops (s′ ++ b ∷ []) (lost-forgets v live es (s′ ++ b ∷ []) []) (judge inUse H (s′ ++ b ∷ [])))
     where
       drops : (t : List ℕ) →
           updates limit v live Place.lost (items H t es) ≡ updates limit v live Place.lost (items H [] es) →
@@ -261,7 +261,7 @@ module _ (limit H : ℕ) where
 
   lost-byte : (v : RtrProtocolVersion) (live : Live) (s : List ℕ) (b : ℕ) (es : List Event) → updates limit v live Place.lost (items H s (Event.byte b ∷ es)) ≡ updates limit v live Place.lost (items H s es)
   unfolding updates items
-  lost-byte v live s b es = go (judge crate H (s ++ b ∷ []))
+  lost-byte v live s b es = go (judge inUse H (s ++ b ∷ []))
     where
       go : (h : Heard) → updates limit v live Place.lost (itemsBy (s ++ b ∷ []) h (λ held. items H held es)) ≡ updates limit v live Place.lost (items H s es)
       go Heard.waits = lost-forgets v live es (s ++ b ∷ []) s
@@ -301,10 +301,10 @@ module _ (limit H : ℕ) where
       s : List ℕ
       s = r .held ++ b ∷ []
 
-      judged : (h : Heard) → judge crate H s ≡ h → (later : List Event) → future r p (Event.byte b ∷ later) ≡ updates limit (r .version) (liveOf r) p (itemsBy s h (λ hand. items H hand later))
+      judged : (h : Heard) → judge inUse H s ≡ h → (later : List Event) → future r p (Event.byte b ∷ later) ≡ updates limit (r .version) (liveOf r) p (itemsBy s h (λ hand. items H hand later))
       judged h j later = ap (λ (x : Heard). updates limit (r .version) (liveOf r) p (itemsBy s x (λ hand. items H hand later))) j
 
-      by : (h : Heard) → listens (r .stage) ≡ true → judge crate H s ≡ h → Counts r p (Event.byte b ∷ []) u (heard limit (k + 1) u r s h)
+      by : (h : Heard) → listens (r .stage) ≡ true → judge inUse H s ≡ h → Counts r p (Event.byte b ∷ []) u (heard limit (k + 1) u r s h)
       by Heard.waits on j = (quietly p (stays r (holding s r) p refl refl refl a) refl (judged Heard.waits j), omega arith)
       by (Heard.whole pdu) on j =
           let here : Receiver = holding [] r in
@@ -324,8 +324,8 @@ module _ (limit H : ℕ) where
           )
       by (Heard.refused number values) on j = (quietly Place.lost (at-lost refl) refl (judged (Heard.refused number values) j), omega arith)
 
-      go : (t : Bool) → listens (r .stage) ≡ t → Counts r p (Event.byte b ∷ []) u (cond t (heard limit (k + 1) u r s (judge crate H s)) (from r k u))
-      go true e = by (judge crate H s) e refl
+      go : (t : Bool) → listens (r .stage) ≡ t → Counts r p (Event.byte b ∷ []) u (cond t (heard limit (k + 1) u r s (judge inUse H s)) (from r k u))
+      go true e = by (judge inUse H s) e refl
       go false e = (
         quietly p a refl
             (λ later. subst (λ (q : Place). future r q (Event.byte b ∷ later) ≡ future r q later) (sym (deaf-lost r p e a)) (lost-byte (r .version) (liveOf r) (r .held) b later)),
@@ -355,14 +355,14 @@ module _ (limit H : ℕ) where
 
   full-is : (r : Receiver) (out : List ℕ) → ask (resetQuery r) r out .receiver ≡ cond (leb 8 (length out)) (inStage Stage.askedFull r) r
   full-is r out =
-      let e = encode crate (ResetQuery (record { version = r .version })) [] out in
-      ap (λ (w : Writing). askedBy w Stage.askedFull r (e .out) .receiver) (reset-query-says crate (r .version) out)
+      let e = encode inUse (ResetQuery (record { version = r .version })) [] out in
+      ap (λ (w : Writing). askedBy w Stage.askedFull r (e .out) .receiver) (reset-query-says inUse (r .version) out)
       ∙ written-if (leb 8 (length out)) 8 Stage.askedFull r (e .out)
 
   change-is : (r : Receiver) (t : Table) (out : List ℕ) → ask (serialQuery (LiveTable.Known t) r) r out .receiver ≡ cond (leb 12 (length out)) (inStage Stage.askedChange r) r
   change-is r t out =
-      let e = encode crate (SerialQuery (record { version = r .version; «session_id» = t .session; «serial_number» = t .serial })) [] out in
-      ap (λ (w : Writing). askedBy w Stage.askedChange r (e .out) .receiver) (serial-query-says crate (r .version) (t .session) (t .serial) out)
+      let e = encode inUse (SerialQuery (record { version = r .version; «session_id» = t .session; «serial_number» = t .serial })) [] out in
+      ap (λ (w : Writing). askedBy w Stage.askedChange r (e .out) .receiver) (serial-query-says inUse (r .version) (t .session) (t .serial) out)
       ∙ written-if (leb 12 (length out)) 12 Stage.askedChange r (e .out)
 
   -- a receiver that does not listen has stopped

@@ -14,7 +14,7 @@ use Rattle.rtr_models.specs.Values.{announces}
 use Rattle.rtr_models.specs.declared.RtrEndOfData.{RtrEndOfData}
 use Rattle.rtr_models.specs.declared.RtrPdu.{RtrPdu}
 use Rattle.rtr_models.specs.declared.RtrPdu.the-variants.{SerialNotify, SerialQuery, ResetQuery, CacheResponse, IPv4Prefix, IPv6Prefix, EndOfData, CacheReset, RouterKey, ErrorReport}
-use Rattle.rtr_codec.specs.Reading.{crate}
+use Rattle.rtr_codec.specs.Reading.{inUse}
 use Rattle.rtr_stream.specs.Stream.{Heard, judge}
 use Rattle.rtr_stream.proofs.Laws.{stop-numbers}
 use Rattle.rtr_room.specs.Table.{Change, enter, leave}
@@ -186,12 +186,12 @@ module _ (limit : ℕ) where
     pub rightly : stopsRightly (f .receiver .stage) ≡ true → stopsRightly (f′ .receiver .stage) ≡ true
 
   module _ (H : ℕ) where
-    by-heard : (f : Feed) (s : List ℕ) (h : Heard) → judge crate H s ≡ h → Keeping f (heard limit (f .taken + 1) (f .updates) (f .receiver) s h)
+    by-heard : (f : Feed) (s : List ℕ) (h : Heard) → judge inUse H s ≡ h → Keeping f (heard limit (f .taken + 1) (f .updates) (f .receiver) s h)
     by-heard f s Heard.waits j = record { version = refl; spends = omega arith; rightly = λ e. e }
     by-heard f s (Heard.whole pdu) j =
         let k = pdu-keeps pdu (holding [] (f .receiver)) in
         record { version = k .version; spends = omega (arith, k .spends); rightly = k .rightly }
-    by-heard f s (Heard.refused number values) j = record { version = refl; spends = omega arith; rightly = λ _. go (stop-numbers crate H s number values j) }
+    by-heard f s (Heard.refused number values) j = record { version = refl; spends = omega arith; rightly = λ _. go (stop-numbers inUse H s number values j) }
       where
         go : ((2 ≤ number) × (number ≤ 8)) ⊎ (number ≡ 12) → isStop number ≡ true
         go (inl range) = simp (le-leb 2 number (range .0), le-leb number 8 (range .1))
@@ -204,8 +204,8 @@ module _ (limit : ℕ) where
         s : List ℕ
         s = f .receiver .held ++ b ∷ []
 
-        go : (t : Bool) → Keeping f (cond t (heard limit (f .taken + 1) (f .updates) (f .receiver) s (judge crate H s)) f)
-        go true = by-heard f s (judge crate H s) refl
+        go : (t : Bool) → Keeping f (cond t (heard limit (f .taken + 1) (f .updates) (f .receiver) s (judge inUse H s)) f)
+        go true = by-heard f s (judge inUse H s) refl
         go false = record { version = refl; spends = omega arith; rightly = λ e. e }
 
     pub piece-keeps : (piece : List ℕ) (f : Feed) → Keeping f (onPiece limit H f piece)
@@ -221,7 +221,7 @@ module _ (limit : ℕ) where
     -- a receiver that listens takes a byte
     byte-taken : (f : Feed) (b : ℕ) → listens (f .receiver .stage) ≡ true → onByte limit H f b .taken ≡ f .taken + 1
     unfolding onByte
-    byte-taken f b on = ap (λ (t : Bool). cond t (heard limit (f .taken + 1) (f .updates) (f .receiver) s (judge crate H s)) f .taken) on ∙ go (judge crate H s)
+    byte-taken f b on = ap (λ (t : Bool). cond t (heard limit (f .taken + 1) (f .updates) (f .receiver) s (judge inUse H s)) f .taken) on ∙ go (judge inUse H s)
       where
         s : List ℕ
         s = f .receiver .held ++ b ∷ []
@@ -246,9 +246,9 @@ module _ (limit : ℕ) where
 
         go : (t : Bool) →
             t ≡ true →
-            listens (cond t (heard limit (f .taken + 1) (f .updates) (f .receiver) s (judge crate H s)) f .receiver .stage) ≡ false →
-            Cleared (f .receiver) (cond t (heard limit (f .taken + 1) (f .updates) (f .receiver) s (judge crate H s)) f .receiver)
-        go true e off = by (judge crate H s) off
+            listens (cond t (heard limit (f .taken + 1) (f .updates) (f .receiver) s (judge inUse H s)) f .receiver .stage) ≡ false →
+            Cleared (f .receiver) (cond t (heard limit (f .taken + 1) (f .updates) (f .receiver) s (judge inUse H s)) f .receiver)
+        go true e off = by (judge inUse H s) off
         go false e off = absurd (let z : _≡_ {A = ℕ} 0 1 = cc in omega arith)
 
     -- a piece is listened to whole, or up to the byte that makes the stop: before it the receiver listens, behind it nothing is taken

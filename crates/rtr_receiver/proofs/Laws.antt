@@ -12,7 +12,7 @@ use lib.ListN.{length, take}
 use Rattle.rtr_models.specs.declared.RtrProtocolVersion.{RtrProtocolVersion}
 use Rattle.rtr_encode.specs.Encode.{Writing, encode}
 use Rattle.rtr_encode.proofs.Laws.{refused-keeps-output}
-use Rattle.rtr_codec.specs.Reading.{crate}
+use Rattle.rtr_codec.specs.Reading.{inUse}
 use Rattle.rtr_stream.proofs.Laws.{stream-has}
 use Rattle.rtr_receiver.specs.Receiver.{Stage, Receiver, Feed, Query, fresh, feed, fullQuery, changeQuery, listens, onPiece, askedBy, ask, reconnected}
 use Rattle.rtr_receiver.specs.Receiver.Stage.{idle, mustReset, askedFull, askedChange, loading, stopped}
@@ -66,14 +66,14 @@ start-exactly limit v live working hold left = (go (eqb (length live) (6 * limit
 -- a refused ask changes neither receiver nor output
 refused-query : (q : Query) (r : Receiver) (out : List ℕ) (k : ℕ) (x : List ℕ) → ask q r out .says ≡ Writing.refused k x → (ask q r out .receiver ≡ r) × (ask q r out .out ≡ out)
 refused-query (Query.refused number) r out k x e = (refl, refl)
-refused-query (Query.query pdu stage) r out k x e = go (encode crate pdu [] out .says) refl e
+refused-query (Query.query pdu stage) r out k x e = go (encode inUse pdu [] out .says) refl e
   where
     go : (w : Writing) →
-        encode crate pdu [] out .says ≡ w →
-        askedBy w stage r (encode crate pdu [] out .out) .says ≡ Writing.refused k x →
-        (askedBy w stage r (encode crate pdu [] out .out) .receiver ≡ r) × (askedBy w stage r (encode crate pdu [] out .out) .out ≡ out)
+        encode inUse pdu [] out .says ≡ w →
+        askedBy w stage r (encode inUse pdu [] out .out) .says ≡ Writing.refused k x →
+        (askedBy w stage r (encode inUse pdu [] out .out) .receiver ≡ r) × (askedBy w stage r (encode inUse pdu [] out .out) .out ≡ out)
     go (Writing.written n) q e = absurd (let z : _≡_ {A = ℕ} 0 1 = cc in omega arith)
-    go (Writing.refused k′ x′) q e = (refl, refused-keeps-output crate pdu [] out k′ x′ q)
+    go (Writing.refused k′ x′) q e = (refl, refused-keeps-output inUse pdu [] out k′ x′ q)
 
 module _ (limit : ℕ) (s : Session) (live working hold : List ℕ) where
   abbrev Keeps : AskSays → List ℕ → Type 0
@@ -268,9 +268,9 @@ shape-kept limit H v calls m run = in-shape limit H (run-along limit H v calls m
 -- an ask keeps it, written or refused
 asked-version : (q : Query) (r : Receiver) (out : List ℕ) → ask q r out .receiver .version ≡ r .version
 asked-version (Query.refused number) r out = refl
-asked-version (Query.query pdu stage) r out = go (encode crate pdu [] out .says)
+asked-version (Query.query pdu stage) r out = go (encode inUse pdu [] out .says)
   where
-    go : (w : Writing) → askedBy w stage r (encode crate pdu [] out .out) .receiver .version ≡ r .version
+    go : (w : Writing) → askedBy w stage r (encode inUse pdu [] out .out) .receiver .version ≡ r .version
     go (Writing.written n) = refl
     go (Writing.refused k x) = refl
 

@@ -11,7 +11,7 @@ use lib.Dec.{eqb, leb}
 use lib.ListN.{length, take}
 use Rattle.rtr_models.specs.declared.RtrProtocolVersion.{RtrProtocolVersion}
 use Rattle.rtr_models.specs.declared.RtrPdu.the-variants.{ResetQuery, SerialQuery}
-use Rattle.rtr_codec.specs.Reading.{crate}
+use Rattle.rtr_codec.specs.Reading.{inUse}
 use Rattle.rtr_codec.proofs.Rules.{LengthsInRule, accepted-in-rule}
 use Rattle.rtr_encode.specs.Encode.{Writing, encode}
 use Rattle.rtr_stream.specs.Stream.{Heard, judge}
@@ -38,9 +38,9 @@ module _ (limit H : ℕ) where
   -- a receiver that is in shape, and what it holds waits
   pub record Sound (r : Receiver) : Type 0 where
     pub good : Good limit r
-    pub waits : judge crate H (r .held) ≡ Heard.waits
+    pub waits : judge inUse H (r .held) ≡ Heard.waits
 
-  holding-sound : (r : Receiver) (s : List ℕ) → listens (r .stage) ≡ true → judge crate H s ≡ Heard.waits → Good limit r → Sound (holding s r)
+  holding-sound : (r : Receiver) (s : List ℕ) → listens (r .stage) ≡ true → judge inUse H s ≡ Heard.waits → Good limit r → Sound (holding s r)
   holding-sound r s on w g =
       record {
         good =
@@ -68,12 +68,12 @@ module _ (limit H : ℕ) where
   unfolding onByte
   byte-sound f b sound = go (listens (f .receiver .stage)) refl
     where
-      by : (h : Heard) → listens (f .receiver .stage) ≡ true → judge crate H (f .receiver .held ++ b ∷ []) ≡ h → Sound (heard limit (f .taken + 1) (f .updates) (f .receiver) (f .receiver .held ++ b ∷ []) h .receiver)
+      by : (h : Heard) → listens (f .receiver .stage) ≡ true → judge inUse H (f .receiver .held ++ b ∷ []) ≡ h → Sound (heard limit (f .taken + 1) (f .updates) (f .receiver) (f .receiver .held ++ b ∷ []) h .receiver)
       by Heard.waits on j = holding-sound (f .receiver) (f .receiver .held ++ b ∷ []) on j (sound .good)
       by (Heard.whole pdu) on j =
           let g : Good limit (f .receiver) = sound .good in
-          let wholly = whole-is-read crate H (f .receiver .held ++ b ∷ []) pdu j in
-          let rule : LengthsInRule pdu = accepted-in-rule crate (f .receiver .held ++ b ∷ []) pdu (wholly .0) (wholly .1) in
+          let wholly = whole-is-read inUse H (f .receiver .held ++ b ∷ []) pdu j in
+          let rule : LengthsInRule pdu = accepted-in-rule inUse (f .receiver .held ++ b ∷ []) pdu (wholly .0) (wholly .1) in
           record {
             good =
                 pdu-good limit pdu (holding [] (f .receiver))
@@ -87,12 +87,12 @@ module _ (limit H : ℕ) where
                   quiet = inr refl;
                 })
                 rule .0;
-            waits = ap (judge crate H) (told-drops limit pdu (f .receiver)) ∙ nothing-waits crate H;
+            waits = ap (judge inUse H) (told-drops limit pdu (f .receiver)) ∙ nothing-waits inUse H;
           }
-      by (Heard.refused number values) on j = record { good = stop-good limit number values (f .receiver) (sound .good); waits = nothing-waits crate H }
+      by (Heard.refused number values) on j = record { good = stop-good limit number values (f .receiver) (sound .good); waits = nothing-waits inUse H }
 
-      go : (t : Bool) → listens (f .receiver .stage) ≡ t → Sound (cond t (heard limit (f .taken + 1) (f .updates) (f .receiver) (f .receiver .held ++ b ∷ []) (judge crate H (f .receiver .held ++ b ∷ []))) f .receiver)
-      go true e = by (judge crate H (f .receiver .held ++ b ∷ [])) e refl
+      go : (t : Bool) → listens (f .receiver .stage) ≡ t → Sound (cond t (heard limit (f .taken + 1) (f .updates) (f .receiver) (f .receiver .held ++ b ∷ []) (judge inUse H (f .receiver .held ++ b ∷ []))) f .receiver)
+      go true e = by (judge inUse H (f .receiver .held ++ b ∷ [])) e refl
       go false e = sound
 
   piece-sound : (piece : List ℕ) (f : Feed) → Sound (f .receiver) → Sound (onPiece limit H f piece .receiver)
@@ -134,8 +134,8 @@ module _ (limit H : ℕ) where
   by-writing (Writing.refused number values) stage r out sound then = sound
 
   full-sound : (r : Receiver) (out : List ℕ) → Sound r → (stage : Stage) → r .stage ≡ stage → Sound (ask (fullQuery stage r) r out .receiver)
-  full-sound r out sound Stage.idle e = let w = encode crate (ResetQuery (record { version = r .version })) [] out in by-writing (w .says) Stage.askedFull r (w .out) sound (asked-sound r Stage.askedFull sound (ap loadingIn e) (inr refl) refl)
-  full-sound r out sound Stage.mustReset e = let w = encode crate (ResetQuery (record { version = r .version })) [] out in by-writing (w .says) Stage.askedFull r (w .out) sound (asked-sound r Stage.askedFull sound (ap loadingIn e) (inr refl) refl)
+  full-sound r out sound Stage.idle e = let w = encode inUse (ResetQuery (record { version = r .version })) [] out in by-writing (w .says) Stage.askedFull r (w .out) sound (asked-sound r Stage.askedFull sound (ap loadingIn e) (inr refl) refl)
+  full-sound r out sound Stage.mustReset e = let w = encode inUse (ResetQuery (record { version = r .version })) [] out in by-writing (w .says) Stage.askedFull r (w .out) sound (asked-sound r Stage.askedFull sound (ap loadingIn e) (inr refl) refl)
   full-sound r out sound Stage.askedFull e = sound
   full-sound r out sound Stage.askedChange e = sound
   full-sound r out sound (Stage.loading kind session) e = sound
@@ -146,7 +146,7 @@ module _ (limit H : ℕ) where
     where
       table : (t : LiveTable) → r .table ≡ t → Sound (ask (serialQuery t r) r out .receiver)
       table LiveTable.NoTable q = sound
-      table (LiveTable.Known t) q = let w = encode crate (SerialQuery (record { version = r .version; «session_id» = t .session; «serial_number» = t .serial })) [] out in by-writing (w .says) Stage.askedChange r (w .out) sound (asked-sound r Stage.askedChange sound (ap loadingIn e) (inl (ap hasTable q)) refl)
+      table (LiveTable.Known t) q = let w = encode inUse (SerialQuery (record { version = r .version; «session_id» = t .session; «serial_number» = t .serial })) [] out in by-writing (w .says) Stage.askedChange r (w .out) sound (asked-sound r Stage.askedChange sound (ap loadingIn e) (inl (ap hasTable q)) refl)
   change-sound r out sound Stage.mustReset e = sound
   change-sound r out sound Stage.askedFull e = sound
   change-sound r out sound Stage.askedChange e = sound
@@ -167,7 +167,7 @@ module _ (limit H : ℕ) where
               emptied = inr refl;
               quiet = inl refl;
             };
-        waits = nothing-waits crate H;
+        waits = nothing-waits inUse H;
       }
     where
       tabled : (hasTable (r .table) ≡ true) ⊎ ((r .live ≡ []) × (changeIn (r .stage) ≡ false)) → (hasTable (r .table) ≡ true) ⊎ ((r .live ≡ []) × (changeIn Stage.idle ≡ false))
@@ -186,13 +186,13 @@ module _ (limit H : ℕ) where
   -- so it has receiver shape
   pub in-shape : {m : Memory} {r : Receiver} → Stands m r → isReceiver limit (m .session) (m .live) (m .working) (m .hold) ≡ true
   in-shape {m} {r} s =
-      let fits = waits-fits crate H (r .held) (s .least) (s .sound .waits) in
+      let fits = waits-fits inUse H (r .held) (s .least) (s .sound .waits) in
       let count : m .session .held ≡ length (r .held) = ap (λ (x : Left). x .heldCount) (s .left) in
       let held : take (m .session .held) (m .hold) ≡ r .held = ap (λ (x : Left). x .held) (s .left) in
       shape-is limit (m .session) (m .live) (m .working) (m .hold)
       (shape-of-good limit (m .session) (m .live) (m .working) (m .hold) r (s .sound .good) (s .left)
       (stream-exactly (m .hold) (m .session .held) (omega (arith, s .size, s .least)) (omega (arith, s .size))
-      (ap (judge crate (length (m .hold))) held ∙ ap (λ (h : ℕ). judge crate h (r .held)) (s .size) ∙ s .sound .waits)))
+      (ap (judge inUse (length (m .hold))) held ∙ ap (λ (h : ℕ). judge inUse h (r .held)) (s .size) ∙ s .sound .waits)))
 
   -- what a call says where memory has receiver shape
   fed-left : (done : Done) (l : Left) (hold : List ℕ) (f : Feed) → fedSaidBy (done .answer) (done .taken) (done .updates) l hold ≡ fedTo limit f → l ≡ inMemory limit (f .receiver)
@@ -307,7 +307,7 @@ module _ (limit H : ℕ) where
                   size = size;
                   least = omega (arith, size, leb-true 8 (length (m .hold)) t);
                   left = cc;
-                  sound = record { good = fresh-good limit v; waits = nothing-waits crate H };
+                  sound = record { good = fresh-good limit v; waits = nothing-waits inUse H };
                 };
             way = record { place = Place.idle; at = At.at-idle refl; between = []; table = refl; to-come = λ es. refl };
           }

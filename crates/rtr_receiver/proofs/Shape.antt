@@ -8,7 +8,7 @@ use native.Mathlib.Omega.{arith}
 use borrow.Author.Tests.{leb-true, leb-false, eqb-true, eqb-false, not-true, not-false}
 use lib.Dec.{leb, eqb}
 use lib.ListN.{length, take}
-use Rattle.rtr_codec.specs.Reading.{crate}
+use Rattle.rtr_codec.specs.Reading.{inUse}
 use Rattle.rtr_stream.specs.Stream.{Heard, judge}
 use Rattle.rtr_stream.specs.Search.{isStream}
 use Rattle.rtr_stream.proofs.Laws.{stream-has, stream-exactly}
@@ -99,14 +99,14 @@ module _ (limit : ℕ) (s : Session) (live working hold : List ℕ) where
   by-hold : isStream hold (s .held) ≡ false → Reason limit s live working hold
   by-hold e = bySize (leb 8 (length hold)) refl
     where
-      byHeard : 8 ≤ length hold → s .held ≤ length hold → (h : Heard) → judge crate (length hold) (take (s .held) hold) ≡ h → Reason limit s live working hold
+      byHeard : 8 ≤ length hold → s .held ≤ length hold → (h : Heard) → judge inUse (length hold) (take (s .held) hold) ≡ h → Reason limit s live working hold
       byHeard l m Heard.waits q = absurd (not-both _ (stream-exactly hold (s .held) l m q) e)
       byHeard l m (Heard.whole pdu) q = heldPdu pdu q
       byHeard l m (Heard.refused number values) q = heldRefusal number values q
 
       byCount : 8 ≤ length hold → (b : Bool) → leb (s .held) (length hold) ≡ b → Reason limit s live working hold
       byCount l false q = heldOver (leb-false (s .held) (length hold) q)
-      byCount l true q = byHeard l (leb-true (s .held) (length hold) q) (judge crate (length hold) (take (s .held) hold)) refl
+      byCount l true q = byHeard l (leb-true (s .held) (length hold) q) (judge inUse (length hold) (take (s .held) hold)) refl
 
       bySize : (b : Bool) → leb 8 (length hold) ≡ b → Reason limit s live working hold
       bySize false q = holdSize (leb-false 8 (length hold) q)
@@ -161,7 +161,7 @@ module _ (limit : ℕ) (s : Session) (live working hold : List ℕ) where
   not-order h = not-shape-order limit s live working hold (unless _ (λ o. h (order-has s o)))
 
   -- a judgement that is no wish for more
-  judged-other : (h : Heard) → (Heard.waits ≡ h → ⊥) → judge crate (length hold) (take (s .held) hold) ≡ h → isReceiver limit s live working hold ≡ false
+  judged-other : (h : Heard) → (Heard.waits ≡ h → ⊥) → judge inUse (length hold) (take (s .held) hold) ≡ h → isReceiver limit s live working hold ≡ false
   judged-other h differs e = not-hold (λ t. differs (sym (stream-has hold (s .held) t .2) ∙ e))
 
   by-reason : Reason limit s live working hold → isReceiver limit s live working hold ≡ false

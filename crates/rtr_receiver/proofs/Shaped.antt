@@ -8,7 +8,7 @@ use mathlib.Core.Path.{_≡_, refl, sym, ap, _∙_}
 use native.Mathlib.Omega.{arith}
 use lib.Dec.{leb}
 use lib.ListN.{length, take}
-use Rattle.rtr_codec.specs.Reading.{crate}
+use Rattle.rtr_codec.specs.Reading.{inUse}
 use Rattle.rtr_codec.specs.declared.RtrError.the-variants.{IncompletePdu, InvalidProtocolVersion, InvalidPduType, InvalidLength, RouterKeyInV0, InvalidPrefixLength, InvalidErrorCode, InvalidUtf8}
 use Rattle.rtr_encode.specs.Encode.{Writing}
 use Rattle.rtr_encode.specs.Answers.{numberOf}
@@ -123,8 +123,8 @@ by-space false k q = omega arith
 -- neither query is refused by 22
 module _ (r : Receiver) (out : List ℕ) where
   full-never-22 : (stage : Stage) → numberOf (ask (fullQuery stage r) r out .says) ≡ 22 → ⊥
-  full-never-22 idle q = by-space (leb 8 (length out)) 8 (sym (ap numberOf (asked-says _ askedFull r _ ∙ reset-query-says crate (r .version) out)) ∙ q)
-  full-never-22 mustReset q = by-space (leb 8 (length out)) 8 (sym (ap numberOf (asked-says _ askedFull r _ ∙ reset-query-says crate (r .version) out)) ∙ q)
+  full-never-22 idle q = by-space (leb 8 (length out)) 8 (sym (ap numberOf (asked-says _ askedFull r _ ∙ reset-query-says inUse (r .version) out)) ∙ q)
+  full-never-22 mustReset q = by-space (leb 8 (length out)) 8 (sym (ap numberOf (asked-says _ askedFull r _ ∙ reset-query-says inUse (r .version) out)) ∙ q)
   full-never-22 askedFull q = omega arith
   full-never-22 askedChange q = omega arith
   full-never-22 (loading kind session) q = omega arith
@@ -133,7 +133,7 @@ module _ (r : Receiver) (out : List ℕ) where
   -- a change ask in Idle, by the table
   serial-never-22 : (table : LiveTable) → numberOf (ask (serialQuery table r) r out .says) ≡ 22 → ⊥
   serial-never-22 LiveTable.NoTable q = omega arith
-  serial-never-22 (LiveTable.Known t) q = by-space (leb 12 (length out)) 12 (sym (ap numberOf (asked-says _ askedChange r _ ∙ serial-query-says crate (r .version) (t .session) (t .serial) out)) ∙ q)
+  serial-never-22 (LiveTable.Known t) q = by-space (leb 12 (length out)) 12 (sym (ap numberOf (asked-says _ askedChange r _ ∙ serial-query-says inUse (r .version) (t .session) (t .serial) out)) ∙ q)
 
   change-never-22 : (stage : Stage) → numberOf (ask (changeQuery stage r) r out .says) ≡ 22 → ⊥
   change-never-22 idle q = serial-never-22 (r .table) q

@@ -10,7 +10,7 @@ use types.Run.{OneOf, miss}
 use lib.ListN.{length, take, drop, replicate, length-drop}
 use lib.Seq.{take-nil, drop-drop}
 use Rattle.rtr_models.specs.declared.RtrPdu.{RtrPdu}
-use Rattle.rtr_codec.specs.Reading.{crate}
+use Rattle.rtr_codec.specs.Reading.{inUse}
 use Rattle.rtr_codec.proofs.Rules.{LengthsInRule, accepted-in-rule}
 use Rattle.rtr_stream.specs.Stream.{judge}
 use Rattle.rtr_stream.specs.Search.{End, Search, Outcome, isStream, searchFrom, search, saysOf, outcomeOf, streamRefusal, stopsBy, saidBy, searchSaid, bytesOf}
@@ -51,7 +51,7 @@ module _ (limit : ℕ) (s : Session) (live working hold piece : List ℕ) (at up
   here = receiverOf s live working hold
 
   abbrev pub ended : Search
-  ended = searchFrom crate (length hold) at (take (s .held) hold) (drop at piece)
+  ended = searchFrom inUse (length hold) at (take (s .held) hold) (drop at piece)
 
   module _ (r : Searched) (hold′ : List ℕ) (same : length hold′ ≡ length hold) (e : searchSaid r hold′ piece ≡ search hold (s .held) piece at) where
     outcome : searchSaid r hold′ piece ≡ outcomeOf (s .held) at ended
@@ -136,14 +136,14 @@ module _ (limit : ℕ) (s : Session) (live working hold piece : List ℕ) (at up
 
       rest-is : at ≤ length piece → drop (ended .next - at) (drop at piece) ≡ drop (r .next) piece
       rest-is inside =
-          let t = search-takes crate (length hold) (drop at piece) at (take (s .held) hold) in
+          let t = search-takes inUse (length hold) (drop at piece) at (take (s .held) hold) in
           let place : at + (ended .next - at) ≡ r .next = omega (arith, next-is, t .0) in
           drop-drop (ended .next - at) at piece ∙ ap (λ (n : ℕ). drop n piece) place
 
       in-rule : LengthsInRule pdu
       in-rule =
-          accepted-in-rule crate bytes pdu (length bytes)
-          (found-is-read crate (length hold) (drop at piece) at (take (s .held) hold) pdu bytes (stream-has hold (s .held) (shape .stream) .2) end-is)
+          accepted-in-rule inUse bytes pdu (length bytes)
+          (found-is-read inUse (length hold) (drop at piece) at (take (s .held) hold) pdu bytes (stream-has hold (s .held) (shape .stream) .2) end-is)
 
       good : Good limit (deed .then) × (deed .updates ≤ 1)
       good =
@@ -171,8 +171,8 @@ module _ (limit : ℕ) (s : Session) (live working hold piece : List ℕ) (at up
       pub step-counts : (d : DeedDone) (live′ working′ : List ℕ) → at ≤ length piece → updates ≤ at → Did limit d live′ working′ deed → updates + d .updates ≤ length piece
       step-counts d live′ working′ inside few did =
           let moved : at < ended .next =
-          search-moves crate (length hold) (drop at piece) at (take (s .held) hold) (λ m. let z : _≡_ {A = ℕ} 0 1 = cc end-is in omega arith) in
-          let takes = search-takes crate (length hold) (drop at piece) at (take (s .held) hold) in
+          search-moves inUse (length hold) (drop at piece) at (take (s .held) hold) (λ m. let z : _≡_ {A = ℕ} 0 1 = cc end-is in omega arith) in
+          let takes = search-takes inUse (length hold) (drop at piece) at (take (s .held) hold) in
           omega (arith, did .1, good .1, takes .1, length-drop at piece)
 
       pub step-pdu
@@ -220,13 +220,13 @@ module _ (limit : ℕ) (s : Session) (live working hold piece : List ℕ) (at up
           again listening =
               let has = stream-has hold (s .held) (shape .stream) in
               let moved : at < ended .next =
-              search-moves crate (length hold) (drop at piece) at (take (s .held) hold)
+              search-moves inUse (length hold) (drop at piece) at (take (s .held) hold)
               (λ m. let z : _≡_ {A = ℕ} 0 1 = cc end-is in omega arith) in
-              let takes = search-takes crate (length hold) (drop at piece) at (take (s .held) hold) in
+              let takes = search-takes inUse (length hold) (drop at piece) at (take (s .held) hold) in
               let waits-now = ap (λ (n : ℕ). take n hold′) held-zero in
               let stream : isStream hold′ (d .session .held) ≡ true =
               stream-exactly hold′ (d .session .held) (omega (arith, has .0)) (omega (arith, held-zero))
-              (ap (λ (x : List ℕ). judge crate (length hold′) x) waits-now ∙ nothing-waits crate (length hold′)) in (
+              (ap (λ (x : List ℕ). judge inUse (length hold′) x) waits-now ∙ nothing-waits inUse (length hold′)) in (
                 shape-is limit (d .session) live′ working′ hold′ (shape-of-good limit (d .session) live′ working′ hold′ (deed .then) (good .0) left stream),
                 listening,
                 omega (arith, next-is),

@@ -25,7 +25,7 @@ use Rattle.rtr_models.specs.declared.RtrProtocolVersion.{RtrProtocolVersion}
 use Rattle.rtr_models.specs.declared.RtrEndOfData.{RtrEndOfData}
 use Rattle.rtr_models.specs.declared.RtrPdu.{RtrPdu}
 use Rattle.rtr_models.specs.declared.RtrPdu.the-variants.{SerialNotify, SerialQuery, ResetQuery, CacheResponse, IPv4Prefix, IPv6Prefix, EndOfData, CacheReset, RouterKey, ErrorReport}
-use Rattle.rtr_codec.specs.Reading.{crate}
+use Rattle.rtr_codec.specs.Reading.{inUse}
 use Rattle.rtr_stream.specs.Stream.{Heard, judge}
 use Rattle.rtr_room.specs.Table.{Change, ipv4Record, ipv6Record, enter, leave}
 use Rattle.rtr_room.specs.declared.Record.{Record}
@@ -112,7 +112,7 @@ itemsBy s (Heard.refused number values) rest = refusal ∷ rest []
 -- a history's items, with the bytes s in hand; each byte is judged together with those in hand
 unfoldable pub items : ℕ → List ℕ → List Event → List Item
 items H s [] = []
-items H s (byte b ∷ es) = itemsBy (s ++ b ∷ []) (judge crate H (s ++ b ∷ [])) (λ hand. items H hand es)
+items H s (byte b ∷ es) = itemsBy (s ++ b ∷ []) (judge inUse H (s ++ b ∷ [])) (λ hand. items H hand es)
 items H s (ask kind space ∷ es) = asks kind space ∷ items H s es
 items H s (reconnect ∷ es) = anew ∷ items H [] es
 

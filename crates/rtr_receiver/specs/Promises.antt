@@ -9,7 +9,7 @@ use lib.ListN.{length, take}
 use Rattle.rtr_models.specs.Codes.{codeNumber}
 use Rattle.rtr_models.specs.declared.RtrProtocolVersion.{RtrProtocolVersion}
 use Rattle.rtr_models.specs.declared.RtrPdu.{RtrPdu}
-use Rattle.rtr_codec.specs.Reading.{crate}
+use Rattle.rtr_codec.specs.Reading.{inUse}
 use Rattle.rtr_codec.specs.Read.{Verdict}
 use Rattle.rtr_encode.specs.Encode.{Writing}
 use Rattle.rtr_encode.specs.Answers.{encodeRefusal}
@@ -130,8 +130,8 @@ pub data Reason (limit : ℕ) (s : Session) (live working hold : List ℕ) : Typ
   changeWithoutTable : s .table ≡ LiveTable.NoTable → changeUnderWay (s .phase) ≡ true → Reason limit s live working hold
   workingOutsideLoading : isLoading (s .phase) ≡ false → 0 < s .working → Reason limit s live working hold
   heldInStopped : isStopped (s .phase) ≡ true → 0 < s .held → Reason limit s live working hold
-  heldPdu : (pdu : RtrPdu) → judge crate (length hold) (take (s .held) hold) ≡ Heard.whole pdu → Reason limit s live working hold
-  heldRefusal : (number : ℕ) (values : List ℕ) → judge crate (length hold) (take (s .held) hold) ≡ Heard.refused number values → Reason limit s live working hold
+  heldPdu : (pdu : RtrPdu) → judge inUse (length hold) (take (s .held) hold) ≡ Heard.whole pdu → Reason limit s live working hold
+  heldRefusal : (number : ℕ) (values : List ℕ) → judge inUse (length hold) (take (s .held) hold) ≡ Heard.refused number values → Reason limit s live working hold
 
 -- what a call leaves: the session record, both rooms whole, and the hold up to the held count
 pub record Left : Type 0 where

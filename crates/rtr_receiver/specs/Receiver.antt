@@ -9,7 +9,7 @@ use Rattle.rtr_models.specs.declared.RtrProtocolVersion.{RtrProtocolVersion}
 use Rattle.rtr_models.specs.declared.RtrEndOfData.{RtrEndOfData}
 use Rattle.rtr_models.specs.declared.RtrPdu.{RtrPdu}
 use Rattle.rtr_models.specs.declared.RtrPdu.the-variants.{SerialNotify, SerialQuery, ResetQuery, CacheResponse, IPv4Prefix, IPv6Prefix, EndOfData, CacheReset, RouterKey, ErrorReport}
-use Rattle.rtr_codec.specs.Reading.{crate}
+use Rattle.rtr_codec.specs.Reading.{inUse}
 use Rattle.rtr_encode.specs.Encode.{Writing, encode}
 use Rattle.rtr_stream.specs.Stream.{Heard, judge}
 use Rattle.rtr_room.specs.Table.{Change, ipv4Record, ipv6Record, enter, leave}
@@ -217,7 +217,7 @@ listens (stopped number values) = false
 unfoldable pub onByte : ℕ → ℕ → Feed → ℕ → Feed
 onByte limit H f b =
     cond (listens (f .receiver .stage))
-    (heard limit (f .taken + 1) (f .updates) (f .receiver) (f .receiver .held ++ b ∷ []) (judge crate H (f .receiver .held ++ b ∷ [])))
+    (heard limit (f .taken + 1) (f .updates) (f .receiver) (f .receiver .held ++ b ∷ []) (judge inUse H (f .receiver .held ++ b ∷ [])))
     f
 
 -- a piece is its bytes, one after another
@@ -269,7 +269,7 @@ askedBy (Writing.written n) stage r out = record { receiver = inStage stage r; s
 askedBy (Writing.refused number values) stage r out = record { receiver = r; says = Writing.refused number values; out = out }
 
 abbrev pub ask : Query → Receiver → List ℕ → Asked
-ask (query pdu stage) r out = askedBy (encode crate pdu [] out .says) stage r (encode crate pdu [] out .out)
+ask (query pdu stage) r out = askedBy (encode inUse pdu [] out .says) stage r (encode inUse pdu [] out .out)
 ask (refused number) r out = record { receiver = r; says = Writing.refused number []; out = out }
 
 -- "Reconnect: Idle; held bytes, working room and note cleared; table kept"

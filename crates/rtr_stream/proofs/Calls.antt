@@ -7,7 +7,7 @@ use mathlib.Core.Path.{_≡_, refl, sym, ap, _∙_}
 use native.Mathlib.Omega.{arith}
 use lib.ListN.{length, take, drop, length-drop}
 use lib.Seq.{drop-drop}
-use Rattle.rtr_codec.specs.Reading.{Reading, crate}
+use Rattle.rtr_codec.specs.Reading.{Reading, inUse}
 use Rattle.rtr_stream.specs.Stream.{Heard, judge, Found, State, Listened, after, onByteIn, onByte, onPiece, onPieces}
 use Rattle.rtr_stream.specs.Search.{End, Outcome, isStream, over, searchFrom, stopsBy, saidBy, bytesOf}
 use Rattle.rtr_stream.specs.Calls.{Between, Through, Pieces, stateOf}
@@ -45,9 +45,9 @@ module _ (piece : List ℕ) where
   by-end : ℕ → List ℕ → List Found → ℕ → List ℕ → End → Listened
   by-end at hold before next held end =
       byEnd
-      (λ next held rest. onPiece crate (length hold) (record { taken = next; pdus = before; state = State.holding held }) rest)
-      (λ next pdu bytes rest. onPiece crate (length hold) (record { taken = next; pdus = before ++ record { pdu = pdu; bytes = bytes } ∷ []; state = State.holding [] }) rest)
-      (λ next number values rest. onPiece crate (length hold) (record { taken = next; pdus = before; state = State.stopped number values }) rest)
+      (λ next held rest. onPiece inUse (length hold) (record { taken = next; pdus = before; state = State.holding held }) rest)
+      (λ next pdu bytes rest. onPiece inUse (length hold) (record { taken = next; pdus = before ++ record { pdu = pdu; bytes = bytes } ∷ []; state = State.holding [] }) rest)
+      (λ next number values rest. onPiece inUse (length hold) (record { taken = next; pdus = before; state = State.stopped number values }) rest)
       (drop at piece)
       at
       next
@@ -56,10 +56,10 @@ module _ (piece : List ℕ) where
 
   by-fold
       : (at : ℕ) (hold : List ℕ) (held : ℕ) (before : List Found) →
-      onPiece crate (length hold) (record { taken = at; pdus = before; state = State.holding (take held hold) }) (drop at piece)
-      ≡ by-end at hold before (searchFrom crate (length hold) at (take held hold) (drop at piece) .next) (searchFrom crate (length hold) at (take held hold) (drop at piece) .held) (searchFrom crate (length hold) at (take held hold) (drop at piece) .end)
+      onPiece inUse (length hold) (record { taken = at; pdus = before; state = State.holding (take held hold) }) (drop at piece)
+      ≡ by-end at hold before (searchFrom inUse (length hold) at (take held hold) (drop at piece) .next) (searchFrom inUse (length hold) at (take held hold) (drop at piece) .held) (searchFrom inUse (length hold) at (take held hold) (drop at piece) .end)
   unfolding by-end
-  by-fold at hold held before = search-is-stream crate (length hold) before (drop at piece) at (take held hold)
+  by-fold at hold held before = search-is-stream inUse (length hold) before (drop at piece) at (take held hold)
 
   -- from a place on, searches make of the stream what the bytes make of it
   pub calls-are-bytes
@@ -67,11 +67,11 @@ module _ (piece : List ℕ) where
       at ≤ length piece →
       isStream hold held ≡ true →
       Through piece at hold held pdus end →
-      Same (onPiece crate (length hold) (record { taken = at; pdus = before; state = State.holding (take held hold) }) (drop at piece)) (before ++ pdus) (stateOf end)
+      Same (onPiece inUse (length hold) (record { taken = at; pdus = before; state = State.holding (take held hold) }) (drop at piece)) (before ++ pdus) (stateOf end)
   unfolding by-end onPiece
   calls-are-bytes at hold held pdus end before inside i (Through.more r hold′ call a) =
       let said = call .promise ∙ search-is hold piece held at i in
-      let S = searchFrom crate (length hold) at (take held hold) (drop at piece) in
+      let S = searchFrom inUse (length hold) at (take held hold) (drop at piece) in
       let over : S .end ≡ End.more = more-told held at (S .end) (sym (ap (λ (x : StreamAnswer). saidBy x hold′ piece) a) ∙ ap (λ (o : Outcome). o .says) said) in
       let fold = by-fold at hold held before ∙ ap (by-end at hold before (S .next) (S .held)) over in
       record {
@@ -80,24 +80,24 @@ module _ (piece : List ℕ) where
       }
   calls-are-bytes at hold held pdus end before inside i (Through.found {pdus = later} r hold′ pdu lies call a rest) =
       let said = call .promise ∙ search-is hold piece held at i in
-      let S = searchFrom crate (length hold) at (take held hold) (drop at piece) in
+      let S = searchFrom inUse (length hold) at (take held hold) (drop at piece) in
       let bytes : List ℕ = bytesOf lies hold′ piece in
       let over : S .end ≡ End.found pdu bytes = pdu-told held at pdu lies bytes (S .end) (sym (ap (λ (x : StreamAnswer). saidBy x hold′ piece) a) ∙ ap (λ (o : Outcome). o .says) said) in
       let place : r .next ≡ S .next = ap (λ (o : Outcome). o .next) said in
-      let takes = search-takes crate (length hold) (drop at piece) at (take held hold) in
+      let takes = search-takes inUse (length hold) (drop at piece) at (take held hold) in
       let now : List Found = before ++ record { pdu = pdu; bytes = bytes } ∷ [] in
       let none : take (r .stream .held) hold′ ≡ [] =
-      ap (λ (o : Outcome). o .held) said ∙ search-drops crate (length hold) (drop at piece) at (take held hold) (λ m. let z : _≡_ {A = ℕ} 0 1 = cc in omega arith) in
+      ap (λ (o : Outcome). o .held) said ∙ search-drops inUse (length hold) (drop at piece) at (take held hold) (λ m. let z : _≡_ {A = ℕ} 0 1 = cc in omega arith) in
       let behind : drop (S .next - at) (drop at piece) ≡ drop (r .next) piece =
       let there : at + (S .next - at) ≡ r .next = omega arith in drop-drop (S .next - at) at piece ∙ ap (λ (n : ℕ). drop n piece) there in
-      let fold : onPiece crate (length hold) (record { taken = at; pdus = before; state = State.holding (take held hold) }) (drop at piece)
-      ≡ onPiece crate (length hold′) (record { taken = r .next; pdus = now; state = State.holding (take (r .stream .held) hold′) }) (drop (r .next) piece) =
+      let fold : onPiece inUse (length hold) (record { taken = at; pdus = before; state = State.holding (take held hold) }) (drop at piece)
+      ≡ onPiece inUse (length hold′) (record { taken = r .next; pdus = now; state = State.holding (take (r .stream .held) hold′) }) (drop (r .next) piece) =
       by-fold at hold held before
       ∙ ap (by-end at hold before (S .next) (S .held)) over
-      ∙ ap (λ (n : ℕ). onPiece crate (length hold) (record { taken = n; pdus = now; state = State.holding [] }) (drop (S .next - at) (drop at piece))) (sym place)
-      ∙ ap (onPiece crate (length hold) (record { taken = r .next; pdus = now; state = State.holding [] })) behind
-      ∙ ap (λ (x : List ℕ). onPiece crate (length hold) (record { taken = r .next; pdus = now; state = State.holding x }) (drop (r .next) piece)) (sym none)
-      ∙ ap (λ (h : ℕ). onPiece crate h (record { taken = r .next; pdus = now; state = State.holding (take (r .stream .held) hold′) }) (drop (r .next) piece)) (sym (call .size)) in
+      ∙ ap (λ (n : ℕ). onPiece inUse (length hold) (record { taken = n; pdus = now; state = State.holding [] }) (drop (S .next - at) (drop at piece))) (sym place)
+      ∙ ap (onPiece inUse (length hold) (record { taken = r .next; pdus = now; state = State.holding [] })) behind
+      ∙ ap (λ (x : List ℕ). onPiece inUse (length hold) (record { taken = r .next; pdus = now; state = State.holding x }) (drop (r .next) piece)) (sym none)
+      ∙ ap (λ (h : ℕ). onPiece inUse h (record { taken = r .next; pdus = now; state = State.holding (take (r .stream .held) hold′) }) (drop (r .next) piece)) (sym (call .size)) in
       let more = calls-are-bytes (r .next) hold′ (r .stream .held) later end now (omega (arith, length-drop at piece)) (search-keeps-stream hold hold′ piece held at r i (call .size) (call .promise)) rest in
       record {
         pdus-are = ap (λ (l : Listened). l .pdus) fold ∙ more .pdus-are ∙ append-assoc before (record { pdu = pdu; bytes = bytes } ∷ []) later;
@@ -105,10 +105,10 @@ module _ (piece : List ℕ) where
       }
   calls-are-bytes at hold held pdus end before inside i (Through.stop r hold′ error number values call a e) =
       let said = call .promise ∙ search-is hold piece held at i in
-      let S = searchFrom crate (length hold) at (take held hold) (drop at piece) in
+      let S = searchFrom inUse (length hold) at (take held hold) (drop at piece) in
       let over : S .end ≡ End.stop number values =
       stop-told held at number values (S .end) (sym (ap stopsBy e) ∙ sym (ap (λ (x : StreamAnswer). saidBy x hold′ piece) a) ∙ ap (λ (o : Outcome). o .says) said) in
-      let fold = by-fold at hold held before ∙ ap (by-end at hold before (S .next) (S .held)) over ∙ stopped-stays crate (length hold) (drop (S .next - at) (drop at piece)) (S .next) before number values in
+      let fold = by-fold at hold held before ∙ ap (by-end at hold before (S .next) (S .held)) over ∙ stopped-stays inUse (length hold) (drop (S .next - at) (drop at piece)) (S .next) before number values in
       record { pdus-are = ap (λ (l : Listened). l .pdus) fold ∙ sym (append-nil before); state-is = ap (λ (l : Listened). l .state) fold }
 
 -- ---- Piece after piece
@@ -156,23 +156,23 @@ pub pieces-are-pieces
     isStream hold held ≡ true →
     l .state ≡ State.holding (take held hold) →
     Pieces hold held pieces pdus end →
-    Same (onPieces crate (length hold) l pieces) (l .pdus ++ pdus) (stateOf end)
+    Same (onPieces inUse (length hold) l pieces) (l .pdus ++ pdus) (stateOf end)
 unfolding onPieces
 pieces-are-pieces hold held pieces pdus end l i s Pieces.none = record { pdus-are = sym (append-nil (l .pdus)); state-is = s }
 pieces-are-pieces hold held pieces pdus end l i s (Pieces.next {hold′ = hold′} {piece = piece} {held′ = held′} {pieces = rest} {pdus = here} {later = later} t ps) =
     let one = calls-are-bytes piece 0 hold held here (Between.goesOn hold′ held′) (l .pdus) (omega arith) i t in
-    let alike = piece-alike crate (length hold) piece l (record { taken = 0; pdus = l .pdus; state = State.holding (take held hold) }) refl s in
+    let alike = piece-alike inUse (length hold) piece l (record { taken = 0; pdus = l .pdus; state = State.holding (take held hold) }) refl s in
     let kept = through-keeps piece 0 hold held here (Between.goesOn hold′ held′) hold′ held′ refl i t in
-    let more = pieces-are-pieces hold′ held′ rest later end (onPiece crate (length hold) l piece) (kept .0) (alike .1 ∙ one .state-is) ps in
-    let size = ap (λ (h : ℕ). onPieces crate h (onPiece crate (length hold) l piece) rest) (kept .1) in
+    let more = pieces-are-pieces hold′ held′ rest later end (onPiece inUse (length hold) l piece) (kept .0) (alike .1 ∙ one .state-is) ps in
+    let size = ap (λ (h : ℕ). onPieces inUse h (onPiece inUse (length hold) l piece) rest) (kept .1) in
     record {
       pdus-are = ap (λ (x : Listened). x .pdus) (sym size) ∙ more .pdus-are ∙ ap (λ (x : List Found). x ++ later) (alike .0 ∙ one .pdus-are) ∙ append-assoc (l .pdus) here later;
       state-is = ap (λ (x : Listened). x .state) (sym size) ∙ more .state-is;
     }
 pieces-are-pieces hold held pieces pdus end l i s (Pieces.over {piece = piece} {pieces = rest} {number = number} {values = values} t) =
     let one = calls-are-bytes piece 0 hold held pdus (Between.ended number values) (l .pdus) (omega arith) i t in
-    let alike = piece-alike crate (length hold) piece l (record { taken = 0; pdus = l .pdus; state = State.holding (take held hold) }) refl s in
-    let over = stopped-through crate (length hold) rest (onPiece crate (length hold) l piece) number values (alike .1 ∙ one .state-is) in
+    let alike = piece-alike inUse (length hold) piece l (record { taken = 0; pdus = l .pdus; state = State.holding (take held hold) }) refl s in
+    let over = stopped-through inUse (length hold) rest (onPiece inUse (length hold) l piece) number values (alike .1 ∙ one .state-is) in
     record { pdus-are = over .0 ∙ alike .0 ∙ one .pdus-are; state-is = over .1 }
 
 -- two callers that hand in the same bytes in other pieces find the same PDUs, in the same order, and hold the same bytes or stop alike
@@ -190,5 +190,5 @@ caller-cut-anywhere hold hold′ held held′ pieces pieces′ pdus pdus′ end 
     let l : Listened = record { taken = 0; pdus = []; state = State.holding (take held hold) } in
     let one = pieces-are-pieces hold held pieces pdus end l i refl run in
     let two = pieces-are-pieces hold′ held′ pieces′ pdus′ end′ l i′ (ap State.holding start) run′ in
-    let same = cut-anywhere crate (length hold) l pieces pieces′ bytes ∙ ap (λ (h : ℕ). onPieces crate h l pieces′) size in
+    let same = cut-anywhere inUse (length hold) l pieces pieces′ bytes ∙ ap (λ (h : ℕ). onPieces inUse h l pieces′) size in
     (sym (one .pdus-are) ∙ ap (λ (x : Listened). x .pdus) same ∙ two .pdus-are, sym (one .state-is) ∙ ap (λ (x : Listened). x .state) same ∙ two .state-is)

@@ -5,7 +5,7 @@ use mathlib.Core.Path.{_≡_, sym, ap, _∙_, subst}
 use native.Mathlib.Omega.{arith}
 use lib.ListN.{length, take, drop, length-drop}
 use lib.Seq.{length-take-le, drop-drop}
-use Rattle.rtr_codec.specs.Reading.{crate}
+use Rattle.rtr_codec.specs.Reading.{inUse}
 use Rattle.rtr_codec.specs.Read.{read, headerLength, needed}
 use Rattle.rtr_codec.proofs.Laws.{needed-short, needed-large, header-stays}
 use Rattle.rtr_stream.specs.Stream.{Heard, heardOf, judge}
@@ -52,41 +52,41 @@ module _ (hold : List ℕ) (held n : ℕ) (stream : IsStream hold held) (name : 
   rest-waits u h = waiting-grows (stream .waiting) u (omega (arith, held-long, name))
 
   -- with a header held, the wanted bytes are a whole PDU's
-  pub whole-heard : (s : List ℕ) (u : List ℕ) → 8 ≤ held → s ≡ take held hold ++ u → length s ≡ n → judge crate (length hold) s ≡ heardOf (read crate s)
+  pub whole-heard : (s : List ℕ) (u : List ℕ) → 8 ≤ held → s ≡ take held hold ++ u → length s ≡ n → judge inUse (length hold) s ≡ heardOf (read inUse s)
   whole-heard s u h e long = go (stream .waiting)
     where
-      go : Waiting (length hold) (take held hold) → judge crate (length hold) s ≡ heardOf (read crate s)
+      go : Waiting (length hold) (take held hold) → judge inUse (length hold) s ≡ heardOf (read inUse s)
       go (short l) = absurd (omega (arith, held-long))
       go (cut l i c) =
           let same : headerLength s ≡ headerLength (take held hold) = ap headerLength e ∙ header-stays (take held hold) u l in
-          judge-whole crate (length hold) s (omega (arith, wants-more)) (subst (InRange (length hold)) (sym same) i)
+          judge-whole inUse (length hold) s (omega (arith, wants-more)) (subst (InRange (length hold)) (sym same) i)
           (omega (arith, same, name, needed-large (take held hold) l))
 
   -- the wanted bytes are there: what they come to decides
   module _ (hold′ piece : List ℕ) (at : ℕ) (some : 0 < held) (same : length hold′ ≡ length hold) (enough : n - held ≤ length (drop at piece)) (now : take n hold′ ≡ take held hold ++ take (n - held) (drop at piece)) where
     pub search-judged
         : searchHere hold held piece at
-        ≡ over (at + (n - held)) (take n hold′) (judge crate (length hold) (take n hold′)) (searchHere hold′ n piece (at + (n - held)))
+        ≡ over (at + (n - held)) (take n hold′) (judge inUse (length hold) (take n hold′)) (searchHere hold′ n piece (at + (n - held)))
     search-judged =
         let lacking : 0 < n - held = omega (arith, wants-more) in
         let less : length (take (n - held - 1) (drop at piece)) ≡ n - held - 1 = length-take-le (n - held - 1) (drop at piece) (omega arith) in
-        let run = arrives-at crate (length hold) (n - held) (drop at piece) at (take held hold) lacking enough (rest-waits (take (n - held - 1) (drop at piece)) (omega arith)) in
+        let run = arrives-at inUse (length hold) (n - held) (drop at piece) at (take held hold) lacking enough (rest-waits (take (n - held - 1) (drop at piece)) (omega arith)) in
         run
         ∙ ap
-        (λ (x : List ℕ). over (at + (n - held)) x (judge crate (length hold) x) (searchFrom crate (length hold) (at + (n - held)) x (drop (n - held) (drop at piece))))
+        (λ (x : List ℕ). over (at + (n - held)) x (judge inUse (length hold) x) (searchFrom inUse (length hold) (at + (n - held)) x (drop (n - held) (drop at piece))))
         (sym now)
         ∙ ap
-        (λ (x : List ℕ). over (at + (n - held)) (take n hold′) (judge crate (length hold) (take n hold′)) (searchFrom crate (length hold) (at + (n - held)) (take n hold′) x))
+        (λ (x : List ℕ). over (at + (n - held)) (take n hold′) (judge inUse (length hold) (take n hold′)) (searchFrom inUse (length hold) (at + (n - held)) (take n hold′) x))
         (drop-drop (n - held) at piece)
         ∙ ap
-        (λ (h : ℕ). over (at + (n - held)) (take n hold′) (judge crate (length hold) (take n hold′)) (searchFrom crate h (at + (n - held)) (take n hold′) (drop (at + (n - held)) piece)))
+        (λ (h : ℕ). over (at + (n - held)) (take n hold′) (judge inUse (length hold) (take n hold′)) (searchFrom inUse h (at + (n - held)) (take n hold′) (drop (at + (n - held)) piece)))
         (sym same)
 
     pub judged-turn
         : (t : Then) (held′ next : ℕ) (h : Heard) →
         JudgedTo hold′ n t held′ next h →
         next ≡ at + (n - held) →
-        judge crate (length hold) (take n hold′) ≡ h →
+        judge inUse (length hold) (take n hold′) ≡ h →
         TurnedTo hold held piece at held′ next hold′ t
     judged-turn (Then.Done answer) held′ next h j e heard =
         let go = searchHere hold′ n piece (at + (n - held)) in
@@ -94,11 +94,11 @@ module _ (hold : List ℕ) (held n : ℕ) (stream : IsStream hold held) (name : 
         ∙ sym
         (ap (outcomeOf held at)
         (search-judged
-        ∙ ap (λ (k : ℕ). over k (take n hold′) (judge crate (length hold) (take n hold′)) go) (sym e)
+        ∙ ap (λ (k : ℕ). over k (take n hold′) (judge inUse (length hold) (take n hold′)) go) (sym e)
         ∙ ap (λ (x : Heard). over next (take n hold′) x go) heard))
     judged-turn Then.Again held′ next h j e heard =
-        let waiting : judge crate (length hold) (take n hold′) ≡ waits = heard ∙ j .0 in
-        let w : Waiting (length hold) (take n hold′) = waits-waiting crate (length hold) (take n hold′) waiting in
+        let waiting : judge inUse (length hold) (take n hold′) ≡ waits = heard ∙ j .0 in
+        let w : Waiting (length hold) (take n hold′) = waits-waiting inUse (length hold) (take n hold′) waiting in
         let stream′ : IsStream hold′ n =
         record { size = omega (arith, stream .size); within = omega (arith, wanted-fits); waiting = subst (λ (h : ℕ). Waiting h (take n hold′)) (sym same) w } in
         let left : length (drop at piece) ≡ length piece - at = length-drop at piece in (

@@ -11,7 +11,7 @@ use lib.Dec.{leb, ltb}
 use lib.ListN.{length, getD, take, length-append}
 use lib.Seq.{length-take-le}
 use Rattle.rtr_models.specs.declared.RtrPdu.{RtrPdu}
-use Rattle.rtr_codec.specs.Reading.{Reading, crate}
+use Rattle.rtr_codec.specs.Reading.{Reading, inUse}
 use Rattle.rtr_codec.specs.Read.{Verdict, headerLength, read, needed}
 use Rattle.rtr_codec.proofs.Laws.{needed-short, needed-large, header-stays, refusal-numbers, read-consumes}
 use Rattle.rtr_stream.specs.Stream.{Heard, longest, passing, heardOf, lengthIn, judge}
@@ -247,17 +247,17 @@ pub record IsStream (hold : List ℕ) (held : ℕ) : Type 0 where
 pub is-stream : {hold : List ℕ} {held : ℕ} → IsStream hold held → isStream hold held ≡ true
 unfolding isStream
 is-stream {hold} {held} i =
-    simp (le-leb 8 (length hold) (i .size), le-leb held (length hold) (i .within), waiting-waits crate (i .waiting))
+    simp (le-leb 8 (length hold) (i .size), le-leb held (length hold) (i .within), waiting-waits inUse (i .waiting))
 
 pub no-stream : {hold : List ℕ} {held : ℕ} → (IsStream hold held → ⊥) → isStream hold held ≡ false
 unfolding isStream
 no-stream {hold} {held} never = go (leb 8 (length hold)) (leb held (length hold)) refl refl
   where
-    go : (a b : Bool) → leb 8 (length hold) ≡ a → leb held (length hold) ≡ b → a && (b && isWaits (judge crate (length hold) (take held hold))) ≡ false
+    go : (a b : Bool) → leb 8 (length hold) ≡ a → leb held (length hold) ≡ b → a && (b && isWaits (judge inUse (length hold) (take held hold))) ≡ false
     go false b p q = refl
     go true false p q = refl
     go true true p q =
-        not-waiting crate (length hold) (take held hold)
+        not-waiting inUse (length hold) (take held hold)
         (λ w. never (record { size = leb-true 8 (length hold) p; within = leb-true held (length hold) q; waiting = w }))
 
 pub stream-is : (hold : List ℕ) (held : ℕ) → isStream hold held ≡ true → IsStream hold held
@@ -267,12 +267,12 @@ stream-is hold held = go (leb 8 (length hold)) (leb held (length hold)) refl ref
     go : (a b : Bool) →
         leb 8 (length hold) ≡ a →
         leb held (length hold) ≡ b →
-        a && (b && isWaits (judge crate (length hold) (take held hold))) ≡ true →
+        a && (b && isWaits (judge inUse (length hold) (take held hold))) ≡ true →
         IsStream hold held
     go false b p q t = absurd (let z : _≡_ {A = ℕ} 0 1 = cc in omega arith)
     go true false p q t = absurd (let z : _≡_ {A = ℕ} 0 1 = cc in omega arith)
     go true true p q t =
-        record { size = leb-true 8 (length hold) p; within = leb-true held (length hold) q; waiting = waiting-of crate (length hold) (take held hold) t }
+        record { size = leb-true 8 (length hold) p; within = leb-true held (length hold) q; waiting = waiting-of inUse (length hold) (take held hold) t }
 
 -- a stream that holds a header holds less than it names, in range
 pub header-of-stream : {hold : List ℕ} {held : ℕ} → 8 ≤ held → IsStream hold held → InRange (length hold) (needed (take held hold)) × (held < needed (take held hold))

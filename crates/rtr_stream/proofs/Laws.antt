@@ -10,7 +10,7 @@ use native.Mathlib.Omega.{arith}
 use lib.Dec.{leb}
 use lib.ListN.{length, take, drop, length-append}
 use Rattle.rtr_models.specs.declared.RtrPdu.{RtrPdu}
-use Rattle.rtr_codec.specs.Reading.{Reading, crate}
+use Rattle.rtr_codec.specs.Reading.{Reading, inUse}
 use Rattle.rtr_codec.specs.Read.{Verdict, headerLength, read, needed}
 use Rattle.rtr_codec.proofs.Laws.{header-stays, read-consumes}
 use Rattle.rtr_stream.specs.Stream.{Heard, longest, heardOf, judge, Found, State, Listened, after, onByteIn, onByte, onPiece, onPieces}
@@ -278,23 +278,23 @@ few-are-held R H p at s w h = runs-out R H p at s (waiting-grows (waits-waiting 
 -- ---- The hold
 
 -- a hold of 8 bytes or more whose held bytes wait is a stream, and no other
-pub stream-exactly : (hold : List ℕ) (held : ℕ) → (8 ≤ length hold) → (held ≤ length hold) → judge crate (length hold) (take held hold) ≡ waits → isStream hold held ≡ true
-stream-exactly hold held h l w = is-stream (record { size = h; within = l; waiting = waits-waiting crate (length hold) (take held hold) w })
+pub stream-exactly : (hold : List ℕ) (held : ℕ) → (8 ≤ length hold) → (held ≤ length hold) → judge inUse (length hold) (take held hold) ≡ waits → isStream hold held ≡ true
+stream-exactly hold held h l w = is-stream (record { size = h; within = l; waiting = waits-waiting inUse (length hold) (take held hold) w })
 
-pub stream-has : (hold : List ℕ) (held : ℕ) → isStream hold held ≡ true → (8 ≤ length hold) × (held ≤ length hold) × (judge crate (length hold) (take held hold) ≡ waits)
+pub stream-has : (hold : List ℕ) (held : ℕ) → isStream hold held ≡ true → (8 ≤ length hold) × (held ≤ length hold) × (judge inUse (length hold) (take held hold) ≡ waits)
 stream-has hold held e =
-    let i : IsStream hold held = stream-is hold held e in (i .size, i .within, waiting-waits crate (i .waiting))
+    let i : IsStream hold held = stream-is hold held e in (i .size, i .within, waiting-waits inUse (i .waiting))
 
 -- holds of one length with the same bytes held are alike: nothing is read past the held count
 pub stream-alike : (hold hold′ : List ℕ) (held : ℕ) → length hold ≡ length hold′ → take held hold ≡ take held hold′ → isStream hold held ≡ isStream hold′ held
 unfolding isStream
-stream-alike hold hold′ held size same = λ i. leb 8 (size i) && (leb held (size i) && isWaits (judge crate (size i) (same i)))
+stream-alike hold hold′ held size same = λ i. leb 8 (size i) && (leb held (size i) && isWaits (judge inUse (size i) (same i)))
 
 -- what a search says of a stream
 pub search-is
     : (hold piece : List ℕ) (held at : ℕ) →
     isStream hold held ≡ true →
-    search hold held piece at ≡ outcomeOf held at (searchFrom crate (length hold) at (take held hold) (drop at piece))
+    search hold held piece at ≡ outcomeOf held at (searchFrom inUse (length hold) at (take held hold) (drop at piece))
 unfolding search
 search-is hold piece held at e = simp e
 
@@ -302,10 +302,10 @@ search-is hold piece held at e = simp e
 pub search-keeps-stream : (hold hold′ piece : List ℕ) (held at : ℕ) (r : Searched) → isStream hold held ≡ true → length hold′ ≡ length hold → searchSaid r hold′ piece ≡ search hold held piece at → isStream hold′ (r .stream .held) ≡ true
 search-keeps-stream hold hold′ piece held at r i same e =
     let h = stream-has hold held i in
-    let found = searchFrom crate (length hold) at (take held hold) (drop at piece) in
+    let found = searchFrom inUse (length hold) at (take held hold) (drop at piece) in
     let said : searchSaid r hold′ piece ≡ outcomeOf held at found = e ∙ search-is hold piece held at i in
     let bytes : take (r .stream .held) hold′ ≡ found .held = ap (λ (o : Outcome). o .held) said in
     let count : r .stream .held ≡ length (found .held) = ap (λ (o : Outcome). o .count) said in
-    let waits-now : judge crate (length hold) (found .held) ≡ waits = search-waits crate (length hold) (drop at piece) at (take held hold) (h .2) in
-    stream-exactly hold′ (r .stream .held) (omega (arith, h .0)) (omega (arith, waits-fits crate (length hold) (found .held) (h .0) waits-now))
-    (ap (judge crate (length hold′)) bytes ∙ ap (λ (n : ℕ). judge crate n (found .held)) same ∙ waits-now)
+    let waits-now : judge inUse (length hold) (found .held) ≡ waits = search-waits inUse (length hold) (drop at piece) at (take held hold) (h .2) in
+    stream-exactly hold′ (r .stream .held) (omega (arith, h .0)) (omega (arith, waits-fits inUse (length hold) (found .held) (h .0) waits-now))
+    (ap (judge inUse (length hold′)) bytes ∙ ap (λ (n : ℕ). judge inUse n (found .held)) same ∙ waits-now)

@@ -8,7 +8,7 @@ use borrow.Author.Tests.{ne-eqb}
 use lib.ListN.{length, getD, take, drop, length-append, length-drop, take-append-drop, drop-of-length-le}
 use lib.Seq.{take-all, length-take-le, getD-take, getD-drop}
 use Rattle.rtr_models.specs.declared.RtrPdu.{RtrPdu}
-use Rattle.rtr_codec.specs.Reading.{crate}
+use Rattle.rtr_codec.specs.Reading.{inUse}
 use Rattle.rtr_codec.specs.Read.{read, headerLength, needed}
 use Rattle.rtr_codec.proofs.Laws.{needed-large, header-stays}
 use Rattle.rtr_codec.specs.Answers.{verdict}
@@ -76,10 +76,10 @@ found-in-hold hold piece n before at next go pdu heard h p e =
     rw e (rw (lies-in-hold before at (length (take n hold)) p) (rw long refl))
 
 -- what a read that the code has taken apart is heard as
-pub heard-read : (s : List ℕ) (answer : ReadAnswer) (pdu : RtrPdu) (n : ℕ) → verdict answer ≡ read crate s → answer ≡ ReadAnswer.Read pdu n → heardOf (read crate s) ≡ Heard.whole pdu
+pub heard-read : (s : List ℕ) (answer : ReadAnswer) (pdu : RtrPdu) (n : ℕ) → verdict answer ≡ read inUse s → answer ≡ ReadAnswer.Read pdu n → heardOf (read inUse s) ≡ Heard.whole pdu
 heard-read s answer pdu n p q = ap heardOf (sym p) ∙ ap (λ (a : ReadAnswer). heardOf (verdict a)) q
 
-pub heard-refused : (s : List ℕ) (answer : ReadAnswer) (error : RtrError) → verdict answer ≡ read crate s → answer ≡ ReadAnswer.Refused error → heardOf (read crate s) ≡ heardOf (streamRefusal (StreamError.Read error))
+pub heard-refused : (s : List ℕ) (answer : ReadAnswer) (error : RtrError) → verdict answer ≡ read inUse s → answer ≡ ReadAnswer.Refused error → heardOf (read inUse s) ≡ heardOf (streamRefusal (StreamError.Read error))
 heard-refused s answer error p q = ap heardOf (sym p) ∙ ap (λ (a : ReadAnswer). heardOf (verdict a)) q
 
 -- From here on: what the search from a place comes to, by what is left of the piece.
@@ -92,7 +92,7 @@ module _ (hold hold′ piece : List ℕ) (held at : ℕ) (inside : at ≤ length
       ≡ outcomeOf held at (searchHere hold held piece at)
   rest-held w e =
       let run : searchHere hold held piece at ≡ record { end = End.more; next = at + length (drop at piece); held = take held hold ++ drop at piece } =
-      runs-out crate (length hold) (drop at piece) at (take held hold) w in
+      runs-out inUse (length hold) (drop at piece) at (take held hold) w in
       let left : length (drop at piece) ≡ length piece - at = length-drop at piece in
       let place : length piece ≡ at + length (drop at piece) = omega arith in
       let count : held + (length piece - at) ≡ length (take held hold ++ drop at piece) =
@@ -139,12 +139,12 @@ module _ (hold piece : List ℕ) (at : ℕ) (header : 8 ≤ length (drop at piec
   piece-refused hold′ n type error p q f =
       let front : List ℕ = take 8 (drop at piece) in
       let long : length front ≡ 8 = length-take-le 8 (drop at piece) header in
-      let heard : judge crate (length hold) front ≡ heardOf (streamRefusal error) =
-      judge-refused crate (length hold) front n type _ (omega arith) (p ∙ sym (front-header 8 (omega arith) header)) (q ∙ sym front-type) f in
+      let heard : judge inUse (length hold) front ≡ heardOf (streamRefusal error) =
+      judge-refused inUse (length hold) front n type _ (omega arith) (p ∙ sym (front-header 8 (omega arith) header)) (q ∙ sym front-type) f in
       refused-alike hold′ piece front 0 at (at + 8) _ error _ heard
       ∙ sym
       (ap (outcomeOf 0 at)
-      (arrives-at crate (length hold) 8 (drop at piece) at [] (omega arith) header
+      (arrives-at inUse (length hold) 8 (drop at piece) at [] (omega arith) header
       (short (omega (arith, length-take-le 7 (drop at piece) (omega arith))))))
 
   -- all that the header names lies in the piece
@@ -154,17 +154,17 @@ module _ (hold piece : List ℕ) (at : ℕ) (header : 8 ≤ length (drop at piec
       InRange (length hold) n →
       n ≤ length (drop at piece) →
       searchHere hold 0 piece at
-      ≡ over (at + n) (take n (drop at piece)) (heardOf (read crate (take n (drop at piece))))
-      (searchFrom crate (length hold) (at + n) (take n (drop at piece)) (drop n (drop at piece)))
+      ≡ over (at + n) (take n (drop at piece)) (heardOf (read inUse (take n (drop at piece))))
+      (searchFrom inUse (length hold) (at + n) (take n (drop at piece)) (drop n (drop at piece)))
   piece-whole n p i l =
       let front : List ℕ = take n (drop at piece) in
       let long : length front ≡ n = length-take-le n (drop at piece) l in
       let name : headerLength front ≡ n = front-header n (i .least) l ∙ sym p in
-      let heard : judge crate (length hold) front ≡ heardOf (read crate front) =
-      judge-whole crate (length hold) front (omega arith) (subst (InRange (length hold)) (sym name) i) (omega arith) in
-      arrives-at crate (length hold) n (drop at piece) at [] (omega arith) l
+      let heard : judge inUse (length hold) front ≡ heardOf (read inUse front) =
+      judge-whole inUse (length hold) front (omega arith) (subst (InRange (length hold)) (sym name) i) (omega arith) in
+      arrives-at inUse (length hold) n (drop at piece) at [] (omega arith) l
       (waiting-of-header (drop at piece) (n - 1) header (subst (InRange (length hold)) (p ∙ needed-large (drop at piece) header) i) (omega arith) (omega (arith, needed-large (drop at piece) header)))
-      ∙ ap (λ (h : Heard). over (at + n) front h (searchFrom crate (length hold) (at + n) front (drop n (drop at piece)))) heard
+      ∙ ap (λ (h : Heard). over (at + n) front h (searchFrom inUse (length hold) (at + n) front (drop n (drop at piece)))) heard
 
   -- or not
   pub piece-cut : (n : ℕ) → n ≡ needed (drop at piece) → InRange (length hold) n → length (drop at piece) < n → Waiting (length hold) (drop at piece)
@@ -199,14 +199,14 @@ module _ (hold : List ℕ) (n : ℕ) (size : 8 ≤ length hold) (name : n ≡ ne
   header-name : n ≡ headerLength (take 8 hold)
   header-name = name ∙ needed-large (take 8 hold) (omega (arith, header-long))
 
-  pub header-refused : (type : ℕ) (h : Heard) → type ≡ getD hold 1 0 → ((next : Heard) → lengthIn (length hold) n type next ≡ h) → judge crate (length hold) (take 8 hold) ≡ h
+  pub header-refused : (type : ℕ) (h : Heard) → type ≡ getD hold 1 0 → ((next : Heard) → lengthIn (length hold) n type next ≡ h) → judge inUse (length hold) (take 8 hold) ≡ h
   header-refused type h q f =
       let first : 1 < 8 = omega arith in
-      judge-refused crate (length hold) (take 8 hold) n type h (omega (arith, header-long)) header-name (q ∙ rw getD-take) f
+      judge-refused inUse (length hold) (take 8 hold) n type h (omega (arith, header-long)) header-name (q ∙ rw getD-take) f
 
-  pub header-whole : InRange (length hold) n → n ≡ 8 → judge crate (length hold) (take 8 hold) ≡ heardOf (read crate (take 8 hold))
+  pub header-whole : InRange (length hold) n → n ≡ 8 → judge inUse (length hold) (take 8 hold) ≡ heardOf (read inUse (take 8 hold))
   header-whole i e =
-      judge-whole crate (length hold) (take 8 hold) (omega (arith, header-long)) (subst (InRange (length hold)) header-name i)
+      judge-whole inUse (length hold) (take 8 hold) (omega (arith, header-long)) (subst (InRange (length hold)) header-name i)
       (omega (arith, header-long, header-name))
 
   pub header-waits : InRange (length hold) n → (n ≡ 8 → ⊥) → Waiting (length hold) (take 8 hold)

@@ -5,7 +5,7 @@ use mathlib.Core.List.{List, [], _∷_, _++_}
 use lib.ListN.{length, take, drop}
 use lib.Dec.{leb, eqb}
 use Rattle.rtr_models.specs.declared.RtrPdu.{RtrPdu}
-use Rattle.rtr_codec.specs.Reading.{Reading, crate}
+use Rattle.rtr_codec.specs.Reading.{Reading, inUse}
 use Rattle.rtr_codec.specs.Read.{Verdict}
 use Rattle.rtr_codec.specs.Answers.{refusal}
 use Rattle.rtr_stream.specs.Stream.{Heard, judge}
@@ -47,7 +47,7 @@ isWaits (refused number values) = false
 
 -- a hold of 8 bytes or more, no more held than it has, and what is held waits
 unfoldable pub isStream : List ℕ → ℕ → Bool
-isStream hold held = leb 8 (length hold) && (leb held (length hold) && isWaits (judge crate (length hold) (take held hold)))
+isStream hold held = leb 8 (length hold) && (leb held (length hold) && isWaits (judge inUse (length hold) (take held hold)))
 
 -- where a PDU's bytes lie: in the piece where nothing was held, else in the hold
 abbrev pub lying : ℕ → ℕ → ℕ → Lies
@@ -79,7 +79,7 @@ outcomeOf held at r = record { says = saysOf held at (r .end); next = r .next; c
 unfoldable pub search : List ℕ → ℕ → List ℕ → ℕ → Outcome
 search hold held piece at =
     cond (isStream hold held)
-    (outcomeOf held at (searchFrom crate (length hold) at (take held hold) (drop at piece)))
+    (outcomeOf held at (searchFrom inUse (length hold) at (take held hold) (drop at piece)))
     (record { says = refusedCall 22 hold; next = at; count = held; held = take held hold })
 
 -- document 01's number and values of a stream's refusal

@@ -4,7 +4,7 @@ use mathlib.Core.Bool.{true}
 use mathlib.Core.List.{List}
 use mathlib.Core.Path.{_≡_}
 use lib.ListN.{length, take, drop}
-use Rattle.rtr_codec.specs.Reading.{crate}
+use Rattle.rtr_codec.specs.Reading.{inUse}
 use Rattle.rtr_codec.specs.Read.{read}
 use Rattle.rtr_stream.specs.Stream.{Heard, longest, heardOf, lengthIn, judge}
 use Rattle.rtr_stream.specs.Stream.Heard.{waits}
@@ -20,7 +20,7 @@ LengthTested H n type (LengthTest.Refused error) = (next : Heard) → lengthIn H
 
 -- what a search from here comes to
 abbrev pub searchHere : List ℕ → ℕ → List ℕ → ℕ → Search
-searchHere hold held piece at = searchFrom crate (length hold) at (take held hold) (drop at piece)
+searchHere hold held piece at = searchFrom inUse (length hold) at (take held hold) (drop at piece)
 
 -- one turn: the search is over, as the definition has it, or goes on from further in the piece to the same end
 abbrev pub TurnedTo : List ℕ → ℕ → List ℕ → ℕ → ℕ → ℕ → List ℕ → Then → Type 0
@@ -47,8 +47,8 @@ JudgedTo hold n Then.Again held next heard = (heard ≡ waits) × (held ≡ n)
 
 -- `whole` bytes are read
 abbrev pub ReadHere : List ℕ → ℕ → ℕ → Turn → Type 0
-ReadHere hold n next t = JudgedTo hold n (t .then) (t .held) (t .next) (heardOf (read crate (take n hold))) × (t .next ≡ next)
+ReadHere hold n next t = JudgedTo hold n (t .then) (t .held) (t .next) (heardOf (read inUse (take n hold))) × (t .next ≡ next)
 
 -- 8 bytes are judged
 abbrev pub HeaderHere : List ℕ → ℕ → Turn → Type 0
-HeaderHere hold next t = JudgedTo hold 8 (t .then) (t .held) (t .next) (judge crate (length hold) (take 8 hold)) × (t .next ≡ next)
+HeaderHere hold next t = JudgedTo hold 8 (t .then) (t .held) (t .next) (judge inUse (length hold) (take 8 hold)) × (t .next ≡ next)

@@ -7,7 +7,7 @@ use rtr_models::RtrPdu;
 use rtr_models::RtrPduType;
 ghost use mathlib.Core.Path.{_≡_};
 ghost use Prim.Native.Nat.{_-_, _≤_};
-ghost use Rattle.rtr_codec.specs.Reading.{crate};
+ghost use Rattle.rtr_codec.specs.Reading.{inUse};
 ghost use Rattle.rtr_walk.specs.Walk.{walk, walkFrom, walkInside, walkSaid};
 
 // Where a walk ends.
@@ -26,7 +26,7 @@ pub enum WalkAnswer {
 
 // Walks from the slice's first PDU, with all levels left.
 pub fn walk(input: &[u8]) -> WalkAnswer
-    ensures { λ r. ⌜ walkSaid r ≡ walk crate (now (input .entry)) ⌝ }
+    ensures { λ r. ⌜ walkSaid r ≡ walk inUse (now (input .entry)) ⌝ }
 {
     match parse_rtr_pdu(input) {
         ReadAnswer::Read(pdu, _) => walk_pdu(pdu, input, 16),
@@ -37,7 +37,7 @@ pub fn walk(input: &[u8]) -> WalkAnswer
 // Only a report has bytes inside; the level is what is used up of the 16.
 fn walk_pdu(pdu: RtrPdu, input: &[u8], left: u8) -> WalkAnswer
     requires { ⌜ left ≤ 16 ⌝ }
-    ensures { λ r. ⌜ walkSaid r ≡ walkFrom crate left (16 - left) pdu (now (input .entry)) ⌝ }
+    ensures { λ r. ⌜ walkSaid r ≡ walkFrom inUse left (16 - left) pdu (now (input .entry)) ⌝ }
 {
     match pdu {
         RtrPdu::ErrorReport(report) => walk_report(report.erroneous_pdu_part(input), left),
@@ -48,7 +48,7 @@ fn walk_pdu(pdu: RtrPdu, input: &[u8], left: u8) -> WalkAnswer
 // Reads a report's encapsulated bytes, one level fewer left; that the levels fall ends the recursion.
 fn walk_report(part: &[u8], left: u8) -> WalkAnswer
     requires { ⌜ left ≤ 16 ⌝ }
-    ensures { λ r. ⌜ walkSaid r ≡ walkInside crate left (16 - left) (now (part .entry)) ⌝ }
+    ensures { λ r. ⌜ walkSaid r ≡ walkInside inUse left (16 - left) (now (part .entry)) ⌝ }
 {
     let level = 16 - left;
     if part.len() == 0 {

@@ -2,7 +2,7 @@
 use mathlib.Core.Path.{ap}
 use native.Mathlib.Omega.{arith}
 use denote.Ref.{now}
-use Rattle.rtr_codec.specs.Reading.{crate}
+use Rattle.rtr_codec.specs.Reading.{inUse}
 use Rattle.rtr_codec.specs.Answers.{verdict}
 use Rattle.rtr_codec.proofs.Runs.{ends-within-run, moves-on, stays, past-the-end}
 use borrow.Author.Needs.{needs}
@@ -18,7 +18,7 @@ parse-rtr-pdu-requires c κs = search needs
 returns : tie.Need-returns
 returns c =
     let a = c .before .before .before .before .args in
-    past-the-end crate (now (a .input)) (a .at) _ (c .before .before .if1 .taken) (c .parse-rtr-pdu .ensures)
+    past-the-end inUse (now (a .input)) (a .at) _ (c .before .before .if1 .taken) (c .parse-rtr-pdu .ensures)
 
 sub-parse-rtr-pdu : tie.Need-sub-parse-rtr-pdu
 sub-parse-rtr-pdu c = search needs
@@ -38,7 +38,7 @@ enum-known-answer c = search needs
 add-t17 : tie.Need-add-t17
 add-t17 c =
     let a = c .before .before .before .before .before .before .before .args in
-    omega (arith, ends-within-run crate (now (a .input)) (a .at) _ (c .before .before .before .parse-rtr-pdu2 .ensures) _ _ (ap verdict (c .before .answer .given .1)) (c .before .before .before .before .before .if1 .left))
+    omega (arith, ends-within-run inUse (now (a .input)) (a .at) _ (c .before .before .before .parse-rtr-pdu2 .ensures) _ _ (ap verdict (c .before .answer .given .1)) (c .before .before .before .before .before .if1 .left))
 
 enum-known-answer-2 : tie.Need-enum-known-answer-2
 enum-known-answer-2 c = search needs
@@ -46,12 +46,12 @@ enum-known-answer-2 c = search needs
 returns-2 : tie.Need-returns-2
 returns-2 c =
     let a = c .before .before .before .before .before .before .before .args in
-    moves-on crate (now (a .input)) (a .at) _ (c .before .before .before .parse-rtr-pdu2 .ensures) _ _ (ap verdict (c .before .answer .given .1))
+    moves-on inUse (now (a .input)) (a .at) _ (c .before .before .before .parse-rtr-pdu2 .ensures) _ _ (ap verdict (c .before .answer .given .1))
 
 returns-3 : tie.Need-returns-3
 returns-3 c =
     let a = c .before .before .before .before .before .before .before .args in
-    stays crate (now (a .input)) (a .at) _ (c .before .before .before .parse-rtr-pdu2 .ensures) (c .before .answer2 .given .0 .0) (ap verdict (c .before .answer2 .given .1))
+    stays inUse (now (a .input)) (a .at) _ (c .before .before .before .parse-rtr-pdu2 .ensures) (c .before .answer2 .given .0 .0) (ap verdict (c .before .answer2 .given .1))
 
 pub read-at-spec : {M : Type 1} → statement M
 read-at-spec =

@@ -2,7 +2,7 @@
 use mathlib.Core.Path.{_∙_, ap, sym}
 use denote.Ref.{now}
 use Rattle.rtr_models.specs.declared.RtrPdu.{RtrPdu}
-use Rattle.rtr_codec.specs.Reading.{crate}
+use Rattle.rtr_codec.specs.Reading.{inUse}
 use Rattle.rtr_encode.specs.Encode.{encodedLength, encoding, encodeSays, encode}
 use Rattle.rtr_encode.proofs.Written.{end-any-slice}
 use borrow.Author.Needs.{needs}
@@ -77,7 +77,7 @@ unfolding encode encodeSays encodedLength encoding
 returns c =
     let a = c .before .before .before .before .before .before .before .before .before .args in
     c .before .before .encode-serial-notify .ensures
-    ∙ sym (ap (λ (p : RtrPdu). encode crate p (now (a .input)) (now (a .out))) (c .before .before .before .before .before .pdu .given .1))
+    ∙ sym (ap (λ (p : RtrPdu). encode inUse p (now (a .input)) (now (a .out))) (c .before .before .before .before .before .pdu .given .1))
 
 same-length-2 : tie.Need-same-length-2
 same-length-2 c = search needs
@@ -87,7 +87,7 @@ unfolding encode encodeSays encodedLength encoding
 returns-2 c =
     let a = c .before .before .before .before .before .before .before .before .before .args in
     c .before .before .encode-serial-query .ensures
-    ∙ sym (ap (λ (p : RtrPdu). encode crate p (now (a .input)) (now (a .out))) (c .before .before .before .before .before .pdu2 .given .1))
+    ∙ sym (ap (λ (p : RtrPdu). encode inUse p (now (a .input)) (now (a .out))) (c .before .before .before .before .before .pdu2 .given .1))
 
 same-length-3 : tie.Need-same-length-3
 same-length-3 c = search needs
@@ -97,7 +97,7 @@ unfolding encode encodeSays encodedLength encoding
 returns-3 c =
     let a = c .before .before .before .before .before .before .before .before .before .args in
     c .before .before .encode-reset-query .ensures
-    ∙ sym (ap (λ (p : RtrPdu). encode crate p (now (a .input)) (now (a .out))) (c .before .before .before .before .before .pdu3 .given .1))
+    ∙ sym (ap (λ (p : RtrPdu). encode inUse p (now (a .input)) (now (a .out))) (c .before .before .before .before .before .pdu3 .given .1))
 
 same-length-4 : tie.Need-same-length-4
 same-length-4 c = search needs
@@ -107,7 +107,7 @@ unfolding encode encodeSays encodedLength encoding
 returns-4 c =
     let a = c .before .before .before .before .before .before .before .before .before .args in
     c .before .before .encode-cache-response .ensures
-    ∙ sym (ap (λ (p : RtrPdu). encode crate p (now (a .input)) (now (a .out))) (c .before .before .before .before .before .pdu4 .given .1))
+    ∙ sym (ap (λ (p : RtrPdu). encode inUse p (now (a .input)) (now (a .out))) (c .before .before .before .before .before .pdu4 .given .1))
 
 same-length-5 : tie.Need-same-length-5
 same-length-5 c = search needs
@@ -117,7 +117,7 @@ unfolding encode encodeSays encodedLength encoding
 returns-5 c =
     let a = c .before .before .before .before .before .before .before .before .before .args in
     c .before .before .encode-ipv4-prefix .ensures
-    ∙ sym (ap (λ (p : RtrPdu). encode crate p (now (a .input)) (now (a .out))) (c .before .before .before .before .before .pdu5 .given .1))
+    ∙ sym (ap (λ (p : RtrPdu). encode inUse p (now (a .input)) (now (a .out))) (c .before .before .before .before .before .pdu5 .given .1))
 
 same-length-6 : tie.Need-same-length-6
 same-length-6 c = search needs
@@ -127,7 +127,7 @@ unfolding encode encodeSays encodedLength encoding
 returns-6 c =
     let a = c .before .before .before .before .before .before .before .before .before .args in
     c .before .before .encode-ipv6-prefix .ensures
-    ∙ sym (ap (λ (p : RtrPdu). encode crate p (now (a .input)) (now (a .out))) (c .before .before .before .before .before .pdu6 .given .1))
+    ∙ sym (ap (λ (p : RtrPdu). encode inUse p (now (a .input)) (now (a .out))) (c .before .before .before .before .before .pdu6 .given .1))
 
 same-length-7 : tie.Need-same-length-7
 same-length-7 c = search needs
@@ -136,8 +136,8 @@ returns-7 : tie.Need-returns-7
 returns-7 c =
     let a = c .before .before .before .before .before .before .before .before .before .args in
     c .before .before .encode-end-of-data .ensures
-    ∙ end-any-slice crate _ (now (a .input)) (now (a .out))
-    ∙ sym (ap (λ (p : RtrPdu). encode crate p (now (a .input)) (now (a .out))) (c .before .before .before .before .before .pdu7 .given .1))
+    ∙ end-any-slice inUse _ (now (a .input)) (now (a .out))
+    ∙ sym (ap (λ (p : RtrPdu). encode inUse p (now (a .input)) (now (a .out))) (c .before .before .before .before .before .pdu7 .given .1))
 
 same-length-8 : tie.Need-same-length-8
 same-length-8 c = search needs
@@ -147,7 +147,7 @@ unfolding encode encodeSays encodedLength encoding
 returns-8 c =
     let a = c .before .before .before .before .before .before .before .before .before .args in
     c .before .before .encode-cache-reset .ensures
-    ∙ sym (ap (λ (p : RtrPdu). encode crate p (now (a .input)) (now (a .out))) (c .before .before .before .before .before .pdu8 .given .1))
+    ∙ sym (ap (λ (p : RtrPdu). encode inUse p (now (a .input)) (now (a .out))) (c .before .before .before .before .before .pdu8 .given .1))
 
 same-length-9 : tie.Need-same-length-9
 same-length-9 c = search needs
@@ -156,7 +156,7 @@ returns-9 : tie.Need-returns-9
 returns-9 c =
     let a = c .before .before .before .before .before .before .before .before .before .args in
     c .before .before .encode-router-key .ensures
-    ∙ sym (ap (λ (p : RtrPdu). encode crate p (now (a .input)) (now (a .out))) (c .before .before .before .before .before .pdu9 .given .1))
+    ∙ sym (ap (λ (p : RtrPdu). encode inUse p (now (a .input)) (now (a .out))) (c .before .before .before .before .before .pdu9 .given .1))
 
 same-length-10 : tie.Need-same-length-10
 same-length-10 c = search needs
@@ -165,7 +165,7 @@ returns-10 : tie.Need-returns-10
 returns-10 c =
     let a = c .before .before .before .before .before .before .before .before .before .args in
     c .before .before .encode-error-report .ensures
-    ∙ sym (ap (λ (p : RtrPdu). encode crate p (now (a .input)) (now (a .out))) (c .before .before .before .before .before .pdu10 .given .1))
+    ∙ sym (ap (λ (p : RtrPdu). encode inUse p (now (a .input)) (now (a .out))) (c .before .before .before .before .before .pdu10 .given .1))
 
 pub encode-spec : {M : Type 1} → statement M
 encode-spec =

@@ -4,7 +4,7 @@ use mathlib.Core.Path.{ap, sym, _∙_}
 use denote.Ref.{now}
 use Rattle.rtr_models.specs.declared.RtrProtocolVersion.{RtrProtocolVersion}
 use Rattle.rtr_models.specs.declared.RtrPdu.the-variants.{EndOfData}
-use Rattle.rtr_codec.specs.Reading.{crate}
+use Rattle.rtr_codec.specs.Reading.{inUse}
 use Rattle.rtr_encode.specs.Encode.{withVersion, encode}
 use Rattle.rtr_encode.proofs.Written.{filled}
 use borrow.Author.Needs.{needs}
@@ -39,7 +39,7 @@ returns : tie.Need-returns
 returns c =
     let a = c .before .before .before .before .before .before .before .args in
     c .before .before .encode-end-of-data-v0 .ensures
-    ∙ sym (ap (λ (v : RtrProtocolVersion). encode crate (EndOfData (withVersion v (a .pdu))) [] (now (a .out))) (c .before .before .before .before .enum-told .given .1))
+    ∙ sym (ap (λ (v : RtrProtocolVersion). encode inUse (EndOfData (withVersion v (a .pdu))) [] (now (a .out))) (c .before .before .before .before .enum-told .given .1))
 
 same-length-2 : tie.Need-same-length-2
 same-length-2 c = search needs
@@ -48,8 +48,8 @@ returns-2 : tie.Need-returns-2
 returns-2 c =
     let a = c .before .before .before .before .before .before .before .before .before .before .args in
     c .before .before .encode-end-of-data-v1 .ensures
-    ∙ filled crate (a .pdu) [] (now (a .out)) _ _ _ (c .before .before .before .before .before .before .refresh-interval-or-default .ensures) (c .before .before .before .before .before .retry-interval-or-default .ensures) (c .before .before .before .before .expire-interval-or-default .ensures)
-    ∙ sym (ap (λ (v : RtrProtocolVersion). encode crate (EndOfData (withVersion v (a .pdu))) [] (now (a .out))) (c .before .before .before .before .before .before .before .enum-told2 .given .1))
+    ∙ filled inUse (a .pdu) [] (now (a .out)) _ _ _ (c .before .before .before .before .before .before .refresh-interval-or-default .ensures) (c .before .before .before .before .before .retry-interval-or-default .ensures) (c .before .before .before .before .expire-interval-or-default .ensures)
+    ∙ sym (ap (λ (v : RtrProtocolVersion). encode inUse (EndOfData (withVersion v (a .pdu))) [] (now (a .out))) (c .before .before .before .before .before .before .before .enum-told2 .given .1))
 
 pub encode-end-of-data-spec : {M : Type 1} → statement M
 encode-end-of-data-spec =

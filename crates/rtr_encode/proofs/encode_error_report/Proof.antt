@@ -4,7 +4,7 @@ use denote.Ref.{now}
 use Rattle.rtr_text.specs.Utf8.{wellFormed}
 use Rattle.rtr_models.specs.Parts.{inside}
 use Rattle.rtr_models.specs.declared.RtrPdu.the-variants.{ErrorReport}
-use Rattle.rtr_codec.specs.Reading.{crate}
+use Rattle.rtr_codec.specs.Reading.{inUse}
 use Rattle.rtr_encode.proofs.Payloads.{part-is-true, refused-is-false}
 use Rattle.rtr_encode.proofs.Checks.{place-outside, text-refused, part-at, report-encodes}
 use borrow.Author.Needs.{needs}
@@ -23,7 +23,7 @@ outside-requires c κs = search needs
 returns : tie.Need-returns
 returns c =
     let a = c .before .before .before .before .before .before .args in
-    rw (c .outside .ensures) (place-outside crate (ErrorReport (a .pdu)) (now (a .input)) (now (a .out)) (simp (refused-is-false (inside (a .pdu .«erroneous_pdu») (now (a .input))) _ (c .before .before .before .erroneous-pdu-answer .ensures) (c .before .enum-told .given .1))))
+    rw (c .outside .ensures) (place-outside inUse (ErrorReport (a .pdu)) (now (a .input)) (now (a .out)) (simp (refused-is-false (inside (a .pdu .«erroneous_pdu») (now (a .input))) _ (c .before .before .before .erroneous-pdu-answer .ensures) (c .before .enum-told .given .1))))
 
 enum-told-2 : tie.Need-enum-told-2
 enum-told-2 c = search needs
@@ -41,7 +41,7 @@ returns-2 : tie.Need-returns-2
 returns-2 c =
     let a = c .before .before .before .before .before .before .before .before .before .args in
     rw (c .outside2 .ensures)
-    (place-outside crate (ErrorReport (a .pdu)) (now (a .input)) (now (a .out))
+    (place-outside inUse (ErrorReport (a .pdu)) (now (a .input)) (now (a .out))
     (simp ((part-is-true (inside (a .pdu .«erroneous_pdu») (now (a .input))) _ (c .before .before .before .before .before .before .erroneous-pdu-answer .ensures) (c .before .before .before .before .enum-told2 .given .1)), (refused-is-false (inside (a .pdu .«error_text») (now (a .input))) _ (c .before .before .before .error-text-answer .ensures) (c .before .enum-told3 .given .1)))))
 
 enum-told-4 : tie.Need-enum-told-4
@@ -86,7 +86,7 @@ returns-4 c =
     let i = part-is-true (inside (a .pdu .«erroneous_pdu») (now (a .input))) _ (c .before .before .before .before .before .before .before .before .erroneous-pdu-answer .ensures) (c .before .before .before .before .before .before .enum-told2 .given .1) in
     let j = part-is-true (inside (a .pdu .«error_text») (now (a .input))) _ (c .before .before .before .before .before .error-text-answer .ensures) (c .before .before .before .enum-told4 .given .1) in
     let text = part-at _ (a .pdu .«error_text») (now (a .input)) _ (c .before .before .error-text-part .ensures .0) j in
-    text-refused crate (ErrorReport (a .pdu)) (now (a .input)) (now (a .out)) (simp (i, j))
+    text-refused inUse (ErrorReport (a .pdu)) (now (a .input)) (now (a .out)) (simp (i, j))
     (ap wellFormed (sym text) ∙ sym (c .before .is-well-formed .ensures) ∙ c .if1 .left)
 
 pub encode-error-report-spec : {M : Type 1} → statement M

@@ -3,7 +3,7 @@ use mathlib.Core.Path.{_∙_}
 use denote.Ref.{now}
 use Rattle.rtr_models.specs.Parts.{inside, keyInside}
 use Rattle.rtr_models.specs.declared.RtrPdu.the-variants.{RouterKey}
-use Rattle.rtr_codec.specs.Reading.{crate}
+use Rattle.rtr_codec.specs.Reading.{inUse}
 use Rattle.rtr_encode.proofs.Payloads.{part-is-true, refused-is-false}
 use Rattle.rtr_encode.proofs.Checks.{place-outside, part-at, key-encodes, key-inside-20}
 use borrow.Author.Needs.{needs}
@@ -22,7 +22,7 @@ outside-requires c κs = search needs
 returns : tie.Need-returns
 returns c =
     let a = c .before .before .before .before .before .before .args in
-    rw (c .outside .ensures) (place-outside crate (RouterKey (a .pdu)) (now (a .input)) (now (a .out)) (simp (refused-is-false (keyInside (a .pdu .«subject_key_identifier») (now (a .input))) _ (c .before .before .before .subject-key-identifier-answer .ensures) (c .before .enum-told .given .1))))
+    rw (c .outside .ensures) (place-outside inUse (RouterKey (a .pdu)) (now (a .input)) (now (a .out)) (simp (refused-is-false (keyInside (a .pdu .«subject_key_identifier») (now (a .input))) _ (c .before .before .before .subject-key-identifier-answer .ensures) (c .before .enum-told .given .1))))
 
 enum-told-2 : tie.Need-enum-told-2
 enum-told-2 c = search needs
@@ -40,7 +40,7 @@ returns-2 : tie.Need-returns-2
 returns-2 c =
     let a = c .before .before .before .before .before .before .before .before .before .args in
     rw (c .outside2 .ensures)
-    (place-outside crate (RouterKey (a .pdu)) (now (a .input)) (now (a .out))
+    (place-outside inUse (RouterKey (a .pdu)) (now (a .input)) (now (a .out))
     (simp ((part-is-true (keyInside (a .pdu .«subject_key_identifier») (now (a .input))) _ (c .before .before .before .before .before .before .subject-key-identifier-answer .ensures) (c .before .before .before .before .enum-told2 .given .1)), (refused-is-false (inside (a .pdu .«subject_public_key_info») (now (a .input))) _ (c .before .before .before .subject-public-key-info-answer .ensures) (c .before .enum-told3 .given .1)))))
 
 enum-told-4 : tie.Need-enum-told-4

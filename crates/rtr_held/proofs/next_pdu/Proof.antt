@@ -33,7 +33,7 @@ use denote.Triple.Statement.{Contract, Triple}
 use denote.Triple.Clauses.{ensured, lasts}
 use denote.Triple.Table.{entered, cited}
 use denote.Triple.Walked.{says, Stays, stay-ref, walkOf, goes-ref, Walks, ends-at, walked, walk-meets}
-use Rattle.rtr_codec.specs.Reading.{crate}
+use Rattle.rtr_codec.specs.Reading.{inUse}
 use Rattle.rtr_codec.specs.Run.{readAt, runSaid}
 use Rattle.rtr_codec.specs.declared.RunRead.{RunRead}
 use Rattle.rtr_codec.proofs.read_at as callee
@@ -90,7 +90,7 @@ module _ {M : Type 1} (𝓤 : URA M) (H : Heap 𝓤) (A : Atoms 𝓤) (W : Given
 
   -- what the callee ensures
   abbrev Said : RunRead → Type 0
-  Said r = runSaid r ≡ readAt crate (h .bytes .now) (h .at)
+  Said r = runSaid r ≡ readAt inUse (h .bytes .now) (h .at)
 
   said : (r : RunRead) → ent 𝓤 (Rest r) (fact 𝓤 (Said r))
   said r = exE 𝓤 _ (λ zs. snd∗ 𝓤 (sem 𝓤 H A (lasts callee.ended (κ′, tt) passed zs)) (fact 𝓤 (Said r)))

@@ -34,7 +34,7 @@ use denote.Triple.Clauses.{ensured, lasts}
 use denote.Triple.Table.{entered, cited}
 use denote.Triple.Walked.{says, Stays, stay-none, stay-none-slice, walkOf, goes-none, goes-none-slice, Walks, ends-at, walked, walk-meets}
 use denote.Exit.{yes}
-use Rattle.rtr_codec.specs.Reading.{crate}
+use Rattle.rtr_codec.specs.Reading.{inUse}
 use Rattle.rtr_codec.specs.Run.{readAt, runSaid}
 use Rattle.rtr_codec.specs.declared.ReadAnswer.{ReadAnswer}
 use Rattle.rtr_held.specs.declared.RtrRun.{RtrRun}
@@ -102,7 +102,7 @@ module _ {M : Type 1} (𝓤 : URA M) (H : Heap 𝓤) (A : Atoms 𝓤) (W : Given
 
   -- what the callee ensures, of the answer and of the run's last value
   abbrev Said : ReadAnswer → RtrRun → Type 0
-  Said d s = (runSaid (record { answer = d; next = s .at }) ≡ readAt crate (x .now) n) × (s .bytes ≡ x)
+  Said d s = (runSaid (record { answer = d; next = s .at }) ≡ readAt inUse (x .now) n) × (s .bytes ≡ x)
 
   opened : (ν l : ℕ) (γ : GName) (d : ReadAnswer) → ent 𝓤 (Rest ν l γ d) (mean 𝓤 H A (some (λ (s : RtrRun). ‵ (fres γ (B κ .coded .code s)) ⊛ raw (fact 𝓤 (Said d s)))))
   opened ν l γ d =

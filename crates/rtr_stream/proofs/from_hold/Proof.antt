@@ -7,7 +7,7 @@ use lib.ListN.{length, take, drop, length-drop}
 use lib.Seq.{length-take-le}
 use borrow.Author.Needs.{needs}
 use Rattle.rtr_codec.proofs.Laws.{needed-short}
-use Rattle.rtr_codec.specs.Reading.{crate}
+use Rattle.rtr_codec.specs.Reading.{inUse}
 use Rattle.rtr_stream.specs.Stream.{Heard, judge}
 use Rattle.rtr_stream.specs.Turns.{JudgedTo}
 use Rattle.rtr_stream.proofs.Judge.{stream-is}
@@ -131,11 +131,11 @@ returns-2 c =
     let whole = part-put hold′ hold piece (a .held) n (a .at) lacks (omega arith) (c .before .before .before .before .before .put-part .ensures) in
     let t = c .with-header .result in
     let eight : n ≡ 8 = name ∙ needed-short (take (a .held) hold) (omega (arith, length-take-le (a .held) hold (stream .within))) in
-    let heard : ℕ → Heard = λ (k : ℕ). judge crate (length hold′) (take k hold′) in
+    let heard : ℕ → Heard = λ (k : ℕ). judge inUse (length hold′) (take k hold′) in
     let j = subst (λ (k : ℕ). JudgedTo hold′ k (t .then) (t .held) (t .next) (heard k)) (sym eight) (c .with-header .ensures .0) in
     judged-turn hold (a .held) n stream name hold′ piece (a .at) (omega arith) same (omega arith) whole (t .then) (t .held) (t .next) (heard n) j
     (c .with-header .ensures .1)
-    (ap (λ (k : ℕ). judge crate k (take n hold′)) (sym same))
+    (ap (λ (k : ℕ). judge inUse k (take n hold′)) (sym same))
 
 read-hold-requires : tie.Need-read-hold-requires
 read-hold-requires c κs =

@@ -6,7 +6,7 @@ use native.Mathlib.Omega.{arith}
 use denote.Ref.{now}
 use lib.ListN.{length, getD, take, drop, length-drop}
 use borrow.Author.Needs.{needs}
-use Rattle.rtr_codec.specs.Reading.{crate}
+use Rattle.rtr_codec.specs.Reading.{inUse}
 use Rattle.rtr_codec.specs.Read.{read, needed}
 use Rattle.rtr_stream.specs.Search.{outcomeOf}
 use Rattle.rtr_stream.specs.declared.StreamError.{StreamError}
@@ -137,7 +137,7 @@ returns-4 c =
     let part : take (a .at + n - a .at) (drop (a .at) piece) ≡ take n (drop (a .at) piece) =
     let gone : a .at + n - a .at ≡ n = omega arith in
     ap (λ m. take m (drop (a .at) piece)) gone in
-    let read-here = c .before .before .before .parse-rtr-pdu .ensures ∙ ap (read crate) part in
+    let read-here = c .before .before .before .parse-rtr-pdu .ensures ∙ ap (read inUse) part in
     found-in-piece hold piece n (a .at) _ _ _ (omega arith) (heard-read _ _ _ _ read-here (c .before .answer .given .1))
     ∙ sym (ap (outcomeOf 0 (a .at)) whole)
 
@@ -154,7 +154,7 @@ returns-5 c =
     let part : take (a .at + n - a .at) (drop (a .at) piece) ≡ take n (drop (a .at) piece) =
     let gone : a .at + n - a .at ≡ n = omega arith in
     ap (λ m. take m (drop (a .at) piece)) gone in
-    let read-here = c .before .before .before .parse-rtr-pdu .ensures ∙ ap (read crate) part in
+    let read-here = c .before .before .before .parse-rtr-pdu .ensures ∙ ap (read inUse) part in
     let error = c .before .answer2 .given .0 .0 in
     refused-alike hold piece _ 0 (a .at) _ _ (StreamError.Read error) _ (heard-refused _ _ error read-here (c .before .answer2 .given .1))
     ∙ sym (ap (outcomeOf 0 (a .at)) whole)

@@ -3,7 +3,7 @@ use mathlib.Core.Path.{refl, sym}
 use denote.Ref.{now}
 use lib.ListN.{length, getD, take}
 use lib.Seq.{length-take-le}
-use Rattle.rtr_codec.specs.Reading.{crate}
+use Rattle.rtr_codec.specs.Reading.{inUse}
 use Rattle.rtr_stream.proofs.Judge.{waiting-waits}
 use Rattle.rtr_stream.proofs.Turns.{refused-alike, fits-of, refusal-of, header-refused, header-whole, header-waits, judged}
 use borrow.Author.Needs.{needs}
@@ -60,7 +60,7 @@ returns-3 c =
     let hold = now (c .before .before .before .before .before .before .before .before .args .hold) in
     let n = c .before .before .before .before .before .bytes-needed .result in
     let i = fits-of (length hold) n (getD hold 1 0) (c .before .before .before .test-length .result) (c .before .before .before .test-length .ensures) (c .before .enum-told .given .1) in
-    ((waiting-waits crate (header-waits hold n (c .before .before .before .before .before .before .before .before .pre) (c .before .before .before .before .before .bytes-needed .ensures) i (c .if1 .left)), refl), refl)
+    ((waiting-waits inUse (header-waits hold n (c .before .before .before .before .before .before .before .before .pre) (c .before .before .before .before .before .bytes-needed .ensures) i (c .if1 .left)), refl), refl)
 
 pub with-header-spec : {M : Type 1} → statement M
 with-header-spec =

@@ -7,7 +7,7 @@ use native.Mathlib.Omega.{arith}
 use borrow.Author.Needs.{needs}
 use borrow.Fn.Kinds.{In}
 use borrow.Fn.PlainCycle.{Measures, is, falls, and}
-use Rattle.rtr_codec.specs.Reading.{crate}
+use Rattle.rtr_codec.specs.Reading.{inUse}
 use Rattle.rtr_codec.specs.Answers.{verdict}
 use Rattle.rtr_codec.proofs.RtrError.number.Reads as number-reads
 use Rattle.rtr_codec.proofs.parse_rtr_pdu.Reads as parse-rtr-pdu-reads
@@ -73,19 +73,19 @@ walk-pdu-pdu-type-requires t c κs = search needs
 
 walk-pdu-returns : (t : ℕ) → walk-pdu-lts.Need-returns (walk-pdu-calls t) (walk-pdu-at t) walk-pdu.Post
 walk-pdu-returns t c =
-    c .walk-report .ensures ∙ sym (from-inside crate _ _ _ _ _ (simp (c .before .before .before .pdu .given .1, c .before .erroneous-pdu-part .ensures .0)))
+    c .walk-report .ensures ∙ sym (from-inside inUse _ _ _ _ _ (simp (c .before .before .before .pdu .given .1, c .before .erroneous-pdu-part .ensures .0)))
 
 walk-pdu-returns-2 : (t : ℕ) → walk-pdu-lts.Need-returns-2 (walk-pdu-calls t) (walk-pdu-at t) walk-pdu.Post
-walk-pdu-returns-2 t c = rw (c .pdu-type .ensures) (sym (from-end crate _ _ _ _ _ (other-ends (c .before .before .before .args .pdu) _ (c .before .match .keys2))))
+walk-pdu-returns-2 t c = rw (c .pdu-type .ensures) (sym (from-end inUse _ _ _ _ _ (other-ends (c .before .before .before .args .pdu) _ (c .before .match .keys2))))
 
 walk-report-sub-level : (t : ℕ) → walk-report-lts.Need-sub-level (walk-report-calls t) (walk-report-at t) walk-report.Post
 walk-report-sub-level t c = omega arith
 
 walk-report-returns : (t : ℕ) → walk-report-lts.Need-returns (walk-report-calls t) (walk-report-at t) walk-report.Post
-walk-report-returns t c = sym (inside-empty crate _ _ _ (c .if1 .taken))
+walk-report-returns t c = sym (inside-empty inUse _ _ _ (c .if1 .taken))
 
 walk-report-returns-2 : (t : ℕ) → walk-report-lts.Need-returns-2 (walk-report-calls t) (walk-report-at t) walk-report.Post
-walk-report-returns-2 t c = sym (inside-deep crate _ _ _ (c .before .if1 .left) (c .if2 .taken))
+walk-report-returns-2 t c = sym (inside-deep inUse _ _ _ (c .before .if1 .left) (c .if2 .taken))
 
 walk-report-parse-rtr-pdu-requires : (t : ℕ) → walk-report-lts.Need-parse-rtr-pdu-requires (walk-report-calls t) (walk-report-at t) walk-report.Post
 walk-report-parse-rtr-pdu-requires t c κs = search needs
@@ -107,11 +107,11 @@ walk-report-number-requires t c κs = search needs
 
 walk-report-returns-3 : (t : ℕ) → walk-report-lts.Need-returns-3 (walk-report-calls t) (walk-report-at t) walk-report.Post
 walk-report-returns-3 t c =
-    c .walk-pdu .ensures ∙ sym (inside-read crate _ _ _ _ (c .before .before .before .before .before .before .if1 .left) (c .before .before .before .before .before .if2 .left) (omega arith) (sym (c .before .before .before .before .parse-rtr-pdu .ensures) ∙ ap verdict (c .before .before .pdu .given .1)))
+    c .walk-pdu .ensures ∙ sym (inside-read inUse _ _ _ _ (c .before .before .before .before .before .before .if1 .left) (c .before .before .before .before .before .if2 .left) (omega arith) (sym (c .before .before .before .before .parse-rtr-pdu .ensures) ∙ ap verdict (c .before .before .pdu .given .1)))
 
 walk-report-returns-4 : (t : ℕ) → walk-report-lts.Need-returns-4 (walk-report-calls t) (walk-report-at t) walk-report.Post
 walk-report-returns-4 t c =
-    sym (inside-refused crate _ _ _ (c .before .before .error .given .0 .0) _ (c .number .ensures) (c .before .before .before .before .before .before .if1 .left) (c .before .before .before .before .before .if2 .left) (sym (c .before .before .before .before .parse-rtr-pdu .ensures) ∙ ap verdict (c .before .before .error .given .1)))
+    sym (inside-refused inUse _ _ _ (c .before .before .error .given .0 .0) _ (c .number .ensures) (c .before .before .before .before .before .before .if1 .left) (c .before .before .before .before .before .if2 .left) (sym (c .before .before .before .before .parse-rtr-pdu .ensures) ∙ ap verdict (c .before .before .error .given .1)))
 
 pub +walk-pdu+walk-report-spec : {M : Type 1} → statement M
 +walk-pdu+walk-report-spec =

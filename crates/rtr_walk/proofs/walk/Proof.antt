@@ -1,7 +1,7 @@
--- `walk` gives what the walk of the crate's reading says: level 0 is refused, or walked from with all levels left. Assumes nothing.
+-- `walk` gives what the walk of the reading in use says: level 0 is refused, or walked from with all levels left. Assumes nothing.
 use mathlib.Core.Path.{sym, ap, _∙_}
 use borrow.Author.Needs.{needs}
-use Rattle.rtr_codec.specs.Reading.{crate}
+use Rattle.rtr_codec.specs.Reading.{inUse}
 use Rattle.rtr_codec.specs.Answers.{verdict}
 use Rattle.rtr_walk.proofs.Steps.{walk-read, walk-refused}
 use Rattle.rtr_walk.proofs.walk.Statement.{statement}
@@ -21,10 +21,10 @@ enum-known-error c = search needs
 
 returns : tie.Need-returns
 returns c =
-    c .walk-pdu .ensures ∙ sym (walk-read crate _ _ _ (sym (c .before .before .before .before .parse-rtr-pdu .ensures) ∙ ap verdict (c .before .before .pdu .given .1)))
+    c .walk-pdu .ensures ∙ sym (walk-read inUse _ _ _ (sym (c .before .before .before .before .parse-rtr-pdu .ensures) ∙ ap verdict (c .before .before .pdu .given .1)))
 
 returns-2 : tie.Need-returns-2
-returns-2 c = sym (walk-refused crate _ (c .before .error .given .0 .0) (sym (c .before .before .before .parse-rtr-pdu .ensures) ∙ ap verdict (c .before .error .given .1)))
+returns-2 c = sym (walk-refused inUse _ (c .before .error .given .0 .0) (sym (c .before .before .before .parse-rtr-pdu .ensures) ∙ ap verdict (c .before .error .given .1)))
 
 pub walk-spec : {M : Type 1} → statement M
 walk-spec =
