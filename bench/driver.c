@@ -2,7 +2,7 @@
  *   driver N ROW [WORD]     ROW: read WORD | pass WORD | recode WORD | stream WORD PIECE | load ORDER COUNT PIECE | test22 TIMES | stack WHAT
  * pass: read, using no more than the length; recode: read and encode.
  * WORD: all (every kind), prefixes (three IPv4, one IPv6), or a PDU type's number. ORDER: sorted, shuffled, turned.
- * Linked twice: with crates/rtr_bench's static library (-DOURS) and with the Rust's. */
+ * Linked twice: with crates/test_bench's static library and ours.c (-DOURS), and with the Rust's. */
 #include <stdint.h>
 #include <stdio.h>
 #include <stdlib.h>

@@ -1,4 +1,4 @@
-// The Rust's side of the bench: the same functions as crates/rtr_bench has, over the two Rust files, which stand unchanged in the folder `shared`
+// The Rust's side of the bench: the same functions as crates/test_bench and ours.c have, over the two Rust files, which stand unchanged in the folder `shared`
 // that bench/run lays beside a copy of this file.
 #![allow(dead_code)]
 #[path = "shared/docs/src/src/models/rpki/rtr.rs"]

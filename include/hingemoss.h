@@ -12,8 +12,21 @@
 #ifndef HINGEMOSS_H
 #define HINGEMOSS_H
 
+/* size_t and the numbers of fixed width: from C's headers or, where a compiler comes without them (as the kit's own does), from what it predefines. */
+#ifdef __has_include
+#if !__has_include(<stddef.h>) || !__has_include(<stdint.h>)
+#define HINGEMOSS_NO_HEADERS
+#endif
+#endif
+#ifdef HINGEMOSS_NO_HEADERS
+typedef __SIZE_TYPE__ size_t;
+typedef __UINT8_TYPE__ uint8_t;
+typedef __UINT32_TYPE__ uint32_t;
+typedef __UINT64_TYPE__ uint64_t;
+#else
 #include <stddef.h>
 #include <stdint.h>
+#endif
 
 #ifdef __cplusplus
 extern "C" {

@@ -1,5 +1,5 @@
 #!/usr/bin/env python3
-"""Writes streams in hex, a line each, as the oracle's `stream` and rtr_streams take them: each stream twice, whole and cut.
+"""Writes streams in hex, a line each, as the oracle's `stream` and the driver's take them: each stream twice, whole and cut.
 
     tests/streams.py [SEED] [COUNT]     COUNT streams (100000), 2 * COUNT lines
 
@@ -20,7 +20,7 @@ SIZES = {0: (12, 12), 1: (12, 12), 2: (8, 8), 3: (8, 8), 4: (20, 20), 6: (32, 32
 # Of 100,000 streams so many are long; each has one PDU of such a length.
 LONG = 80
 LONG_SIZES = (65535, 65536, 65537, 100000, 131070, 131084, 131085, 131086, 131086, 131087)
-MOST = 147000  # bytes of a stream: rtr_streams takes 147,456
+MOST = 147000  # bytes of a stream
 
 
 def n(value, size):

@@ -1,7 +1,7 @@
 #!/usr/bin/env python3
-"""What crates/rtr_loads must print, computed by the independent model.
+"""What `driver loads` must print, computed by the independent model.
 
-    python3 captures.py [--fast] > STDOUT        compare with crates/rtr_loads/stdout
+    python3 captures.py [--fast] > STDOUT        compare with tests/driver.d/loads.out
 
 Each history (a capture, or two one after the other) is played to the model's
 receiver: start, a full ask, the bytes, and a change ask behind so many bytes.
@@ -17,7 +17,7 @@ import sys
 
 import receiver_model as model
 
-DATA = os.path.join(os.path.dirname(os.path.abspath(__file__)), "../../crates/rtr_loads/data")
+DATA = os.path.join(os.path.dirname(os.path.abspath(__file__)), "../captures")
 ROOM = 6 * model.DEFAULT_LIMIT
 HOLD = 512
 

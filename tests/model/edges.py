@@ -6,7 +6,7 @@
 Each function below is one edge, or one family of edges.  Beside each call
 stands the answer that document 01 asks for, written by hand: a script whose
 answer by the model is another one is not written, and the run fails.
-SCRIPTS and EXPECTED are crates/rtr_scripts/stdin and stdout.
+SCRIPTS and EXPECTED are tests/scripts.d/stdin and stdout.
 """
 
 import sys

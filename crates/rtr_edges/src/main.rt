@@ -1,8 +1,9 @@
 // Document 01's edges that no theorem states, run: texts on either side of UTF-8's edges, nests of 15 to 18 reports, empty and full, what is
 // encoded, and payloads out of place. The file `stdout` has what must be printed.
 use libc::STDOUT_FILENO;
-use rtr_answers::put;
 use rtr_codec::ReadAnswer;
+use rtr_codec::RtrError;
+use rtr_codec::parse_rtr_pdu;
 use rtr_encode::EncodeAnswer;
 use rtr_encode::EncodeError;
 use rtr_models::Interval;
@@ -18,48 +19,130 @@ use rtr_models::RtrRouterKey;
 use rtr_walk::WalkAnswer;
 use rtr_walk::WalkEnd;
 
-fn flush(out: &[u8], at: usize) {
-    if at <= out.len() {
-        io::write_all(STDOUT_FILENO, &out[0..at]);
-        io::write_all(STDOUT_FILENO, b"\n");
+// ---- Printing
+
+fn say(text: &[u8]) {
+    io::write_all(STDOUT_FILENO, text);
+}
+
+fn say_number(name: &[u8], n: u64) {
+    say(name);
+    io::print_decimal(STDOUT_FILENO, n);
+}
+
+fn hex_digit(n: u8) -> u8 {
+    if n < 10 {
+        return b'0' + n;
+    }
+    if n < 16 {
+        return b'a' + (n - 10);
+    }
+    b'?'
+}
+
+fn say_byte(byte: u8) {
+    let digits = [hex_digit(byte / 16), hex_digit(byte % 16)];
+    say(&digits);
+}
+
+fn say_hex(bytes: &[u8]) {
+    let mut i = 0;
+    while i < bytes.len() {
+        say_byte(bytes[i]);
+        i += 1;
     }
 }
+
+fn say_three(a: u64, b: u64, c: u64) {
+    say_number(b" ", a);
+    say_number(b" ", b);
+    say_number(b" ", c);
+}
+
+// A refusal: document 01's number and the values that go with it.
+fn say_refusal(error: RtrError) {
+    say_number(b"refused ", error.number() as u64);
+    match error {
+        RtrError::IncompletePdu { available, needed } => {
+            say_number(b" ", available as u64);
+            say_number(b" ", needed as u64);
+        }
+        RtrError::InvalidProtocolVersion(v) => say_number(b" ", v as u64),
+        RtrError::InvalidPduType(t) => say_number(b" ", t as u64),
+        RtrError::InvalidLength {
+            expected,
+            actual,
+            pdu_type,
+        } => say_three(expected as u64, actual as u64, pdu_type as u64),
+        RtrError::RouterKeyInV0 => (),
+        RtrError::InvalidPrefixLength {
+            prefix_len,
+            max_len,
+            max_allowed,
+        } => say_three(prefix_len as u64, max_len as u64, max_allowed as u64),
+        RtrError::InvalidErrorCode(c) => say_number(b" ", c as u64),
+        RtrError::InvalidUtf8 => (),
+    }
+}
+
+fn say_report(p: RtrErrorReport, input: &[u8]) {
+    let code = p.error_code;
+    say_number(b" code=", code.to_u16() as u64);
+    say(b" encap=");
+    say_hex(p.erroneous_pdu_part(input));
+    say(b" text=");
+    say_hex(p.error_text_part(input));
+}
+
+// Of a PDU that is no Error Report type and version alone: none of the edges has one.
+fn say_pdu(pdu: RtrPdu, input: &[u8]) {
+    let pdu_type = pdu.pdu_type();
+    let version = pdu.version();
+    say_number(b" type=", pdu_type.to_u8() as u64);
+    say_number(b" version=", version.to_u8() as u64);
+    match pdu {
+        RtrPdu::ErrorReport(p) => say_report(p, input),
+        _ => (),
+    }
+}
+
+// ---- Reading, walking, encoding
 
 // A label, and what reading says.
 fn show_read(label: &[u8], input: &[u8]) {
-    let mut out = [0u8; 512];
-    let at = put::put_text(&mut out, 0, label);
-    let at = put::put_text(&mut out, at, b": ");
-    let at = rtr_answers::put_answer(&mut out, at, input);
-    flush(&out, at);
-}
-
-fn put_end(out: &mut [u8], at: usize, end: WalkEnd) -> usize {
-    match end {
-        WalkEnd::Plain(pdu_type) => put::put_field(out, at, b" plain=", pdu_type.to_u8() as u64),
-        WalkEnd::Empty => put::put_text(out, at, b" empty"),
-        WalkEnd::Refused(n) => put::put_field(out, at, b" refused=", n as u64),
-        WalkEnd::TooDeep => put::put_text(out, at, b" too deep"),
-    }
-}
-
-fn put_walk(out: &mut [u8], at: usize, input: &[u8]) -> usize {
-    match rtr_walk::walk(input) {
-        WalkAnswer::Walked(level, end) => {
-            let at = put::put_field(out, at, b"level=", level as u64);
-            put_end(out, at, end)
+    say(label);
+    say(b": ");
+    match parse_rtr_pdu(input) {
+        ReadAnswer::Read(pdu, consumed) => {
+            say_number(b"ok consumed=", consumed as u64);
+            say_pdu(pdu, input);
         }
-        WalkAnswer::Refused(error) => rtr_answers::refusal::put_refusal(out, at, error),
+        ReadAnswer::Refused(error) => say_refusal(error),
+    }
+    say(b"\n");
+}
+
+fn say_end(end: WalkEnd) {
+    match end {
+        WalkEnd::Plain(pdu_type) => say_number(b" plain=", pdu_type.to_u8() as u64),
+        WalkEnd::Empty => say(b" empty"),
+        WalkEnd::Refused(n) => say_number(b" refused=", n as u64),
+        WalkEnd::TooDeep => say(b" too deep"),
     }
 }
 
 // A label, and how the walk ends.
 fn show_walk(label: &[u8], input: &[u8]) {
-    let mut out = [0u8; 512];
-    let at = put::put_text(&mut out, 0, label);
-    let at = put::put_text(&mut out, at, b": ");
-    let at = put_walk(&mut out, at, input);
-    flush(&out, at);
+    say(label);
+    say(b": ");
+    match rtr_walk::walk(input) {
+        WalkAnswer::Walked(level, end) => {
+            say_number(b"level=", level as u64);
+            say_end(end);
+        }
+        WalkAnswer::Refused(error) => say_refusal(error),
+    }
+    say(b"\n");
 }
 
 // One report around what a slice holds, as the encoder writes it; no bytes where it does not fit.
@@ -126,39 +209,38 @@ fn show_nest(label: &[u8], levels: usize, core: &[u8]) {
     }
 }
 
-fn put_encoded(out: &mut [u8], at: usize, answer: EncodeAnswer) -> usize {
+fn say_needed(error: EncodeError) {
+    match error {
+        EncodeError::OutputShort { needed } => say_number(b" ", needed as u64),
+        _ => (),
+    }
+}
+
+fn say_encoded(answer: EncodeAnswer) {
     match answer {
-        EncodeAnswer::Written(n) => put::put_field(out, at, b"written=", n as u64),
+        EncodeAnswer::Written(n) => say_number(b"written=", n as u64),
         EncodeAnswer::Refused(error) => {
-            let at = put::put_field(out, at, b"refused ", error.number() as u64);
-            put_needed(out, at, error)
+            say_number(b"refused ", error.number() as u64);
+            say_needed(error);
         }
     }
 }
 
-fn put_needed(out: &mut [u8], at: usize, error: EncodeError) -> usize {
-    match error {
-        EncodeError::OutputShort { needed } => put::put_field(out, at, b" ", needed as u64),
-        _ => at,
-    }
-}
-
-fn put_all(out: &mut [u8], at: usize, bytes: &[u8; 64]) -> usize {
-    let at = put::put_text(out, at, b" ");
-    put::put_hex(out, at, bytes)
+fn say_all(bytes: &[u8; 64]) {
+    say(b" ");
+    say_hex(bytes);
+    say(b"\n");
 }
 
 // What encoding says of a PDU, and the whole buffer afterwards: `aa` is what stood there.
 fn show_encode(label: &[u8], pdu: RtrPdu, input: &[u8], room: usize) {
     let mut bytes = [0xaau8; 64];
-    let mut out = [0u8; 512];
-    let at = put::put_text(&mut out, 0, label);
-    let at = put::put_text(&mut out, at, b": ");
     if room <= 64 {
         let answer = rtr_encode::encode(pdu, input, &mut bytes[0..room]);
-        let at = put_encoded(&mut out, at, answer);
-        let at = put_all(&mut out, at, &bytes);
-        flush(&out, at);
+        say(label);
+        say(b": ");
+        say_encoded(answer);
+        say_all(&bytes);
     }
 }
 
@@ -182,23 +264,20 @@ fn key(version: RtrProtocolVersion, start: usize, len: usize, info: Place) -> Rt
     })
 }
 
-fn put_place(out: &mut [u8], at: usize, place: Place, bytes: &[u8]) -> usize {
-    match place.answer(bytes) {
-        PartAnswer::Part => put::put_text(out, at, b": part "),
-        PartAnswer::Refused => put::put_text(out, at, b": refused 11 "),
-    }
-}
-
 // A place against five bytes: its answer and its part.
 fn show_place(label: &[u8], start: usize, len: usize) {
     let place = Place { start, len };
     let bytes = [1u8, 2, 3, 4, 5];
-    let mut out = [0u8; 512];
-    let at = put::put_text(&mut out, 0, label);
-    let at = put_place(&mut out, at, place, &bytes);
-    let at = put::put_hex(&mut out, at, place.part(&bytes));
-    flush(&out, at);
+    say(label);
+    match place.answer(&bytes) {
+        PartAnswer::Part => say(b": part "),
+        PartAnswer::Refused => say(b": refused 11 "),
+    }
+    say_hex(place.part(&bytes));
+    say(b"\n");
 }
+
+// ---- The edges
 
 fn texts() {
     show_read(
@@ -387,31 +466,27 @@ fn prefix(flags: u8, prefix_length: u8, max_length: u8) -> RtrPdu {
     })
 }
 
-// Two Reset Queries in a row, read by place.
-fn show_run(label: &[u8], at: usize) {
-    let run = b"\x01\x02\x00\x00\x00\x00\x00\x08\x00\x02\x00\x00\x00\x00\x00\x08";
-    let mut out = [0u8; 512];
-    let read = rtr_codec::read_at(run, at);
-    let next = read.next;
-    let answer = read.answer;
-    let end = put::put_text(&mut out, 0, label);
-    let end = put_run(&mut out, end, answer, next);
-    flush(&out, end);
-}
-
-fn put_run(out: &mut [u8], at: usize, answer: ReadAnswer, next: usize) -> usize {
+fn say_run(answer: ReadAnswer) {
     match answer {
         ReadAnswer::Read(pdu, _) => {
             let version = pdu.version();
-            let at = put::put_field(out, at, b": version=", version.to_u8() as u64);
-            put::put_field(out, at, b" next=", next as u64)
+            say_number(b"version=", version.to_u8() as u64);
         }
-        ReadAnswer::Refused(error) => {
-            let at = put::put_text(out, at, b": ");
-            let at = rtr_answers::refusal::put_refusal(out, at, error);
-            put::put_field(out, at, b" next=", next as u64)
-        }
+        ReadAnswer::Refused(error) => say_refusal(error),
     }
+}
+
+// Two Reset Queries in a row, read by place.
+fn show_run(label: &[u8], at: usize) {
+    let run = b"\x01\x02\x00\x00\x00\x00\x00\x08\x00\x02\x00\x00\x00\x00\x00\x08";
+    let read = rtr_codec::read_at(run, at);
+    let next = read.next;
+    let answer = read.answer;
+    say(label);
+    say(b": ");
+    say_run(answer);
+    say_number(b" next=", next as u64);
+    say(b"\n");
 }
 
 fn runs() {

@@ -1,0 +1,79 @@
+# shellcheck shell=bash
+# bin/kit.sh   sourced by bin/, tests/ and bench/: the Rattle toolchain (the kit), its x86-64 programs, and C built with its own compiler
+#
+#   kit_find             sets KIT (RATTLE_HOME, or the folder above rt's), TOOLS and RUN; false, with a reason on standard error, where there is none
+#   "${RUN[@]}" PROGRAM  runs an x86-64 program: under the kit's loader, and on other machines under the emulator beside it
+#   kit_cc OUT WORD..    compiles the .c files among the words for x86-64 (other words go to the compiler), links them with the .a files, and writes OUT
+#   kit_archives NAME..  target/staticlib/libNAME.a by `rt staticlib`, which proves NAME; one that is there is taken where neither the kit nor a file that it comes from has changed
+#   kit_driver OUT       builds tests/driver over rtr_c and test_calls
+#
+# Nothing is installed, and no header or library of the machine's is used: tests/libc declares what the tests need of C's library.
+kit_find() {
+    local rt
+    rt=$(command -v rt) || { echo "no 'rt' on the PATH: install the Rattle toolchain (rattle-kit-5 or newer) and put its bin folder on the PATH" >&2; return 1; }
+    KIT=${RATTLE_HOME:-$(cd "$(dirname "$(readlink -f "$rt")")/.." && pwd -P)}
+    TOOLS=$KIT/on/$(uname -m)/toolchain
+    [ -r "$TOOLS/lib/ld-linux-x86-64.so.2" ] || { echo "no toolchain for $(uname -m) under $KIT: set RATTLE_HOME to the folder of the Rattle toolchain" >&2; return 1; }
+    RUN=("$TOOLS/lib/ld-linux-x86-64.so.2" --library-path "$TOOLS/lib")
+    [ ! -x "$TOOLS/bin/qemu-x86_64" ] || RUN=("$TOOLS/bin/qemu-x86_64" "${RUN[@]}")
+}
+
+kit_cc() {
+    local out=$1 word object n=0 flags=() sources=() objects=() archives=() top
+    top=$(cd "$(dirname "${BASH_SOURCE[0]}")/.." && pwd -P)
+    shift
+    for word; do
+        case $word in
+            *.c) sources+=("$word") ;;
+            *.a) archives+=("$word") ;;
+            *) flags+=("$word") ;;
+        esac
+    done
+    for word in "${sources[@]}"; do
+        object=$out.$((n += 1)).o
+        "$TOOLS/bin/clang" --target=x86_64-unknown-linux-gnu -std=c11 -O2 -ffreestanding -fPIE -nostdinc -Wall -Wextra -Wpedantic -Werror \
+            -isystem "$top/tests/libc" -I "$top/include" "${flags[@]}" -c -o "$object" "$word" || return 1
+        objects+=("$object")
+    done
+    "$KIT/on/$(uname -m)/bin/rattle-link" --target x86_64-unknown-linux-gnu --toolchain "$TOOLS" -o "$out" "${objects[@]}" "${archives[@]}" 2>"$out.link" || { cat "$out.link" >&2; return 1; }
+    rm -f "${objects[@]}" "$out.link"
+}
+
+# A crate of crates.txt and all that it stands on, one to a line.
+kit_below() { # NAME
+    awk -F: -v todo="$1" '/^[a-z]/ { below[$1] = $2 }
+        END { while (todo ~ /[^ ]/) { n = split(todo, name, " "); todo = ""; for (i = 1; i <= n; i++) if (name[i] in below && !(name[i] in seen)) { seen[name[i]] = 1; todo = todo " " below[name[i]] } }
+              for (k in seen) print k }' crates.txt | LC_ALL=C sort
+}
+# What decides an archive: the kit, and the files of the crate and of what it stands on.
+kit_stamp() { # NAME
+    { cat "$KIT/KIT-ID"; kit_below "$1" | sed 's|^|crates/|' | xargs -I{} find {} -type f \( -path '*/src/*' -o -path '*/specs/*' -o -path '*/proofs/*' \) -print0 | LC_ALL=C sort -z | xargs -0 sha256sum; } | sha256sum
+}
+
+kit_archives() (
+    cd "$(dirname "${BASH_SOURCE[0]}")/.." || exit 1
+    wanted=()
+    for name; do
+        [ -f "target/staticlib/lib$name.a" ] && [ "$(cat "target/staticlib/$name.stamp" 2>/dev/null)" = "$(kit_stamp "$name")" ] || wanted+=("$name")
+    done
+    [ ${#wanted[@]} -gt 0 ] || exit 0
+    logs=$(mktemp -d) || exit 1
+    trap 'rm -rf "$logs"' EXIT
+    # first what they stand on, so that they can then be proved side by side
+    below=$(for name in "${wanted[@]}"; do kit_below "$name" | grep -vx "$name"; done | sort -u)
+    # shellcheck disable=SC2086
+    rt check $below >"$logs/below" 2>&1 </dev/null || { cat "$logs/below" >&2; exit 1; }
+    for name in "${wanted[@]}"; do
+        { rt staticlib "$name" >"$logs/$name" 2>&1 </dev/null && kit_stamp "$name" >"target/staticlib/$name.stamp" && touch "$logs/$name.done"; } &
+    done
+    wait
+    for name in "${wanted[@]}"; do
+        [ -f "$logs/$name.done" ] || { cat "$logs/$name" >&2; echo "not proved: $name" >&2; exit 1; }
+    done
+)
+
+kit_driver() {
+    local top
+    top=$(cd "$(dirname "${BASH_SOURCE[0]}")/.." && pwd -P)
+    kit_archives rtr_c test_calls && kit_cc "$1" -I "$top/tests/driver" "$top"/tests/driver/*.c "$top/target/staticlib/librtr_c.a" "$top/target/staticlib/libtest_calls.a"
+}
