@@ -20,10 +20,10 @@ use Rattle.rtr_room.specs.declared.Record.{Record}
 use Rattle.rtr_room.specs.declared.EnterAnswer.{EnterAnswer}
 use Rattle.rtr_room.specs.declared.LeaveAnswer.{LeaveAnswer}
 use Rattle.rtr_room.proofs.Laws.{room-length, empty-is, copy-is, enter-is, leave-is, enter-refuses, leave-refuses, changed-is, refused-is}
-use Rattle.rtr_receiver.specs.Receiver.{Stage, Receiver, Deed, stop, startLoad, onCacheResponse, onChangeResponse, changedTo, onRecord, onRouterKey, onCacheReset, finish, noUpdate, onEndOfData}
+use Rattle.rtr_receiver.specs.Receiver.{Stage, Receiver, Deed, stop, startLoad, onChangeResponse, changedTo, finish, noUpdate}
 use Rattle.rtr_receiver.specs.Receiver.Stage.{idle, mustReset, askedFull, askedChange, loading, stopped}
 use Rattle.rtr_receiver.specs.Promises.{stopSaid, stoppedBy, stageOf, receiverOf, leaves, inMemory}
-use Rattle.rtr_receiver.specs.Private.{BothRooms, Stands, Did, stoppedSession}
+use Rattle.rtr_receiver.specs.Private.{BothRooms, Stands, Did, responseIn, recordIn, keyIn, resetIn, endIn, stoppedSession}
 use Rattle.rtr_receiver.specs.declared.LoadKind.{LoadKind}
 use Rattle.rtr_receiver.specs.declared.Stop.{Stop}
 use Rattle.rtr_receiver.specs.declared.Phase.{Phase}
@@ -105,22 +105,22 @@ notAsked = 0 ∷ 1 ∷ 4 ∷ 5 ∷ []
 out-of-loading : {A : Type 0} (f : Stage → A) (x : A) → f idle ≡ x → f mustReset ≡ x → f askedFull ≡ x → f askedChange ≡ x → ((n : ℕ) (v : List ℕ) → f (stopped n v) ≡ x) → (p : Phase) → OneOf notLoading (tagOf phase-enum.the-type p) → f (stageOf p) ≡ x
 out-of-loading f x i m a c s p h = out-of-turn f x notLoading i m (λ k. a) (λ k. c) (λ k. absurd (miss notLoading 4 tt k)) s p h
 
-pub response-out : (id : ℕ) (r : Receiver) (p : Phase) → OneOf notAsked (tagOf phase-enum.the-type p) → onCacheResponse (stageOf p) id r ≡ stop 13 [] r
+pub response-out : (id : ℕ) (r : Receiver) (p : Phase) → OneOf notAsked (tagOf phase-enum.the-type p) → responseIn (stageOf p) id r ≡ stop 13 [] r
 response-out id r p h =
-    out-of-turn (λ (x : Stage). onCacheResponse x id r) (stop 13 [] r) notAsked refl refl (λ k. absurd (miss notAsked 2 tt k)) (λ k. absurd (miss notAsked 3 tt k)) (λ k kind session. refl) (λ n v. refl) p h
+    out-of-turn (λ (x : Stage). responseIn x id r) (stop 13 [] r) notAsked refl refl (λ k. absurd (miss notAsked 2 tt k)) (λ k. absurd (miss notAsked 3 tt k)) (λ k kind session. refl) (λ n v. refl) p h
 
-pub reset-out : (r : Receiver) (p : Phase) → OneOf notChange (tagOf phase-enum.the-type p) → onCacheReset (stageOf p) r ≡ stop 13 [] r
+pub reset-out : (r : Receiver) (p : Phase) → OneOf notChange (tagOf phase-enum.the-type p) → resetIn (stageOf p) r ≡ stop 13 [] r
 reset-out r p h =
-    out-of-turn (λ (x : Stage). onCacheReset x r) (stop 13 [] r) notChange refl refl (λ k. refl) (λ k. absurd (miss notChange 3 tt k)) (λ k kind session. refl) (λ n v. refl) p h
+    out-of-turn (λ (x : Stage). resetIn x r) (stop 13 [] r) notChange refl refl (λ k. refl) (λ k. absurd (miss notChange 3 tt k)) (λ k kind session. refl) (λ n v. refl) p h
 
-pub record-out : (limit : ℕ) (announced : Bool) (record₀ : Record) (r : Receiver) (p : Phase) → OneOf notLoading (tagOf phase-enum.the-type p) → onRecord limit (stageOf p) announced record₀ r ≡ stop 13 [] r
-record-out limit announced record₀ r p h = out-of-loading (λ (x : Stage). onRecord limit x announced record₀ r) (stop 13 [] r) refl refl refl refl (λ n v. refl) p h
+pub record-out : (limit : ℕ) (announced : Bool) (record₀ : Record) (r : Receiver) (p : Phase) → OneOf notLoading (tagOf phase-enum.the-type p) → recordIn limit (stageOf p) announced record₀ r ≡ stop 13 [] r
+record-out limit announced record₀ r p h = out-of-loading (λ (x : Stage). recordIn limit x announced record₀ r) (stop 13 [] r) refl refl refl refl (λ n v. refl) p h
 
-pub key-out : (r : Receiver) (p : Phase) → OneOf notLoading (tagOf phase-enum.the-type p) → onRouterKey (stageOf p) r ≡ stop 13 [] r
-key-out r p h = out-of-loading (λ (x : Stage). onRouterKey x r) (stop 13 [] r) refl refl refl refl (λ n v. refl) p h
+pub key-out : (r : Receiver) (p : Phase) → OneOf notLoading (tagOf phase-enum.the-type p) → keyIn (stageOf p) r ≡ stop 13 [] r
+key-out r p h = out-of-loading (λ (x : Stage). keyIn x r) (stop 13 [] r) refl refl refl refl (λ n v. refl) p h
 
-pub end-out : (e : RtrEndOfData) (r : Receiver) (p : Phase) → OneOf notLoading (tagOf phase-enum.the-type p) → onEndOfData (stageOf p) e r ≡ noUpdate (stop 13 [] r)
-end-out e r p h = out-of-loading (λ (x : Stage). onEndOfData x e r) (noUpdate (stop 13 [] r)) refl refl refl refl (λ n v. refl) p h
+pub end-out : (e : RtrEndOfData) (r : Receiver) (p : Phase) → OneOf notLoading (tagOf phase-enum.the-type p) → endIn (stageOf p) e r ≡ noUpdate (stop 13 [] r)
+end-out e r p h = out-of-loading (λ (x : Stage). endIn x e r) (noUpdate (stop 13 [] r)) refl refl refl refl (λ n v. refl) p h
 
 -- ---- a record enters or leaves
 
@@ -243,23 +243,23 @@ module _ (limit : ℕ) (s : Session) (live working : List ℕ) (b : BothRooms li
   -- the working room emptied: the load of a whole table
   pub full-load-stands : (id : ℕ) → s .phase ≡ Phase.AskedFull → (w : List ℕ) → w ≡ replicate (length working) 0 →
       (q : Session) → q ≡ record { version = s .version; phase = Phase.Loading LoadKind.Full id; table = s .table; note = s .note; live = s .live; working = 0; held = s .held } →
-      Stands limit q live w (onCacheResponse (stageOf (s .phase)) id (receiverOf s live working []))
+      Stands limit q live w (responseIn (stageOf (s .phase)) id (receiverOf s live working []))
   full-load-stands id e w z q f =
       load-stands LoadKind.Full id 0 w [] refl (zeros-stand limit working w (room-size limit (s .working) working (b .1) .0) z) q f
-      ∙ ap (λ (p : Phase). inMemory limit (onCacheResponse (stageOf p) id (receiverOf s live working []))) (sym e)
+      ∙ ap (λ (p : Phase). inMemory limit (responseIn (stageOf p) id (receiverOf s live working []))) (sym e)
 
   -- ---- what is passed over, and a Cache Reset
 
-  pub passed-stands : (kind : LoadKind) (id : ℕ) → s .phase ≡ Phase.Loading kind id → Stands limit s live working (onRouterKey (stageOf (s .phase)) (receiverOf s live working []))
+  pub passed-stands : (kind : LoadKind) (id : ℕ) → s .phase ≡ Phase.Loading kind id → Stands limit s live working (keyIn (stageOf (s .phase)) (receiverOf s live working []))
   passed-stands kind id e =
       kept-stands limit s live working b s refl refl refl
-      ∙ ap (λ (p : Phase). inMemory limit (onRouterKey (stageOf p) (receiverOf s live working []))) (sym e)
+      ∙ ap (λ (p : Phase). inMemory limit (keyIn (stageOf p) (receiverOf s live working []))) (sym e)
 
-  pub reset-stands : s .phase ≡ Phase.AskedChange → (q : Session) → q ≡ record { version = s .version; phase = Phase.MustReset; table = s .table; note = s .note; live = s .live; working = s .working; held = s .held } → Stands limit q live working (onCacheReset (stageOf (s .phase)) (receiverOf s live working []))
+  pub reset-stands : s .phase ≡ Phase.AskedChange → (q : Session) → q ≡ record { version = s .version; phase = Phase.MustReset; table = s .table; note = s .note; live = s .live; working = s .working; held = s .held } → Stands limit q live working (resetIn (stageOf (s .phase)) (receiverOf s live working []))
   reset-stands e q f =
       ap (λ (x : Session). leaves x live working []) f
       ∙ kept-stands limit s live working b (record { version = s .version; phase = Phase.MustReset; table = s .table; note = s .note; live = s .live; working = s .working; held = s .held }) refl refl refl
-      ∙ ap (λ (p : Phase). inMemory limit (onCacheReset (stageOf p) (receiverOf s live working []))) (sym e)
+      ∙ ap (λ (p : Phase). inMemory limit (resetIn (stageOf p) (receiverOf s live working []))) (sym e)
 
 -- ---- another session
 
@@ -269,14 +269,14 @@ other-session id t known e h r =
     ∙ ap (λ (x : Bool). cond x (startLoad LoadKind.Change id (r .live) r) (stop 15 [] r)) (ne-eqb id (known .session) h)
 
 -- an End of Data of the load's session, and of another
-pub end-is : (e : RtrEndOfData) (r : Receiver) (p : Phase) (kind : LoadKind) (id : ℕ) → p ≡ Phase.Loading kind id → e .«session_id» ≡ id → onEndOfData (stageOf p) e r ≡ record { then = finish e r; updates = 1 }
+pub end-is : (e : RtrEndOfData) (r : Receiver) (p : Phase) (kind : LoadKind) (id : ℕ) → p ≡ Phase.Loading kind id → e .«session_id» ≡ id → endIn (stageOf p) e r ≡ record { then = finish e r; updates = 1 }
 end-is e r p kind id q h =
-    ap (λ (x : Phase). onEndOfData (stageOf x) e r) q
+    ap (λ (x : Phase). endIn (stageOf x) e r) q
     ∙ ap (λ (x : Bool). cond x (record { then = finish e r; updates = 1 }) (noUpdate (stop 15 [] r))) (eq-eqb (e .«session_id») id h)
 
-pub end-other : (e : RtrEndOfData) (r : Receiver) (p : Phase) (kind : LoadKind) (id : ℕ) → p ≡ Phase.Loading kind id → (e .«session_id» ≡ id → ⊥) → onEndOfData (stageOf p) e r ≡ noUpdate (stop 15 [] r)
+pub end-other : (e : RtrEndOfData) (r : Receiver) (p : Phase) (kind : LoadKind) (id : ℕ) → p ≡ Phase.Loading kind id → (e .«session_id» ≡ id → ⊥) → endIn (stageOf p) e r ≡ noUpdate (stop 15 [] r)
 end-other e r p kind id q h =
-    ap (λ (x : Phase). onEndOfData (stageOf x) e r) q
+    ap (λ (x : Phase). endIn (stageOf x) e r) q
     ∙ ap (λ (x : Bool). cond x (record { then = finish e r; updates = 1 }) (noUpdate (stop 15 [] r))) (ne-eqb (e .«session_id») id h)
 
 -- ---- deeds

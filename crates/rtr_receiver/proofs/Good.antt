@@ -1,6 +1,6 @@
 -- Receiver shape on tables: what a receiver's parts have to do with each other, kept by every PDU and every stop. Assumes nothing.
 use Prim.Native.Nat.{ℕ, _≤_}
-use mathlib.Core.Bool.{Bool, true, false, cond}
+use mathlib.Core.Bool.{Bool, true, false, cond, false≢true}
 use mathlib.Core.List.{List, []}
 use mathlib.Core.Logic.{_⊎_, inl, inr}
 use mathlib.Core.Path.{_≡_, refl, sym, ap, _∙_}
@@ -8,20 +8,21 @@ use native.Mathlib.Omega.{arith}
 use borrow.Author.Tests.{le-leb}
 use lib.Dec.{eqb}
 use lib.ListN.{length}
-use Rattle.rtr_models.specs.Codes.{versionNumber}
-use Rattle.rtr_models.specs.Values.{announces}
+use Rattle.rtr_models.specs.Values.{announces, typeOf}
 use Rattle.rtr_models.specs.declared.RtrEndOfData.{RtrEndOfData}
+use Rattle.rtr_models.specs.declared.RtrPduType.{RtrPduType}
 use Rattle.rtr_models.specs.declared.RtrPdu.{RtrPdu}
 use Rattle.rtr_models.specs.declared.RtrPdu.the-variants.{SerialNotify, SerialQuery, ResetQuery, CacheResponse, IPv4Prefix, IPv6Prefix, EndOfData, CacheReset, RouterKey, ErrorReport}
 use Rattle.rtr_codec.proofs.Rules.{LengthsInRule}
 use Rattle.rtr_room.specs.Table.{Change, enter, leave, isTable, inRule, ipv4Record, ipv6Record}
 use Rattle.rtr_room.specs.declared.Record.{Record}
 use Rattle.rtr_room.proofs.Laws.{enter-keeps, leave-keeps, ipv4-in-rule, ipv6-in-rule, empty-table}
-use Rattle.rtr_receiver.specs.Receiver.{Stage, Receiver, Deed, fresh, stop, onSerialNotify, startLoad, onChangeResponse, onCacheResponse, changedTo, onRecord, onRouterKey, onCacheReset, finish, onEndOfData, onKind, onPdu}
+use Rattle.rtr_receiver.specs.Receiver.{Stage, Receiver, Deed, isDue, sessionIn, kindIn, fresh, inStage, stop, onSerialNotify, startLoad, onChangeResponse, onCacheResponse, changedTo, onRecord, finish, onEndOfData, deedOf, onPdu}
 use Rattle.rtr_receiver.specs.Receiver.Stage.{idle, mustReset, askedFull, askedChange, loading, stopped}
 use Rattle.rtr_receiver.specs.History.{hasTable}
 use Rattle.rtr_receiver.specs.declared.LoadKind.{LoadKind}
 use Rattle.rtr_receiver.specs.declared.LiveTable.{LiveTable}
+use Rattle.rtr_receiver.proofs.Turns.{prefixes-alike, pdu-by}
 
 -- a change is under way; a load is; it stopped
 abbrev pub changeIn : Stage → Bool
@@ -69,6 +70,23 @@ calm e (inr b) = inr (b .0, e)
 nothing-loaded : {A : Type 0} (stage : Stage) → loadingIn stage ≡ false → (loadingIn stage ≡ true) ⊎ A → A
 nothing-loaded stage e (inl t) = absurd (let z : true ≡ false = sym t ∙ e in let o : _≡_ {A = ℕ} 0 1 = cc in omega arith)
 nothing-loaded stage e (inr a) = a
+
+-- a prefix is due in a load, a Cache Reset in none
+prefix-loading : (stage : Stage) → isDue RtrPduType.IPv4Prefix stage ≡ true → loadingIn stage ≡ true
+prefix-loading idle due = absurd (false≢true due)
+prefix-loading mustReset due = absurd (false≢true due)
+prefix-loading askedFull due = absurd (false≢true due)
+prefix-loading askedChange due = absurd (false≢true due)
+prefix-loading (loading kind session) due = refl
+prefix-loading (stopped number values) due = absurd (false≢true due)
+
+reset-not-loading : (stage : Stage) → isDue RtrPduType.CacheReset stage ≡ true → loadingIn stage ≡ false
+reset-not-loading idle due = refl
+reset-not-loading mustReset due = refl
+reset-not-loading askedFull due = refl
+reset-not-loading askedChange due = refl
+reset-not-loading (loading kind session) due = absurd (false≢true due)
+reset-not-loading (stopped number values) due = refl
 
 module _ (limit : ℕ) where
   pub fresh-good : (v : _) → Good limit (fresh v)
@@ -131,9 +149,9 @@ module _ (limit : ℕ) where
         quiet = inl refl;
       }
 
-  response-good : (session : ℕ) (r : Receiver) → Good limit r → (stage : Stage) → Good limit (onCacheResponse stage session r)
-  response-good session r g askedFull = full-good session r g
-  response-good session r g askedChange = table (r .table) refl
+  response-good : (session : ℕ) (r : Receiver) → Good limit r → (kind : LoadKind) → Good limit (onCacheResponse kind session r)
+  response-good session r g LoadKind.Full = full-good session r g
+  response-good session r g LoadKind.Change = table (r .table) refl
     where
       table : (t : LiveTable) → r .table ≡ t → Good limit (onChangeResponse t session r)
       table LiveTable.NoTable e = stop-good 15 [] r g
@@ -142,10 +160,6 @@ module _ (limit : ℕ) where
           go : (b : Bool) → Good limit (cond b (startLoad LoadKind.Change session (r .live) r) (stop 15 [] r))
           go true = change-good session r g (ap hasTable e)
           go false = stop-good 15 [] r g
-  response-good session r g idle = stop-good 13 [] r g
-  response-good session r g mustReset = stop-good 13 [] r g
-  response-good session r g (loading kind id) = stop-good 13 [] r g
-  response-good session r g (stopped number values) = stop-good 13 [] r g
 
   -- another working table, in a load
   changed-good : (t : List Record) (r : Receiver) → Good limit r → loadingIn (r .stage) ≡ true → isTable t ≡ true → length t ≤ limit → Good limit (changedTo (Change.changed t) r)
@@ -174,39 +188,21 @@ module _ (limit : ℕ) where
       go (Change.changed t) e = let k = leave-keeps x (r .working) t (g .working) e in changed-good t r g l (k .0) (omega (arith, k .1, g .working-fits))
       go (Change.refused number) e = stop-good number [] r g
 
-  record-good : (announced : Bool) (x : Record) (r : Receiver) → Good limit r → inRule x ≡ true → (stage : Stage) → r .stage ≡ stage → Good limit (onRecord limit stage announced x r)
-  record-good true x r g i (loading kind id) e = enter-good x r g (ap loadingIn e) i
-  record-good false x r g i (loading kind id) e = leave-good x r g (ap loadingIn e)
-  record-good announced x r g i idle e = stop-good 13 [] r g
-  record-good announced x r g i mustReset e = stop-good 13 [] r g
-  record-good announced x r g i askedFull e = stop-good 13 [] r g
-  record-good announced x r g i askedChange e = stop-good 13 [] r g
-  record-good announced x r g i (stopped number values) e = stop-good 13 [] r g
+  record-good : (announced : Bool) (x : Record) (r : Receiver) → Good limit r → inRule x ≡ true → loadingIn (r .stage) ≡ true → Good limit (onRecord limit announced x r)
+  record-good true x r g i l = enter-good x r g l i
+  record-good false x r g i l = leave-good x r g l
 
-  key-good : (r : Receiver) → Good limit r → (stage : Stage) → Good limit (onRouterKey stage r)
-  key-good r g (loading kind id) = g
-  key-good r g idle = stop-good 13 [] r g
-  key-good r g mustReset = stop-good 13 [] r g
-  key-good r g askedFull = stop-good 13 [] r g
-  key-good r g askedChange = stop-good 13 [] r g
-  key-good r g (stopped number values) = stop-good 13 [] r g
-
-  reset-good : (r : Receiver) → Good limit r → (stage : Stage) → r .stage ≡ stage → Good limit (onCacheReset stage r)
-  reset-good r g askedChange e =
+  reset-good : (r : Receiver) → Good limit r → loadingIn (r .stage) ≡ false → Good limit (inStage mustReset r)
+  reset-good r g l =
       record {
         live = g .live;
         live-fits = g .live-fits;
         working = g .working;
         working-fits = g .working-fits;
         tabled = calm refl (g .tabled);
-        emptied = inr (nothing-loaded (r .stage) (ap loadingIn e) (g .emptied));
+        emptied = inr (nothing-loaded (r .stage) l (g .emptied));
         quiet = inl refl;
       }
-  reset-good r g idle e = stop-good 13 [] r g
-  reset-good r g mustReset e = stop-good 13 [] r g
-  reset-good r g askedFull e = stop-good 13 [] r g
-  reset-good r g (loading kind id) e = stop-good 13 [] r g
-  reset-good r g (stopped number values) e = stop-good 13 [] r g
 
   finish-good : (p : RtrEndOfData) (r : Receiver) → Good limit r → Good limit (finish p r)
   finish-good p r g =
@@ -220,55 +216,39 @@ module _ (limit : ℕ) where
         quiet = inl refl;
       }
 
-  end-good : (p : RtrEndOfData) (r : Receiver) → Good limit r → (stage : Stage) → Good limit (onEndOfData stage p r .then) × (onEndOfData stage p r .updates ≤ 1)
-  end-good p r g (loading kind id) = go (eqb (p .«session_id») id)
+  end-good : (p : RtrEndOfData) (r : Receiver) → Good limit r → (session : ℕ) → Good limit (onEndOfData session p r .then) × (onEndOfData session p r .updates ≤ 1)
+  end-good p r g session = go (eqb (p .«session_id») session)
     where
       go : (b : Bool) →
           Good limit (cond {A = Deed} b (record { then = finish p r; updates = 1 }) (record { then = stop 15 [] r; updates = 0 }) .then)
           × (cond {A = Deed} b (record { then = finish p r; updates = 1 }) (record { then = stop 15 [] r; updates = 0 }) .updates ≤ 1)
       go true = (finish-good p r g, omega arith)
       go false = (stop-good 15 [] r g, omega arith)
-  end-good p r g idle = (stop-good 13 [] r g, omega arith)
-  end-good p r g mustReset = (stop-good 13 [] r g, omega arith)
-  end-good p r g askedFull = (stop-good 13 [] r g, omega arith)
-  end-good p r g askedChange = (stop-good 13 [] r g, omega arith)
-  end-good p r g (stopped number values) = (stop-good 13 [] r g, omega arith)
 
-  kind-good : (pdu : RtrPdu) (r : Receiver) → Good limit r → LengthsInRule pdu → Good limit (onKind limit pdu r .then) × (onKind limit pdu r .updates ≤ 1)
-  unfolding onKind
-  kind-good (SerialNotify p) r g l = (note-good _ _ r g, omega arith)
-  kind-good (SerialQuery p) r g l = (stop-good 13 [] r g, omega arith)
-  kind-good (ResetQuery p) r g l = (stop-good 13 [] r g, omega arith)
-  kind-good (CacheResponse p) r g l = (response-good _ r g (r .stage), omega arith)
-  kind-good (IPv4Prefix p) r g l =
+  -- what a PDU does where it is due
+  deed-good : (pdu : RtrPdu) (r : Receiver) → Good limit r → LengthsInRule pdu → isDue (typeOf pdu) (r .stage) ≡ true → Good limit (deedOf limit pdu r .then) × (deedOf limit pdu r .updates ≤ 1)
+  unfolding deedOf
+  deed-good (SerialNotify p) r g l due = (note-good _ _ r g, omega arith)
+  deed-good (SerialQuery p) r g l due = (g, omega arith)
+  deed-good (ResetQuery p) r g l due = (g, omega arith)
+  deed-good (CacheResponse p) r g l due = (response-good _ r g (kindIn (r .stage)), omega arith)
+  deed-good (IPv4Prefix p) r g l due =
       let rule : inRule (ipv4Record (p .«prefix_length») (p .«max_length») (p .prefix) (p .asn)) ≡ true =
       ipv4-in-rule (p .«prefix_length») (p .«max_length») (omega arith) (omega arith) (p .prefix) (p .asn)
       ∙ simp (le-leb (p .«prefix_length») (p .«max_length») (l .0), le-leb (p .«max_length») 32 (l .1)) in
-      (record-good (announces (p .flags)) _ r g rule (r .stage) refl, omega arith)
-  kind-good (IPv6Prefix p) r g l =
+      (record-good (announces (p .flags)) _ r g rule (prefix-loading (r .stage) due), omega arith)
+  deed-good (IPv6Prefix p) r g l due =
       let rule : inRule (ipv6Record (p .«prefix_length») (p .«max_length») (p .prefix .w0) (p .prefix .w1) (p .prefix .w2) (p .prefix .w3) (p .asn)) ≡ true =
       ipv6-in-rule (p .«prefix_length») (p .«max_length») (omega arith) (omega arith) (p .prefix .w0) (p .prefix .w1) (p .prefix .w2) (p .prefix .w3) (p .asn)
       ∙ simp (le-leb (p .«prefix_length») (p .«max_length») (l .0), le-leb (p .«max_length») 128 (l .1)) in
-      (record-good (announces (p .flags)) _ r g rule (r .stage) refl, omega arith)
-  kind-good (EndOfData p) r g l = end-good p r g (r .stage)
-  kind-good (CacheReset p) r g l = (reset-good r g (r .stage) refl, omega arith)
-  kind-good (RouterKey p) r g l = (key-good r g (r .stage), omega arith)
-  kind-good (ErrorReport p) r g l = (stop-good 13 [] r g, omega arith)
-
-  version-good : (b : Bool) (d : Deed) (r : Receiver) → Good limit r → Good limit (d .then) × (d .updates ≤ 1) → Good limit (cond b d (record { then = stop 14 [] r; updates = 0 }) .then) × (cond b d (record { then = stop 14 [] r; updates = 0 }) .updates ≤ 1)
-  version-good true d r g h = h
-  version-good false d r g h = (stop-good 14 [] r g, omega arith)
+      (record-good (announces (p .flags)) _ r g rule (prefix-loading (r .stage) (sym (prefixes-alike (r .stage)) ∙ due)), omega arith)
+  deed-good (EndOfData p) r g l due = end-good p r g (sessionIn (r .stage))
+  deed-good (CacheReset p) r g l due = (reset-good r g (reset-not-loading (r .stage) due), omega arith)
+  deed-good (RouterKey p) r g l due = (g, omega arith)
+  deed-good (ErrorReport p) r g l due = (stop-good 19 _ r g, omega arith)
 
   -- every PDU whose lengths are in rule keeps the shape, and finishes one update at the most
   pub pdu-good : (pdu : RtrPdu) (r : Receiver) → Good limit r → LengthsInRule pdu → Good limit (onPdu limit pdu r .then) × (onPdu limit pdu r .updates ≤ 1)
-  unfolding onPdu
-  pdu-good (ErrorReport p) r g l = (stop-good 19 _ r g, omega arith)
-  pdu-good (SerialNotify p) r g l = version-good (eqb (versionNumber (p .version)) (versionNumber (r .version))) (onKind limit (SerialNotify p) r) r g (kind-good (SerialNotify p) r g l)
-  pdu-good (SerialQuery p) r g l = version-good (eqb (versionNumber (p .version)) (versionNumber (r .version))) (onKind limit (SerialQuery p) r) r g (kind-good (SerialQuery p) r g l)
-  pdu-good (ResetQuery p) r g l = version-good (eqb (versionNumber (p .version)) (versionNumber (r .version))) (onKind limit (ResetQuery p) r) r g (kind-good (ResetQuery p) r g l)
-  pdu-good (CacheResponse p) r g l = version-good (eqb (versionNumber (p .version)) (versionNumber (r .version))) (onKind limit (CacheResponse p) r) r g (kind-good (CacheResponse p) r g l)
-  pdu-good (IPv4Prefix p) r g l = version-good (eqb (versionNumber (p .version)) (versionNumber (r .version))) (onKind limit (IPv4Prefix p) r) r g (kind-good (IPv4Prefix p) r g l)
-  pdu-good (IPv6Prefix p) r g l = version-good (eqb (versionNumber (p .version)) (versionNumber (r .version))) (onKind limit (IPv6Prefix p) r) r g (kind-good (IPv6Prefix p) r g l)
-  pdu-good (EndOfData p) r g l = version-good (eqb (versionNumber (p .version)) (versionNumber (r .version))) (onKind limit (EndOfData p) r) r g (kind-good (EndOfData p) r g l)
-  pdu-good (CacheReset p) r g l = version-good (eqb (versionNumber (p .version)) (versionNumber (r .version))) (onKind limit (CacheReset p) r) r g (kind-good (CacheReset p) r g l)
-  pdu-good (RouterKey p) r g l = version-good (eqb (versionNumber (p .version)) (versionNumber (r .version))) (onKind limit (RouterKey p) r) r g (kind-good (RouterKey p) r g l)
+  pdu-good pdu r g l =
+      pdu-by limit r (λ d. Good limit (d .then) × (d .updates ≤ 1)) pdu (λ _ x. (stop-good 19 x r g, omega arith)) (λ _. (stop-good 14 [] r g, omega arith)) (λ _. (stop-good 13 [] r g, omega arith))
+      (λ _ due. deed-good pdu r g l due)

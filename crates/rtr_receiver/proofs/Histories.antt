@@ -2,24 +2,26 @@
 -- update exactly where the page finishes one (`Follows`). So each byte, ask and reconnect leads from receiver and place to receiver and place (`Leads`): the updates that finish between make the new live table, are
 -- as many as a feed counts (`Counts`), and come before those still to come. Assumes nothing.
 use Prim.Native.Nat.{ℕ, _+_}
-use mathlib.Core.Bool.{Bool, true, false, cond}
+use mathlib.Core.Bool.{Bool, true, false, cond, _&&_, false≢true}
 use mathlib.Core.List.{List, [], _∷_, _++_, append-assoc, append-nil}
 use mathlib.Core.Path.{_≡_, refl, sym, ap, _∙_, subst}
 use native.Mathlib.Omega.{arith}
 use lib.Dec.{eqb, leb}
 use lib.ListN.{length, length-append}
+use Rattle.rtr_models.specs.Values.{announces, typeOf}
 use Rattle.rtr_models.specs.declared.RtrProtocolVersion.{RtrProtocolVersion}
 use Rattle.rtr_models.specs.declared.RtrEndOfData.{RtrEndOfData}
+use Rattle.rtr_models.specs.declared.RtrPduType.{RtrPduType}
 use Rattle.rtr_models.specs.declared.RtrPdu.{RtrPdu}
 use Rattle.rtr_models.specs.declared.RtrPdu.the-variants.{SerialNotify, SerialQuery, ResetQuery, CacheResponse, IPv4Prefix, IPv6Prefix, EndOfData, CacheReset, RouterKey, ErrorReport}
 use Rattle.rtr_codec.specs.Reading.{inUse}
 use Rattle.rtr_encode.specs.Encode.{Writing, encode}
 use Rattle.rtr_encode.proofs.Laws.{reset-query-says, serial-query-says}
 use Rattle.rtr_stream.specs.Stream.{Heard, judge}
-use Rattle.rtr_room.specs.Table.{Change, enter, leave}
+use Rattle.rtr_room.specs.Table.{Change, enter, leave, ipv4Record, ipv6Record}
 use Rattle.rtr_room.specs.declared.Record.{Record}
-use Rattle.rtr_receiver.specs.Receiver.{Stage, Receiver, Deed, Feed, noUpdate, holding, stop, startLoad, onChangeResponse, onCacheResponse, changedTo, onRecord, onRouterKey, onCacheReset, finish, onEndOfData, onKind, onPdu, heard, listens, onByte, onPiece, inStage, Query, resetQuery, fullQuery, serialQuery, changeQuery, askedBy, ask, reconnected}
-use Rattle.rtr_receiver.specs.History.{Event, Changed, Update, Live, Item, Place, Next, applied, kept, withAll, base, updated, withUpdates, itemsBy, items, onAsk, ofSession, onResponse, takenIn, onPrefix, onKey, onReset, endSays, onEnd, onTold, ofVersion, onPduAt, onItem, orFinished, updates}
+use Rattle.rtr_receiver.specs.Receiver.{Stage, Receiver, Deed, Feed, isDue, kindIn, sessionIn, noUpdate, holding, stop, startLoad, onChangeResponse, onCacheResponse, changedTo, onRecord, finish, onEndOfData, deedOf, onPdu, heard, listens, onByte, onPiece, inStage, Query, resetQuery, fullQuery, serialQuery, changeQuery, askedBy, ask, reconnected}
+use Rattle.rtr_receiver.specs.History.{Event, Changed, Update, Live, Item, Place, Next, applied, kept, withAll, base, updated, withUpdates, itemsBy, items, onAsk, ofSession, isDueAt, kindAt, onResponse, takenIn, onPrefix, endSays, onEnd, onTold, ofVersion, onItem, orFinished, updates}
 use Rattle.rtr_receiver.specs.History.Next.{goes, finishes}
 use Rattle.rtr_receiver.specs.Runs.{bytes}
 use Rattle.rtr_receiver.specs.declared.LoadKind.{LoadKind}
@@ -27,6 +29,7 @@ use Rattle.rtr_receiver.specs.declared.Table.{Table}
 use Rattle.rtr_receiver.specs.declared.LiveTable.{LiveTable}
 use Rattle.rtr_receiver.proofs.Feeds.{from}
 use Rattle.rtr_receiver.proofs.Kept.{pdu-keeps, told-drops}
+use Rattle.rtr_receiver.proofs.Turns.{pdu-by}
 
 -- the live table of a receiver
 abbrev pub liveOf : Receiver → Live
@@ -56,24 +59,29 @@ module _ (limit H : ℕ) where
   stopped-lost : (number : ℕ) (values : List ℕ) (r : Receiver) → Follows r (noUpdate (stop number values r)) (goes Place.lost)
   stopped-lost number values r = onward (at-lost refl) refl refl
 
-  -- what is out of turn in a phase
-  out-of-turn : (r : Receiver) (deed : Stage → Deed) (s : Stage) → r .stage ≡ s → deed s ≡ noUpdate (stop 13 [] r) → Follows r (deed (r .stage)) (goes Place.lost)
-  out-of-turn r deed s e q = subst (λ (d : Deed). Follows r d (goes Place.lost)) (sym (ap deed e ∙ q)) (stopped-lost 13 [] r)
-
   never : (r : Receiver) {A : Type 0} → listens (r .stage) ≡ true → listens (r .stage) ≡ false → A
   never r on off = absurd (let z : true ≡ false = sym on ∙ off in let o : _≡_ {A = ℕ} 0 1 = cc in omega arith)
 
   -- ---- PDUs, by what they are
 
-  response-follows : (session : ℕ) (r : Receiver) (p : Place) → listens (r .stage) ≡ true → At r p → Follows r (noUpdate (onCacheResponse (r .stage) session r)) (goes (onResponse (r .table) p session))
+  -- the two tables of turns agree
+  due-alike : (type : RtrPduType) (r : Receiver) (p : Place) → listens (r .stage) ≡ true → At r p → isDue type (r .stage) ≡ isDueAt type p
+  due-alike type r Place.idle on (at-idle e) = ap (isDue type) e
+  due-alike type r Place.mustReset on (at-reset e) = ap (isDue type) e
+  due-alike type r (Place.asked LoadKind.Full) on (at-full e) = ap (isDue type) e
+  due-alike type r (Place.asked LoadKind.Change) on (at-change e) = ap (isDue type) e
+  due-alike type r (Place.loading kind session cs) on (at-load e w) = ap (isDue type) e
+  due-alike type r Place.lost on (at-lost e) = never r on e
+
+  response-follows : (session : ℕ) (r : Receiver) (p : Place) → isDueAt RtrPduType.CacheResponse p ≡ true → At r p → Follows r (noUpdate (onCacheResponse (kindIn (r .stage)) session r)) (goes (onResponse (r .table) (kindAt p) session))
   unfolding withAll
-  response-follows session r Place.idle on (at-idle e) = out-of-turn r (λ s. noUpdate (onCacheResponse s session r)) _ e refl
-  response-follows session r Place.mustReset on (at-reset e) = out-of-turn r (λ s. noUpdate (onCacheResponse s session r)) _ e refl
-  response-follows session r (Place.loading kind id cs) on (at-load e w) = out-of-turn r (λ s. noUpdate (onCacheResponse s session r)) _ e refl
-  response-follows session r (Place.asked LoadKind.Full) on (at-full e) =
-      subst (λ (s : Stage). Follows r (noUpdate (onCacheResponse s session r)) (goes (Place.loading LoadKind.Full session []))) (sym e) (onward (at-load refl refl) refl refl)
-  response-follows session r (Place.asked LoadKind.Change) on (at-change e) =
-      subst (λ (s : Stage). Follows r (noUpdate (onCacheResponse s session r)) (goes (cond (ofSession (r .table) session) (Place.loading LoadKind.Change session []) Place.lost))) (sym e) (table (r .table) refl)
+  response-follows session r Place.idle due a = absurd (false≢true due)
+  response-follows session r Place.mustReset due a = absurd (false≢true due)
+  response-follows session r (Place.loading kind id cs) due a = absurd (false≢true due)
+  response-follows session r (Place.asked LoadKind.Full) due (at-full e) =
+      subst (λ (s : Stage). Follows r (noUpdate (onCacheResponse (kindIn s) session r)) (goes (Place.loading LoadKind.Full session []))) (sym e) (onward (at-load refl refl) refl refl)
+  response-follows session r (Place.asked LoadKind.Change) due (at-change e) =
+      subst (λ (s : Stage). Follows r (noUpdate (onCacheResponse (kindIn s) session r)) (goes (cond (ofSession (r .table) session) (Place.loading LoadKind.Change session []) Place.lost))) (sym e) (table (r .table) refl)
     where
       table : (t : LiveTable) → r .table ≡ t → Follows r (noUpdate (onChangeResponse t session r)) (goes (cond (ofSession t session) (Place.loading LoadKind.Change session []) Place.lost))
       table LiveTable.NoTable q = stopped-lost 15 [] r
@@ -82,7 +90,7 @@ module _ (limit H : ℕ) where
           go : (b : Bool) → Follows r (noUpdate (cond b (startLoad LoadKind.Change session (r .live) r) (stop 15 [] r))) (goes (cond b (Place.loading LoadKind.Change session []) Place.lost))
           go true = onward (at-load refl refl) refl refl
           go false = stopped-lost 15 [] r
-  response-follows session r Place.lost on (at-lost e) = never r on e
+  response-follows session r Place.lost due a = absurd (false≢true due)
 
   -- a record in a load
   record-taken : (announced : Bool) (x : Record) (r : Receiver) (kind : LoadKind) (session : ℕ) (cs : List Changed) (c : Change) →
@@ -93,51 +101,42 @@ module _ (limit H : ℕ) where
       onward (at-load e (sym (with-one-more limit cs (base kind (r .live)) (record { announced = announced; what = x }) ∙ ap (kept (withAll limit (base kind (r .live)) cs)) q))) refl refl
   record-taken announced x r kind session cs (Change.refused number) e q = stopped-lost number [] r
 
-  record-follows : (announced : Bool) (x : Record) (r : Receiver) (p : Place) → listens (r .stage) ≡ true → At r p → Follows r (noUpdate (onRecord limit (r .stage) announced x r)) (goes (onPrefix limit (r .live) p announced x))
-  record-follows announced x r Place.idle on (at-idle e) = out-of-turn r (λ s. noUpdate (onRecord limit s announced x r)) _ e refl
-  record-follows announced x r Place.mustReset on (at-reset e) = out-of-turn r (λ s. noUpdate (onRecord limit s announced x r)) _ e refl
-  record-follows announced x r (Place.asked LoadKind.Full) on (at-full e) = out-of-turn r (λ s. noUpdate (onRecord limit s announced x r)) _ e refl
-  record-follows announced x r (Place.asked LoadKind.Change) on (at-change e) = out-of-turn r (λ s. noUpdate (onRecord limit s announced x r)) _ e refl
-  record-follows true x r (Place.loading kind session cs) on (at-load e w) =
-      subst (λ (s : Stage). Follows r (noUpdate (onRecord limit s true x r)) (goes (onPrefix limit (r .live) (Place.loading kind session cs) true x))) (sym e)
-      (subst (λ (t : List Record). Follows r (noUpdate (changedTo (enter limit x t) r)) (goes (onPrefix limit (r .live) (Place.loading kind session cs) true x))) (sym w)
-      (record-taken true x r kind session cs (enter limit x (withAll limit (base kind (r .live)) cs)) e refl))
-  record-follows false x r (Place.loading kind session cs) on (at-load e w) =
-      subst (λ (s : Stage). Follows r (noUpdate (onRecord limit s false x r)) (goes (onPrefix limit (r .live) (Place.loading kind session cs) false x))) (sym e)
-      (subst (λ (t : List Record). Follows r (noUpdate (changedTo (leave x t) r)) (goes (onPrefix limit (r .live) (Place.loading kind session cs) false x))) (sym w)
-      (record-taken false x r kind session cs (leave x (withAll limit (base kind (r .live)) cs)) e refl))
-  record-follows announced x r Place.lost on (at-lost e) = never r on e
+  record-follows : (announced : Bool) (x : Record) (r : Receiver) (p : Place) → isDueAt RtrPduType.IPv4Prefix p ≡ true → At r p → Follows r (noUpdate (onRecord limit announced x r)) (goes (onPrefix limit (r .live) p announced x))
+  record-follows announced x r Place.idle due a = absurd (false≢true due)
+  record-follows announced x r Place.mustReset due a = absurd (false≢true due)
+  record-follows announced x r (Place.asked LoadKind.Full) due a = absurd (false≢true due)
+  record-follows announced x r (Place.asked LoadKind.Change) due a = absurd (false≢true due)
+  record-follows true x r (Place.loading kind session cs) due (at-load e w) =
+      subst (λ (t : List Record). Follows r (noUpdate (changedTo (enter limit x t) r)) (goes (onPrefix limit (r .live) (Place.loading kind session cs) true x))) (sym w)
+      (record-taken true x r kind session cs (enter limit x (withAll limit (base kind (r .live)) cs)) e refl)
+  record-follows false x r (Place.loading kind session cs) due (at-load e w) =
+      subst (λ (t : List Record). Follows r (noUpdate (changedTo (leave x t) r)) (goes (onPrefix limit (r .live) (Place.loading kind session cs) false x))) (sym w)
+      (record-taken false x r kind session cs (leave x (withAll limit (base kind (r .live)) cs)) e refl)
+  record-follows announced x r Place.lost due a = absurd (false≢true due)
 
-  key-follows : (r : Receiver) (p : Place) → listens (r .stage) ≡ true → At r p → Follows r (noUpdate (onRouterKey (r .stage) r)) (goes (onKey p))
-  key-follows r Place.idle on (at-idle e) = out-of-turn r (λ s. noUpdate (onRouterKey s r)) _ e refl
-  key-follows r Place.mustReset on (at-reset e) = out-of-turn r (λ s. noUpdate (onRouterKey s r)) _ e refl
-  key-follows r (Place.asked LoadKind.Full) on (at-full e) = out-of-turn r (λ s. noUpdate (onRouterKey s r)) _ e refl
-  key-follows r (Place.asked LoadKind.Change) on (at-change e) = out-of-turn r (λ s. noUpdate (onRouterKey s r)) _ e refl
-  key-follows r (Place.loading kind session cs) on (at-load e w) = subst (λ (s : Stage). Follows r (noUpdate (onRouterKey s r)) (goes (Place.loading kind session cs))) (sym e) (onward (at-load e w) refl refl)
-  key-follows r Place.lost on (at-lost e) = never r on e
+  -- prefixes of both families are due at the same places
+  prefixes-alike : (p : Place) → isDueAt RtrPduType.IPv6Prefix p ≡ isDueAt RtrPduType.IPv4Prefix p
+  prefixes-alike Place.idle = refl
+  prefixes-alike Place.mustReset = refl
+  prefixes-alike (Place.asked LoadKind.Full) = refl
+  prefixes-alike (Place.asked LoadKind.Change) = refl
+  prefixes-alike (Place.loading kind session cs) = refl
+  prefixes-alike Place.lost = refl
 
-  reset-follows : (r : Receiver) (p : Place) → listens (r .stage) ≡ true → At r p → Follows r (noUpdate (onCacheReset (r .stage) r)) (goes (onReset p))
-  reset-follows r Place.idle on (at-idle e) = out-of-turn r (λ s. noUpdate (onCacheReset s r)) _ e refl
-  reset-follows r Place.mustReset on (at-reset e) = out-of-turn r (λ s. noUpdate (onCacheReset s r)) _ e refl
-  reset-follows r (Place.asked LoadKind.Full) on (at-full e) = out-of-turn r (λ s. noUpdate (onCacheReset s r)) _ e refl
-  reset-follows r (Place.asked LoadKind.Change) on (at-change e) = subst (λ (s : Stage). Follows r (noUpdate (onCacheReset s r)) (goes Place.mustReset)) (sym e) (onward (at-reset refl) refl refl)
-  reset-follows r (Place.loading kind session cs) on (at-load e w) = out-of-turn r (λ s. noUpdate (onCacheReset s r)) _ e refl
-  reset-follows r Place.lost on (at-lost e) = never r on e
-
-  end-follows : (q : RtrEndOfData) (r : Receiver) (p : Place) → listens (r .stage) ≡ true → At r p → Follows r (onEndOfData (r .stage) q r) (onEnd p (q .«session_id») (endSays q))
-  end-follows q r Place.idle on (at-idle e) = out-of-turn r (λ s. onEndOfData s q r) _ e refl
-  end-follows q r Place.mustReset on (at-reset e) = out-of-turn r (λ s. onEndOfData s q r) _ e refl
-  end-follows q r (Place.asked LoadKind.Full) on (at-full e) = out-of-turn r (λ s. onEndOfData s q r) _ e refl
-  end-follows q r (Place.asked LoadKind.Change) on (at-change e) = out-of-turn r (λ s. onEndOfData s q r) _ e refl
-  end-follows q r (Place.loading kind session cs) on (at-load e w) =
-      subst (λ (s : Stage). Follows r (onEndOfData s q r) (onEnd (Place.loading kind session cs) (q .«session_id») (endSays q))) (sym e) (go (eqb (q .«session_id») session))
+  end-follows : (q : RtrEndOfData) (r : Receiver) (p : Place) → isDueAt RtrPduType.EndOfData p ≡ true → At r p → Follows r (onEndOfData (sessionIn (r .stage)) q r) (onEnd p (q .«session_id») (endSays q))
+  end-follows q r Place.idle due a = absurd (false≢true due)
+  end-follows q r Place.mustReset due a = absurd (false≢true due)
+  end-follows q r (Place.asked LoadKind.Full) due a = absurd (false≢true due)
+  end-follows q r (Place.asked LoadKind.Change) due a = absurd (false≢true due)
+  end-follows q r (Place.loading kind session cs) due (at-load e w) =
+      subst (λ (s : Stage). Follows r (onEndOfData (sessionIn s) q r) (onEnd (Place.loading kind session cs) (q .«session_id») (endSays q))) (sym e) (go (eqb (q .«session_id») session))
     where
       go : (b : Bool) →
           Follows r (cond b (record { then = finish q r; updates = 1 }) (noUpdate (stop 15 [] r)))
           (cond b (finishes (record { kind = kind; records = cs; end = endSays q })) (goes Place.lost))
       go true = done refl (λ i. record { info = LiveTable.Known (endSays q); records = w i }) refl
       go false = stopped-lost 15 [] r
-  end-follows q r Place.lost on (at-lost e) = never r on e
+  end-follows q r Place.lost due a = absurd (false≢true due)
 
   -- a receiver that keeps its phase and tables stays where it is
   stays : (r r′ : Receiver) (p : Place) → r′ .stage ≡ r .stage → r′ .working ≡ r .working → r′ .live ≡ r .live → At r p → At r′ p
@@ -148,51 +147,44 @@ module _ (limit H : ℕ) where
   stays r r′ (Place.loading kind session cs) s w l (at-load e q) = at-load (s ∙ e) (w ∙ q ∙ ap (λ (t : List Record). withAll limit (base kind t) cs) (sym l))
   stays r r′ Place.lost s w l (at-lost e) = at-lost (ap listens s ∙ e)
 
-  kind-follows : (pdu : RtrPdu) (r : Receiver) (p : Place) → listens (r .stage) ≡ true → At r p → Follows r (onKind limit pdu r) (onTold limit (liveOf r) p pdu)
-  unfolding onKind
-  kind-follows (SerialNotify q) r p on a = onward (stays r _ p refl refl refl a) refl refl
-  kind-follows (SerialQuery q) r p on a = stopped-lost 13 [] r
-  kind-follows (ResetQuery q) r p on a = stopped-lost 13 [] r
-  kind-follows (CacheResponse q) r p on a = response-follows _ r p on a
-  kind-follows (IPv4Prefix q) r p on a = record-follows _ _ r p on a
-  kind-follows (IPv6Prefix q) r p on a = record-follows _ _ r p on a
-  kind-follows (EndOfData q) r p on a = end-follows q r p on a
-  kind-follows (CacheReset q) r p on a = reset-follows r p on a
-  kind-follows (RouterKey q) r p on a = key-follows r p on a
-  kind-follows (ErrorReport q) r p on a = stopped-lost 13 [] r
+  -- what a PDU does where it is due
+  deed-follows : (pdu : RtrPdu) (r : Receiver) (p : Place) → isDueAt (typeOf pdu) p ≡ true → At r p → Follows r (deedOf limit pdu r) (onTold limit (liveOf r) p pdu)
+  unfolding deedOf
+  deed-follows (SerialNotify q) r p due a = onward (stays r _ p refl refl refl a) refl refl
+  deed-follows (SerialQuery q) r p due a = onward a refl refl
+  deed-follows (ResetQuery q) r p due a = onward a refl refl
+  deed-follows (CacheResponse q) r p due a = response-follows _ r p due a
+  deed-follows (IPv4Prefix q) r p due a = record-follows (announces (q .flags)) (ipv4Record (q .«prefix_length») (q .«max_length») (q .prefix) (q .asn)) r p due a
+  deed-follows (IPv6Prefix q) r p due a =
+      record-follows (announces (q .flags)) (ipv6Record (q .«prefix_length») (q .«max_length») (q .prefix .w0) (q .prefix .w1) (q .prefix .w2) (q .prefix .w3) (q .asn)) r p (sym (prefixes-alike p) ∙ due) a
+  deed-follows (EndOfData q) r p due a = end-follows q r p due a
+  deed-follows (CacheReset q) r p due a = onward (at-reset refl) refl refl
+  deed-follows (RouterKey q) r p due a = onward a refl refl
+  deed-follows (ErrorReport q) r p due a = stopped-lost 19 _ r
 
-  -- the version, before what it is
-  version-follows : (b : Bool) (d : Deed) (n : Next) (r : Receiver) → Follows r d n → Follows r (cond b d (noUpdate (stop 14 [] r))) (cond b n (goes Place.lost))
-  version-follows true d n r f = f
-  version-follows false d n r f = stopped-lost 14 [] r
+  -- a stop, where the tests of the page say that the connection is lost
+  not-due-lost : (due version : Bool) (k : ℕ) (x : List ℕ) (n : Next) (r : Receiver) → due ≡ false → Follows r (noUpdate (stop k x r)) (cond (due && version) n (goes Place.lost))
+  not-due-lost due version k x n r e = subst (λ (b : Bool). Follows r (noUpdate (stop k x r)) (cond (b && version) n (goes Place.lost))) (sym e) (stopped-lost k x r)
 
-  report-follows : (b : Bool) (k : ℕ) (x : List ℕ) (r : Receiver) → Follows r (noUpdate (stop k x r)) (cond b (goes Place.lost) (goes Place.lost))
-  report-follows true k x r = stopped-lost k x r
-  report-follows false k x r = stopped-lost k x r
+  other-version-lost : (due version : Bool) (n : Next) (r : Receiver) → version ≡ false → Follows r (noUpdate (stop 14 [] r)) (cond (due && version) n (goes Place.lost))
+  other-version-lost true version n r e = subst (λ (b : Bool). Follows r (noUpdate (stop 14 [] r)) (cond b n (goes Place.lost))) (sym e) (stopped-lost 14 [] r)
+  other-version-lost false version n r e = stopped-lost 14 [] r
 
-  told-follows : (pdu : RtrPdu) (r : Receiver) (p : Place) → listens (r .stage) ≡ true → At r p → Follows r (onPdu limit pdu r) (cond (ofVersion (r .version) pdu) (onTold limit (liveOf r) p pdu) (goes Place.lost))
-  unfolding onPdu
-  told-follows (ErrorReport q) r p on a = report-follows (ofVersion (r .version) (ErrorReport q)) _ _ r
-  told-follows (SerialNotify q) r p on a = version-follows (ofVersion (r .version) (SerialNotify q)) (onKind limit (SerialNotify q) r) _ r (kind-follows (SerialNotify q) r p on a)
-  told-follows (SerialQuery q) r p on a = version-follows (ofVersion (r .version) (SerialQuery q)) (onKind limit (SerialQuery q) r) _ r (kind-follows (SerialQuery q) r p on a)
-  told-follows (ResetQuery q) r p on a = version-follows (ofVersion (r .version) (ResetQuery q)) (onKind limit (ResetQuery q) r) _ r (kind-follows (ResetQuery q) r p on a)
-  told-follows (CacheResponse q) r p on a = version-follows (ofVersion (r .version) (CacheResponse q)) (onKind limit (CacheResponse q) r) _ r (kind-follows (CacheResponse q) r p on a)
-  told-follows (IPv4Prefix q) r p on a = version-follows (ofVersion (r .version) (IPv4Prefix q)) (onKind limit (IPv4Prefix q) r) _ r (kind-follows (IPv4Prefix q) r p on a)
-  told-follows (IPv6Prefix q) r p on a = version-follows (ofVersion (r .version) (IPv6Prefix q)) (onKind limit (IPv6Prefix q) r) _ r (kind-follows (IPv6Prefix q) r p on a)
-  told-follows (EndOfData q) r p on a = version-follows (ofVersion (r .version) (EndOfData q)) (onKind limit (EndOfData q) r) _ r (kind-follows (EndOfData q) r p on a)
-  told-follows (CacheReset q) r p on a = version-follows (ofVersion (r .version) (CacheReset q)) (onKind limit (CacheReset q) r) _ r (kind-follows (CacheReset q) r p on a)
-  told-follows (RouterKey q) r p on a = version-follows (ofVersion (r .version) (RouterKey q)) (onKind limit (RouterKey q) r) _ r (kind-follows (RouterKey q) r p on a)
-
-  -- where a receiver listens the connection is not lost
-  listening : (r : Receiver) (p : Place) → listens (r .stage) ≡ true → At r p → (pdu : RtrPdu) → onPduAt limit (r .version) (liveOf r) p pdu ≡ cond (ofVersion (r .version) pdu) (onTold limit (liveOf r) p pdu) (goes Place.lost)
-  listening r Place.idle on a pdu = refl
-  listening r Place.mustReset on a pdu = refl
-  listening r (Place.asked kind) on a pdu = refl
-  listening r (Place.loading kind session cs) on a pdu = refl
-  listening r Place.lost on (at-lost e) pdu = never r on e
+  due-goes : (due version : Bool) (d : Deed) (n : Next) (r : Receiver) → due ≡ true → version ≡ true → Follows r d n → Follows r d (cond (due && version) n (goes Place.lost))
+  due-goes due version d n r e q f =
+      subst (λ (b : Bool). Follows r d (cond (b && version) n (goes Place.lost))) (sym e) (subst (λ (b : Bool). Follows r d (cond b n (goes Place.lost))) (sym q) f)
 
   pdu-follows : (pdu : RtrPdu) (r : Receiver) (p : Place) → listens (r .stage) ≡ true → At r p → Follows r (onPdu limit pdu r) (onItem limit (r .version) (liveOf r) p (Item.told pdu))
-  pdu-follows pdu r p on a = subst (Follows r (onPdu limit pdu r)) (sym (listening r p on a pdu)) (told-follows pdu r p on a)
+  pdu-follows pdu r p on a =
+      let alike : isDueAt (typeOf pdu) p ≡ isDue (typeOf pdu) (r .stage) = sym (due-alike (typeOf pdu) r p on a) in
+      let due = isDueAt (typeOf pdu) p in
+      let version = ofVersion (r .version) pdu in
+      let n = onTold limit (liveOf r) p pdu in
+      pdu-by limit r (λ d. Follows r d (onItem limit (r .version) (liveOf r) p (Item.told pdu))) pdu
+      (λ e x. not-due-lost due version 19 x n r (alike ∙ e))
+      (λ e. other-version-lost due version n r e)
+      (λ e. not-due-lost due version 13 [] n r (alike ∙ e))
+      (λ q e. due-goes due version (deedOf limit pdu r) n r (alike ∙ e) q (deed-follows pdu r p (alike ∙ e) a))
 
   -- ---- What is still to come
 

@@ -1,7 +1,7 @@
 -- What every PDU keeps, whatever the receiver: its version for life; an empty hold; a stop is by 13 to 19; and the one update that a phase can still give in a feed is given once, since a load begins
 -- by an ask alone. From there what a feed keeps: bytes are taken one by one, a stop takes those up to the one that made it, one update finishes at the most. Assumes nothing.
 use Prim.Native.Nat.{ℕ, suc, _+_, _≤_, _<_}
-use mathlib.Core.Bool.{Bool, true, false, cond, _&&_, _||_}
+use mathlib.Core.Bool.{Bool, true, false, cond, _&&_, _||_, false≢true}
 use mathlib.Core.List.{List, [], _∷_, _++_}
 use mathlib.Core.Logic.{_⊎_, inl, inr}
 use mathlib.Core.Path.{_≡_, refl, sym, ap, _∙_, subst}
@@ -9,9 +9,9 @@ use native.Mathlib.Omega.{arith}
 use borrow.Author.Tests.{le-leb}
 use lib.Dec.{eqb, leb}
 use lib.ListN.{length, take}
-use Rattle.rtr_models.specs.Codes.{versionNumber}
-use Rattle.rtr_models.specs.Values.{announces}
+use Rattle.rtr_models.specs.Values.{announces, typeOf}
 use Rattle.rtr_models.specs.declared.RtrEndOfData.{RtrEndOfData}
+use Rattle.rtr_models.specs.declared.RtrPduType.{RtrPduType}
 use Rattle.rtr_models.specs.declared.RtrPdu.{RtrPdu}
 use Rattle.rtr_models.specs.declared.RtrPdu.the-variants.{SerialNotify, SerialQuery, ResetQuery, CacheResponse, IPv4Prefix, IPv6Prefix, EndOfData, CacheReset, RouterKey, ErrorReport}
 use Rattle.rtr_codec.specs.Reading.{inUse}
@@ -20,11 +20,12 @@ use Rattle.rtr_stream.proofs.Laws.{stop-numbers}
 use Rattle.rtr_room.specs.Table.{Change, enter, leave}
 use Rattle.rtr_room.specs.declared.Record.{Record}
 use Rattle.rtr_room.proofs.Laws.{enter-refuses, leave-refuses}
-use Rattle.rtr_receiver.specs.Receiver.{Stage, Receiver, Deed, Feed, holding, stop, noUpdate, onChangeResponse, onCacheResponse, changedTo, onRecord, onRouterKey, onCacheReset, finish, onEndOfData, onKind, onPdu, heard, listens, onByte, onPiece}
+use Rattle.rtr_receiver.specs.Receiver.{Stage, Receiver, Deed, Feed, isDue, kindIn, sessionIn, holding, stop, noUpdate, onChangeResponse, onCacheResponse, changedTo, onRecord, finish, onEndOfData, deedOf, onPdu, heard, listens, onByte, onPiece}
 use Rattle.rtr_receiver.specs.Receiver.Stage.{idle, mustReset, askedFull, askedChange, loading, stopped}
 use Rattle.rtr_receiver.specs.declared.LoadKind.{LoadKind}
 use Rattle.rtr_receiver.specs.declared.LiveTable.{LiveTable}
 use Rattle.rtr_receiver.proofs.Feeds.{stopped-takes-none}
+use Rattle.rtr_receiver.proofs.Turns.{pdu-by}
 
 -- how many updates a phase can still give before the next ask
 abbrev pub toCome : Stage → ℕ
@@ -72,25 +73,36 @@ same-keeps r r′ v h s =
     let c : toCome (r′ .stage) ≡ toCome (r .stage) = ap toCome s in
     record { version = v; held = λ e. h ∙ e; spends = omega arith; rightly = λ e. ap stopsRightly s ∙ e; clears = λ on off. listens-still (r .stage) (r′ .stage) s on off }
 
-response-keeps : (session : ℕ) (r : Receiver) (stage : Stage) → r .stage ≡ stage → Keeps r (noUpdate (onCacheResponse stage session r))
-response-keeps session r askedFull e =
-    let c : toCome (r .stage) ≡ 1 = ap toCome e in
+-- an answer is due where its update is still to come
+response-to-come : (stage : Stage) → isDue RtrPduType.CacheResponse stage ≡ true → toCome stage ≡ 1
+response-to-come idle due = absurd (false≢true due)
+response-to-come mustReset due = absurd (false≢true due)
+response-to-come askedFull due = refl
+response-to-come askedChange due = refl
+response-to-come (loading kind session) due = refl
+response-to-come (stopped number values) due = absurd (false≢true due)
+
+end-to-come : (stage : Stage) → isDue RtrPduType.EndOfData stage ≡ true → toCome stage ≡ 1
+end-to-come idle due = absurd (false≢true due)
+end-to-come mustReset due = absurd (false≢true due)
+end-to-come askedFull due = refl
+end-to-come askedChange due = refl
+end-to-come (loading kind session) due = refl
+end-to-come (stopped number values) due = absurd (false≢true due)
+
+response-keeps : (session : ℕ) (r : Receiver) (kind : LoadKind) → toCome (r .stage) ≡ 1 → Keeps r (noUpdate (onCacheResponse kind session r))
+response-keeps session r LoadKind.Full c =
     record { version = refl; held = λ h. h; spends = omega arith; rightly = λ _. refl; clears = λ on off. absurd (let z : _≡_ {A = ℕ} 0 1 = cc in omega arith) }
-response-keeps session r askedChange e = table (r .table)
+response-keeps session r LoadKind.Change c = table (r .table)
   where
     go : (b : Bool) → Keeps r (noUpdate (cond b (record { version = r .version; stage = loading LoadKind.Change session; table = r .table; note = r .note; live = r .live; working = r .live; held = r .held }) (stop 15 [] r)))
     go true =
-        let c : toCome (r .stage) ≡ 1 = ap toCome e in
         record { version = refl; held = λ h. h; spends = omega arith; rightly = λ _. refl; clears = λ on off. absurd (let z : _≡_ {A = ℕ} 0 1 = cc in omega arith) }
     go false = stop-keeps 15 [] r refl
 
     table : (t : LiveTable) → Keeps r (noUpdate (onChangeResponse t session r))
     table LiveTable.NoTable = stop-keeps 15 [] r refl
     table (LiveTable.Known t) = go (eqb session (t .session))
-response-keeps session r idle e = stop-keeps 13 [] r refl
-response-keeps session r mustReset e = stop-keeps 13 [] r refl
-response-keeps session r (loading kind id) e = stop-keeps 13 [] r refl
-response-keeps session r (stopped k x) e = stop-keeps 13 [] r refl
 
 module _ (limit : ℕ) where
   changed-keeps : (c : Change) (r : Receiver) → ((n : ℕ) → c ≡ Change.refused n → isStop n ≡ true) → Keeps r (noUpdate (changedTo c r))
@@ -104,74 +116,35 @@ module _ (limit : ℕ) where
       go (inl q) = ap isStop q
       go (inr q) = ap isStop q
 
-  record-keeps : (announced : Bool) (record₀ : Record) (r : Receiver) (stage : Stage) → Keeps r (noUpdate (onRecord limit stage announced record₀ r))
-  record-keeps true record₀ r (loading kind id) = changed-keeps (enter limit record₀ (r .working)) r (entering record₀ (r .working))
-  record-keeps false record₀ r (loading kind id) = changed-keeps (leave record₀ (r .working)) r (λ n e. ap isStop (leave-refuses n record₀ (r .working) e))
-  record-keeps announced record₀ r idle = stop-keeps 13 [] r refl
-  record-keeps announced record₀ r mustReset = stop-keeps 13 [] r refl
-  record-keeps announced record₀ r askedFull = stop-keeps 13 [] r refl
-  record-keeps announced record₀ r askedChange = stop-keeps 13 [] r refl
-  record-keeps announced record₀ r (stopped k x) = stop-keeps 13 [] r refl
+  record-keeps : (announced : Bool) (record₀ : Record) (r : Receiver) → Keeps r (noUpdate (onRecord limit announced record₀ r))
+  record-keeps true record₀ r = changed-keeps (enter limit record₀ (r .working)) r (entering record₀ (r .working))
+  record-keeps false record₀ r = changed-keeps (leave record₀ (r .working)) r (λ n e. ap isStop (leave-refuses n record₀ (r .working) e))
 
-  key-keeps : (r : Receiver) (stage : Stage) → Keeps r (noUpdate (onRouterKey stage r))
-  key-keeps r (loading kind id) = same-keeps r r refl refl refl
-  key-keeps r idle = stop-keeps 13 [] r refl
-  key-keeps r mustReset = stop-keeps 13 [] r refl
-  key-keeps r askedFull = stop-keeps 13 [] r refl
-  key-keeps r askedChange = stop-keeps 13 [] r refl
-  key-keeps r (stopped k x) = stop-keeps 13 [] r refl
-
-  reset-keeps : (r : Receiver) (stage : Stage) → Keeps r (noUpdate (onCacheReset stage r))
-  reset-keeps r askedChange = record { version = refl; held = λ h. h; spends = omega arith; rightly = λ _. refl; clears = λ on off. absurd (let z : _≡_ {A = ℕ} 0 1 = cc in omega arith) }
-  reset-keeps r idle = stop-keeps 13 [] r refl
-  reset-keeps r mustReset = stop-keeps 13 [] r refl
-  reset-keeps r askedFull = stop-keeps 13 [] r refl
-  reset-keeps r (loading kind id) = stop-keeps 13 [] r refl
-  reset-keeps r (stopped k x) = stop-keeps 13 [] r refl
-
-  end-keeps : (p : RtrEndOfData) (r : Receiver) (stage : Stage) → r .stage ≡ stage → Keeps r (onEndOfData stage p r)
-  end-keeps p r (loading kind id) e = go (eqb (p .«session_id») id)
+  end-keeps : (p : RtrEndOfData) (r : Receiver) (session : ℕ) → toCome (r .stage) ≡ 1 → Keeps r (onEndOfData session p r)
+  end-keeps p r session c = go (eqb (p .«session_id») session)
     where
       go : (b : Bool) → Keeps r (cond b (record { then = finish p r; updates = 1 }) (noUpdate (stop 15 [] r)))
       go true =
-          let c : toCome (r .stage) ≡ 1 = ap toCome e in
           record { version = refl; held = λ h. h; spends = omega arith; rightly = λ _. refl; clears = λ on off. absurd (let z : _≡_ {A = ℕ} 0 1 = cc in omega arith) }
       go false = stop-keeps 15 [] r refl
-  end-keeps p r idle e = stop-keeps 13 [] r refl
-  end-keeps p r mustReset e = stop-keeps 13 [] r refl
-  end-keeps p r askedFull e = stop-keeps 13 [] r refl
-  end-keeps p r askedChange e = stop-keeps 13 [] r refl
-  end-keeps p r (stopped k x) e = stop-keeps 13 [] r refl
 
-  kind-keeps : (pdu : RtrPdu) (r : Receiver) → Keeps r (onKind limit pdu r)
-  unfolding onKind
-  kind-keeps (SerialNotify p) r = same-keeps r _ refl refl refl
-  kind-keeps (SerialQuery p) r = stop-keeps 13 [] r refl
-  kind-keeps (ResetQuery p) r = stop-keeps 13 [] r refl
-  kind-keeps (CacheResponse p) r = response-keeps (p .«session_id») r (r .stage) refl
-  kind-keeps (IPv4Prefix p) r = record-keeps (announces (p .flags)) _ r (r .stage)
-  kind-keeps (IPv6Prefix p) r = record-keeps (announces (p .flags)) _ r (r .stage)
-  kind-keeps (EndOfData p) r = end-keeps p r (r .stage) refl
-  kind-keeps (CacheReset p) r = reset-keeps r (r .stage)
-  kind-keeps (RouterKey p) r = key-keeps r (r .stage)
-  kind-keeps (ErrorReport p) r = stop-keeps 13 [] r refl
-
-  version-keeps : (b : Bool) (d : Deed) (r : Receiver) → Keeps r d → Keeps r (cond b d (noUpdate (stop 14 [] r)))
-  version-keeps true d r k = k
-  version-keeps false d r k = stop-keeps 14 [] r refl
+  -- what a PDU does where it is due
+  deed-keeps : (pdu : RtrPdu) (r : Receiver) → isDue (typeOf pdu) (r .stage) ≡ true → Keeps r (deedOf limit pdu r)
+  unfolding deedOf
+  deed-keeps (SerialNotify p) r due = same-keeps r _ refl refl refl
+  deed-keeps (SerialQuery p) r due = same-keeps r r refl refl refl
+  deed-keeps (ResetQuery p) r due = same-keeps r r refl refl refl
+  deed-keeps (CacheResponse p) r due = response-keeps (p .«session_id») r (kindIn (r .stage)) (response-to-come (r .stage) due)
+  deed-keeps (IPv4Prefix p) r due = record-keeps (announces (p .flags)) _ r
+  deed-keeps (IPv6Prefix p) r due = record-keeps (announces (p .flags)) _ r
+  deed-keeps (EndOfData p) r due = end-keeps p r (sessionIn (r .stage)) (end-to-come (r .stage) due)
+  deed-keeps (CacheReset p) r due =
+      record { version = refl; held = λ h. h; spends = omega arith; rightly = λ _. refl; clears = λ on off. absurd (let z : _≡_ {A = ℕ} 0 1 = cc in omega arith) }
+  deed-keeps (RouterKey p) r due = same-keeps r r refl refl refl
+  deed-keeps (ErrorReport p) r due = stop-keeps 19 _ r refl
 
   pub pdu-keeps : (pdu : RtrPdu) (r : Receiver) → Keeps r (onPdu limit pdu r)
-  unfolding onPdu
-  pdu-keeps (ErrorReport p) r = stop-keeps 19 _ r refl
-  pdu-keeps (SerialNotify p) r = version-keeps (eqb (versionNumber (p .version)) (versionNumber (r .version))) _ r (kind-keeps (SerialNotify p) r)
-  pdu-keeps (SerialQuery p) r = version-keeps (eqb (versionNumber (p .version)) (versionNumber (r .version))) _ r (kind-keeps (SerialQuery p) r)
-  pdu-keeps (ResetQuery p) r = version-keeps (eqb (versionNumber (p .version)) (versionNumber (r .version))) _ r (kind-keeps (ResetQuery p) r)
-  pdu-keeps (CacheResponse p) r = version-keeps (eqb (versionNumber (p .version)) (versionNumber (r .version))) _ r (kind-keeps (CacheResponse p) r)
-  pdu-keeps (IPv4Prefix p) r = version-keeps (eqb (versionNumber (p .version)) (versionNumber (r .version))) _ r (kind-keeps (IPv4Prefix p) r)
-  pdu-keeps (IPv6Prefix p) r = version-keeps (eqb (versionNumber (p .version)) (versionNumber (r .version))) _ r (kind-keeps (IPv6Prefix p) r)
-  pdu-keeps (EndOfData p) r = version-keeps (eqb (versionNumber (p .version)) (versionNumber (r .version))) _ r (kind-keeps (EndOfData p) r)
-  pdu-keeps (CacheReset p) r = version-keeps (eqb (versionNumber (p .version)) (versionNumber (r .version))) _ r (kind-keeps (CacheReset p) r)
-  pdu-keeps (RouterKey p) r = version-keeps (eqb (versionNumber (p .version)) (versionNumber (r .version))) _ r (kind-keeps (RouterKey p) r)
+  pdu-keeps pdu r = pdu-by limit r (Keeps r) pdu (λ _ x. stop-keeps 19 x r refl) (λ _. stop-keeps 14 [] r refl) (λ _. stop-keeps 13 [] r refl) (λ _ due. deed-keeps pdu r due)
 
   -- a PDU leaves nothing held
   pub told-drops : (pdu : RtrPdu) (r : Receiver) → onPdu limit pdu (holding [] r) .then .held ≡ []

@@ -16,3 +16,4 @@ mod Histories
 pub mod Runs
 pub mod Coded
 pub mod Examples
+mod Turns

@@ -8,6 +8,7 @@ use types.Run.{OneOf, miss}
 use lib.Dec.{eqb}
 use Rattle.rtr_models.specs.Codes.{versionNumber, codeNumber}
 use Rattle.rtr_models.specs.Values.{announces, versionOf}
+use Rattle.rtr_models.specs.declared.RtrPduType.{RtrPduType}
 use Rattle.rtr_models.specs.declared.RtrPdu.{RtrPdu}
 use Rattle.rtr_models.specs.declared.RtrPdu.the-variants.{SerialNotify, SerialQuery, ResetQuery, CacheResponse, IPv4Prefix, IPv6Prefix, EndOfData, CacheReset, RouterKey, ErrorReport}
 use Rattle.rtr_models.specs.declared.RtrSerialNotify.{RtrSerialNotify}
@@ -22,9 +23,9 @@ use Rattle.rtr_models.specs.declared.RtrProtocolVersion.{RtrProtocolVersion}
 use Rattle.rtr_models.proofs.RtrPdu as pdu-enum
 use Rattle.rtr_room.specs.declared.Record.{Record}
 use Rattle.rtr_room.specs.Table.{ipv4Record, ipv6Record}
-use Rattle.rtr_receiver.specs.Receiver.{Receiver, Deed, stop, onSerialNotify, onCacheResponse, onRecord, onRouterKey, onCacheReset, noUpdate, onEndOfData, onKind, ofVersion, onPdu}
+use Rattle.rtr_receiver.specs.Receiver.{Receiver, Deed, isDue, stop, onSerialNotify, onRecord, noUpdate, deedOf, onKind, ofVersion, onPdu, listens}
 use Rattle.rtr_receiver.specs.Promises.{receiverOf, leaves}
-use Rattle.rtr_receiver.specs.Private.{BothRooms, Stands, carriedBy, goesOnIn, afterPdu}
+use Rattle.rtr_receiver.specs.Private.{BothRooms, Stands, responseIn, recordIn, keyIn, resetIn, endIn, carriedBy, goesOnIn, afterPdu}
 use Rattle.rtr_receiver.specs.declared.Carried.{Carried}
 use Rattle.rtr_receiver.specs.declared.Note.{Note}
 use Rattle.rtr_receiver.specs.declared.Phase.{Phase}
@@ -33,6 +34,7 @@ use Rattle.rtr_receiver.specs.declared.DeedDone.{DeedDone}
 use Rattle.rtr_receiver.specs.declared.Session.{Session}
 use Rattle.rtr_receiver.proofs.Phase as phase-enum
 use Rattle.rtr_receiver.proofs.Deeds.{kept-stands}
+use Rattle.rtr_receiver.proofs.Turns.{notify-due, never-due, prefixes-alike}
 
 -- a Serial Notify changes the note alone
 pub notify-stands : (limit : ℕ) (s : Session) (live working : List ℕ) → BothRooms limit s live working → (id serial : ℕ) →
@@ -42,30 +44,37 @@ notify-stands limit s live working b id serial q f =
     ap (λ (x : Session). leaves x live working []) f
     ∙ kept-stands limit s live working b (record { version = s .version; phase = s .phase; table = s .table; note = Note.Noted id serial; live = s .live; working = s .working; held = s .held }) refl refl refl
 
+-- no update either way
+no-update-either : (b : Bool) (x y : Receiver) → cond b (noUpdate x) (noUpdate y) ≡ noUpdate (cond b x y)
+no-update-either true x y = refl
+no-update-either false x y = refl
+
 -- what the definition makes of a PDU of each kind
 module _ (limit : ℕ) (r : Receiver) (pdu : RtrPdu) where
-  pub kind-notify : (p : RtrSerialNotify) → pdu ≡ SerialNotify p → onKind limit pdu r ≡ noUpdate (onSerialNotify (p .«session_id») (p .«serial_number») r)
-  unfolding onKind
-  kind-notify p e = ap (λ (x : RtrPdu). onKind limit x r) e
+  pub kind-notify : listens (r .stage) ≡ true → (p : RtrSerialNotify) → pdu ≡ SerialNotify p → onKind limit pdu r ≡ noUpdate (onSerialNotify (p .«session_id») (p .«serial_number») r)
+  unfolding onKind deedOf
+  kind-notify on p e =
+      ap (λ (x : RtrPdu). onKind limit x r) e
+      ∙ ap (λ (b : Bool). cond b (noUpdate (onSerialNotify (p .«session_id») (p .«serial_number») r)) (noUpdate (stop 13 [] r))) (notify-due (r .stage) on)
 
-  pub kind-response : (p : RtrCacheResponse) → pdu ≡ CacheResponse p → onKind limit pdu r ≡ noUpdate (onCacheResponse (r .stage) (p .«session_id») r)
-  unfolding onKind
-  kind-response p e = ap (λ (x : RtrPdu). onKind limit x r) e
+  pub kind-response : (p : RtrCacheResponse) → pdu ≡ CacheResponse p → onKind limit pdu r ≡ noUpdate (responseIn (r .stage) (p .«session_id») r)
+  unfolding onKind deedOf
+  kind-response p e = ap (λ (x : RtrPdu). onKind limit x r) e ∙ no-update-either (isDue RtrPduType.CacheResponse (r .stage)) _ _
 
-  pub kind-end : (p : RtrEndOfData) → pdu ≡ EndOfData p → onKind limit pdu r ≡ onEndOfData (r .stage) p r
-  unfolding onKind
+  pub kind-end : (p : RtrEndOfData) → pdu ≡ EndOfData p → onKind limit pdu r ≡ endIn (r .stage) p r
+  unfolding onKind deedOf
   kind-end p e = ap (λ (x : RtrPdu). onKind limit x r) e
 
-  pub kind-reset : (p : RtrCacheReset) → pdu ≡ CacheReset p → onKind limit pdu r ≡ noUpdate (onCacheReset (r .stage) r)
-  unfolding onKind
-  kind-reset p e = ap (λ (x : RtrPdu). onKind limit x r) e
+  pub kind-reset : (p : RtrCacheReset) → pdu ≡ CacheReset p → onKind limit pdu r ≡ noUpdate (resetIn (r .stage) r)
+  unfolding onKind deedOf
+  kind-reset p e = ap (λ (x : RtrPdu). onKind limit x r) e ∙ no-update-either (isDue RtrPduType.CacheReset (r .stage)) _ _
 
-  pub kind-key : (p : RtrRouterKey) → pdu ≡ RouterKey p → onKind limit pdu r ≡ noUpdate (onRouterKey (r .stage) r)
-  unfolding onKind
-  kind-key p e = ap (λ (x : RtrPdu). onKind limit x r) e
+  pub kind-key : (p : RtrRouterKey) → pdu ≡ RouterKey p → onKind limit pdu r ≡ noUpdate (keyIn (r .stage) r)
+  unfolding onKind deedOf
+  kind-key p e = ap (λ (x : RtrPdu). onKind limit x r) e ∙ no-update-either (isDue RtrPduType.RouterKey (r .stage)) _ _
 
   pub pdu-report : (p : RtrErrorReport) → pdu ≡ ErrorReport p → onPdu limit pdu r ≡ noUpdate (stop 19 (codeNumber (p .«error_code») ∷ []) r)
-  unfolding onPdu
+  unfolding onPdu deedOf
   pdu-report p e = ap (λ (x : RtrPdu). onPdu limit x r) e
 
 -- what `carried_by` makes of a PDU
@@ -95,24 +104,31 @@ carried-none (ErrorReport p) h = refl
 
 -- what the definition makes of a PDU that carries a record
 deed-of : ℕ → Receiver → Deed → Carried → Deed
-deed-of limit r deed (Carried.Record announced x) = noUpdate (onRecord limit (r .stage) announced x r)
+deed-of limit r deed (Carried.Record announced x) = noUpdate (recordIn limit (r .stage) announced x r)
 deed-of limit r deed Carried.Nothing = deed
 
+-- an IPv6 prefix is due where an IPv4 one is
+ipv6-turn : (r to : Receiver) → cond (isDue RtrPduType.IPv6Prefix (r .stage)) (noUpdate to) (noUpdate (stop 13 [] r)) ≡ noUpdate (cond (isDue RtrPduType.IPv4Prefix (r .stage)) to (stop 13 [] r))
+ipv6-turn r to =
+    no-update-either (isDue RtrPduType.IPv6Prefix (r .stage)) to (stop 13 [] r)
+    ∙ ap (λ (b : Bool). noUpdate (cond b to (stop 13 [] r))) (prefixes-alike (r .stage))
+
 kind-carried : (limit : ℕ) (r : Receiver) (pdu : RtrPdu) → onKind limit pdu r ≡ deed-of limit r (onKind limit pdu r) (carriedBy pdu)
-unfolding onKind carriedBy deed-of
+unfolding onKind deedOf carriedBy deed-of
 kind-carried limit r (SerialNotify p) = refl
 kind-carried limit r (SerialQuery p) = refl
 kind-carried limit r (ResetQuery p) = refl
 kind-carried limit r (CacheResponse p) = refl
-kind-carried limit r (IPv4Prefix p) = refl
-kind-carried limit r (IPv6Prefix p) = refl
+kind-carried limit r (IPv4Prefix p) = no-update-either (isDue RtrPduType.IPv4Prefix (r .stage)) _ _
+kind-carried limit r (IPv6Prefix p) =
+    ipv6-turn r (onRecord limit (announces (p .flags)) (ipv6Record (p .«prefix_length») (p .«max_length») (p .prefix .w0) (p .prefix .w1) (p .prefix .w2) (p .prefix .w3) (p .asn)) r)
 kind-carried limit r (EndOfData p) = refl
 kind-carried limit r (CacheReset p) = refl
 kind-carried limit r (RouterKey p) = refl
 kind-carried limit r (ErrorReport p) = refl
 
 pub kind-record : (limit : ℕ) (r : Receiver) (pdu : RtrPdu) (announced : Bool) (x : Record) → carriedBy pdu ≡ Carried.Record announced x →
-    onKind limit pdu r ≡ noUpdate (onRecord limit (r .stage) announced x r)
+    onKind limit pdu r ≡ noUpdate (recordIn limit (r .stage) announced x r)
 unfolding deed-of
 kind-record limit r pdu announced x e = kind-carried limit r pdu ∙ ap (deed-of limit r (onKind limit pdu r)) e
 
@@ -123,17 +139,17 @@ carries-none Carried.Nothing = true
 
 pub kind-out : (limit : ℕ) (r : Receiver) (pdu : RtrPdu) → OneOf (1 ∷ 2 ∷ 4 ∷ 5 ∷ 9 ∷ []) (tagOf pdu-enum.the-type pdu) → carriedBy pdu ≡ Carried.Nothing →
     onKind limit pdu r ≡ noUpdate (stop 13 [] r)
-unfolding onKind carriedBy carries-none
+unfolding onKind deedOf carriedBy carries-none
 kind-out limit r (SerialNotify p) h e = absurd (miss (1 ∷ 2 ∷ 4 ∷ 5 ∷ 9 ∷ []) 0 tt h)
-kind-out limit r (SerialQuery p) h e = refl
-kind-out limit r (ResetQuery p) h e = refl
+kind-out limit r (SerialQuery p) h e = ap (λ (b : Bool). cond b (noUpdate r) (noUpdate (stop 13 [] r))) (never-due (r .stage) .0)
+kind-out limit r (ResetQuery p) h e = ap (λ (b : Bool). cond b (noUpdate r) (noUpdate (stop 13 [] r))) (never-due (r .stage) .1)
 kind-out limit r (CacheResponse p) h e = absurd (miss (1 ∷ 2 ∷ 4 ∷ 5 ∷ 9 ∷ []) 3 tt h)
 kind-out limit r (IPv4Prefix p) h e = absurd (false≢true (ap carries-none e))
 kind-out limit r (IPv6Prefix p) h e = absurd (false≢true (ap carries-none e))
 kind-out limit r (EndOfData p) h e = absurd (miss (1 ∷ 2 ∷ 4 ∷ 5 ∷ 9 ∷ []) 6 tt h)
 kind-out limit r (CacheReset p) h e = absurd (miss (1 ∷ 2 ∷ 4 ∷ 5 ∷ 9 ∷ []) 7 tt h)
 kind-out limit r (RouterKey p) h e = absurd (miss (1 ∷ 2 ∷ 4 ∷ 5 ∷ 9 ∷ []) 8 tt h)
-kind-out limit r (ErrorReport p) h e = refl
+kind-out limit r (ErrorReport p) h e = ap (λ (b : Bool). cond b (deedOf limit (ErrorReport p) r) (noUpdate (stop 13 [] r))) (never-due (r .stage) .2)
 
 -- every PDU but an Error Report is judged by its version first
 by-version : (limit : ℕ) (r : Receiver) (pdu : RtrPdu) → OneOf (0 ∷ 1 ∷ 2 ∷ 3 ∷ 4 ∷ 5 ∷ 6 ∷ 7 ∷ 8 ∷ []) (tagOf pdu-enum.the-type pdu) → onPdu limit pdu r ≡ ofVersion (versionOf pdu) r (onKind limit pdu r)

@@ -2,8 +2,8 @@
 -- session record, of a room's numbers, of a buffer or of what the receiver does with a byte; of the hold it knows the size H (a longer PDU is refused, 12), of a room the record
 -- limit (18).
 --
--- Read from the end upward: `finished` is the updates of a history; `items` makes of its bytes PDUs and refusals; `onItem` says where each leads, with one function for each PDU above
--- it; `tableOf` is the table that updates make.
+-- Read from the end upward: `finished` is the updates of a history; `items` makes of its bytes PDUs and refusals; `onItem` says where each leads, with the table of what is due where
+-- (`dueAt`) and one function for each PDU above it; `tableOf` is the table that updates make.
 --
 -- An example, in version 1, with no table yet. The history: a full ask, and the bytes of a Cache Response of session 4660, of an announced prefix, of an End of Data of session 4660 and serial 7.
 -- Its items and places:
@@ -19,10 +19,12 @@ use Prim.Native.Nat.{ℕ}
 use mathlib.Core.Bool.{Bool, true, false, cond, _&&_}
 use mathlib.Core.List.{List, [], _∷_, _++_}
 use lib.Dec.{eqb, leb}
-use Rattle.rtr_models.specs.Codes.{versionNumber}
-use Rattle.rtr_models.specs.Values.{announces, secondsOr, versionOf}
+use Rattle.rtr_models.specs.Codes.{found, typeNumber, versionNumber}
+use Rattle.rtr_models.specs.Values.{announces, secondsOr, typeOf, versionOf}
 use Rattle.rtr_models.specs.declared.RtrProtocolVersion.{RtrProtocolVersion}
 use Rattle.rtr_models.specs.declared.RtrEndOfData.{RtrEndOfData}
+use Rattle.rtr_models.specs.declared.RtrPduType.{RtrPduType}
+use Rattle.rtr_models.specs.declared.RtrPduType.the-variants.{SerialNotify as serialNotify, CacheResponse as cacheResponse, IPv4Prefix as ipv4Prefix, IPv6Prefix as ipv6Prefix, EndOfData as endOfData, CacheReset as cacheReset, RouterKey as routerKey}
 use Rattle.rtr_models.specs.declared.RtrPdu.{RtrPdu}
 use Rattle.rtr_models.specs.declared.RtrPdu.the-variants.{SerialNotify, SerialQuery, ResetQuery, CacheResponse, IPv4Prefix, IPv6Prefix, EndOfData, CacheReset, RouterKey, ErrorReport}
 use Rattle.rtr_codec.specs.Reading.{inUse}
@@ -152,44 +154,44 @@ abbrev pub ofSession : LiveTable → ℕ → Bool
 ofSession LiveTable.NoTable session = false
 ofSession (LiveTable.Known t) session = eqb session (t .session)
 
--- Cache Response: to an ask
-abbrev pub onResponse : LiveTable → Place → ℕ → Place
-onResponse info (asked LoadKind.Full) session = loading LoadKind.Full session []
-onResponse info (asked LoadKind.Change) session = cond (ofSession info session) (loading LoadKind.Change session []) lost
-onResponse info idle session = lost
-onResponse info mustReset session = lost
-onResponse info (loading kind id cs) session = lost
-onResponse info lost session = lost
+-- which PDU is due at which place; any other loses the connection
+abbrev pub dueAt : Place → List RtrPduType
+dueAt idle = serialNotify ∷ []
+dueAt mustReset = serialNotify ∷ []
+dueAt (asked LoadKind.Full) = serialNotify ∷ cacheResponse ∷ []
+dueAt (asked LoadKind.Change) = serialNotify ∷ cacheResponse ∷ cacheReset ∷ []
+dueAt (loading kind session cs) = serialNotify ∷ ipv4Prefix ∷ ipv6Prefix ∷ endOfData ∷ routerKey ∷ []
+dueAt lost = []
 
--- a prefix: in a load, where it applies
+-- a type stands in the place's row
+abbrev pub isDueAt : RtrPduType → Place → Bool
+isDueAt type place = found typeNumber (λ due. true) false (dueAt place) (typeNumber type)
+
+-- the load at a place: its kind, its session and its records so far. What needs them is due only where they are known, so the other values are never used.
+abbrev pub kindAt : Place → LoadKind
+kindAt = elim [ idle ↦ LoadKind.Full | mustReset ↦ LoadKind.Full | asked kind ↦ kind | loading kind session cs ↦ kind | lost ↦ LoadKind.Full ]
+
+abbrev pub sessionAt : Place → ℕ
+sessionAt = elim [ idle ↦ 0 | mustReset ↦ 0 | asked kind ↦ 0 | loading kind session cs ↦ session | lost ↦ 0 ]
+
+abbrev pub recordsAt : Place → List Changed
+recordsAt = elim [ idle ↦ [] | mustReset ↦ [] | asked kind ↦ [] | loading kind session cs ↦ cs | lost ↦ [] ]
+
+-- Cache Response: the load begins, for a change only of the table's session
+abbrev pub onResponse : LiveTable → LoadKind → ℕ → Place
+onResponse info LoadKind.Full session = loading LoadKind.Full session []
+onResponse info LoadKind.Change session = cond (ofSession info session) (loading LoadKind.Change session []) lost
+
+-- a prefix: one record more, where it applies
 abbrev pub takenIn : LoadKind → ℕ → List Changed → Bool → Record → Change → Place
 takenIn kind session cs announced r (Change.changed t) = loading kind session (cs ++ record { announced = announced; what = r } ∷ [])
 takenIn kind session cs announced r (Change.refused number) = lost
 
 -- it applies to the load's table so far: 16, 17 and 18 lose the connection
 abbrev pub onPrefix : ℕ → List Record → Place → Bool → Record → Place
-onPrefix limit t (loading kind session cs) announced r = takenIn kind session cs announced r (applied limit (withAll limit (base kind t) cs) announced r)
-onPrefix limit t idle announced r = lost
-onPrefix limit t mustReset announced r = lost
-onPrefix limit t (asked kind) announced r = lost
-onPrefix limit t lost announced r = lost
-
--- Router Key: passed over in a load
-abbrev pub onKey : Place → Place
-onKey (loading kind session cs) = loading kind session cs
-onKey idle = lost
-onKey mustReset = lost
-onKey (asked kind) = lost
-onKey lost = lost
-
--- Cache Reset: the answer to a change ask
-abbrev pub onReset : Place → Place
-onReset (asked LoadKind.Change) = mustReset
-onReset (asked LoadKind.Full) = lost
-onReset idle = lost
-onReset mustReset = lost
-onReset (loading kind session cs) = lost
-onReset lost = lost
+onPrefix limit t place announced r =
+    takenIn (kindAt place) (sessionAt place) (recordsAt place) announced r
+    (applied limit (withAll limit (base (kindAt place) t) (recordsAt place)) announced r)
 
 -- what an End of Data says of the table; version 0 has no intervals, the defaults stand
 abbrev pub endSays : RtrEndOfData → Table
@@ -204,18 +206,15 @@ endSays p =
 
 -- End of Data: of the load's session it finishes the update
 abbrev pub onEnd : Place → ℕ → Table → Next
-onEnd (loading kind session cs) id end = cond (eqb id session) (finishes (record { kind = kind; records = cs; end = end })) (goes lost)
-onEnd idle id end = goes lost
-onEnd mustReset id end = goes lost
-onEnd (asked kind) id end = goes lost
-onEnd lost id end = goes lost
+onEnd place id end = cond (eqb id (sessionAt place)) (finishes (record { kind = kindAt place; records = recordsAt place; end = end })) (goes lost)
 
--- a PDU of the connection's version, by what it is; an Error Report of either version, and what a cache never sends, loses the connection
+-- a PDU that is due, by what it is: a Serial Notify and a Router Key change nothing here, a Cache Reset asks for a full load. Queries and Error Reports are due at no place: their lines
+-- are never used.
 abbrev pub onTold : ℕ → Live → Place → RtrPdu → Next
 onTold limit live place (SerialNotify p) = goes place
-onTold limit live place (SerialQuery p) = goes lost
-onTold limit live place (ResetQuery p) = goes lost
-onTold limit live place (CacheResponse p) = goes (onResponse (live .info) place (p .«session_id»))
+onTold limit live place (SerialQuery p) = goes place
+onTold limit live place (ResetQuery p) = goes place
+onTold limit live place (CacheResponse p) = goes (onResponse (live .info) (kindAt place) (p .«session_id»))
 onTold limit live place (IPv4Prefix p) =
     goes (onPrefix limit (live .records) place (announces (p .flags)) (ipv4Record (p .«prefix_length») (p .«max_length») (p .prefix) (p .asn)))
 onTold limit live place (IPv6Prefix p) =
@@ -223,21 +222,17 @@ onTold limit live place (IPv6Prefix p) =
     (onPrefix limit (live .records) place (announces (p .flags))
     (ipv6Record (p .«prefix_length») (p .«max_length») (p .prefix .w0) (p .prefix .w1) (p .prefix .w2) (p .prefix .w3) (p .asn)))
 onTold limit live place (EndOfData p) = onEnd place (p .«session_id») (endSays p)
-onTold limit live place (CacheReset p) = goes (onReset place)
-onTold limit live place (RouterKey p) = goes (onKey place)
+onTold limit live place (CacheReset p) = goes mustReset
+onTold limit live place (RouterKey p) = goes place
 onTold limit live place (ErrorReport p) = goes lost
 
 -- "a PDU of the other is 14"
 abbrev pub ofVersion : RtrProtocolVersion → RtrPdu → Bool
 ofVersion v pdu = eqb (versionNumber (versionOf pdu)) (versionNumber v)
 
--- a connection that is lost stays so; a PDU of another version loses it
+-- a PDU that is not due, or of another version, loses the connection
 abbrev pub onPduAt : ℕ → RtrProtocolVersion → Live → Place → RtrPdu → Next
-onPduAt limit v live lost pdu = goes lost
-onPduAt limit v live idle pdu = cond (ofVersion v pdu) (onTold limit live idle pdu) (goes lost)
-onPduAt limit v live mustReset pdu = cond (ofVersion v pdu) (onTold limit live mustReset pdu) (goes lost)
-onPduAt limit v live (asked kind) pdu = cond (ofVersion v pdu) (onTold limit live (asked kind) pdu) (goes lost)
-onPduAt limit v live (loading kind session cs) pdu = cond (ofVersion v pdu) (onTold limit live (loading kind session cs) pdu) (goes lost)
+onPduAt limit v live place pdu = cond (isDueAt (typeOf pdu) place && ofVersion v pdu) (onTold limit live place pdu) (goes lost)
 
 -- any item; bytes that are refused lose the connection, a new connection begins idle
 abbrev pub onItem : ℕ → RtrProtocolVersion → Live → Place → Item → Next

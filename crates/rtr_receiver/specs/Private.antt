@@ -1,16 +1,20 @@
 -- What the private functions of src/lib.rt promise each other; no public promise rests on this page.
 use Prim.Native.Nat.{ℕ, _+_, _≤_, _<_}
-use mathlib.Core.Bool.{Bool, true, not, _&&_, _||_}
+use mathlib.Core.Bool.{Bool, true, not, cond, _&&_, _||_}
 use mathlib.Core.List.{List, []}
 use mathlib.Core.Path.{_≡_}
 use lib.Dec.{eqb}
 use lib.ListN.{length, drop}
 use Rattle.rtr_models.specs.Values.{announces}
+use Rattle.rtr_models.specs.declared.RtrEndOfData.{RtrEndOfData}
+use Rattle.rtr_models.specs.declared.RtrPduType.{RtrPduType}
 use Rattle.rtr_models.specs.declared.RtrPdu.{RtrPdu}
 use Rattle.rtr_models.specs.declared.RtrPdu.the-variants.{SerialNotify, SerialQuery, ResetQuery, CacheResponse, IPv4Prefix, IPv6Prefix, EndOfData, CacheReset, RouterKey, ErrorReport}
 use Rattle.rtr_room.specs.Room.{isRoom}
 use Rattle.rtr_room.specs.Table.{ipv4Record, ipv6Record}
-use Rattle.rtr_receiver.specs.Receiver.{Receiver, Deed, Feed, listens, onPiece}
+use Rattle.rtr_room.specs.declared.Record.{Record}
+use Rattle.rtr_receiver.specs.Receiver.{Stage, Receiver, Deed, Feed, isDue, kindIn, sessionIn, inStage, stop, onCacheResponse, onRecord, noUpdate, onEndOfData, listens, onPiece}
+use Rattle.rtr_receiver.specs.Receiver.Stage.{mustReset}
 use Rattle.rtr_receiver.specs.History.{hasTable}
 use Rattle.rtr_receiver.specs.Promises.{changeUnderWay, isLoading, isStopped, stageOf, receiverOf, isReceiver, leaves, inMemory, fedTo, fedSaidBy}
 use Rattle.rtr_encode.specs.declared.EncodeAnswer.{EncodeAnswer}
@@ -33,9 +37,13 @@ tabled s = hasTable (s .table) || (eqb (s .live) 0 && not (changeUnderWay (s .ph
 abbrev pub cleared : Session → Bool
 cleared s = (isLoading (s .phase) || eqb (s .working) 0) && (not (isStopped (s .phase)) || eqb (s .held) 0)
 
--- both rooms keep the rules, and nothing is held: a whole PDU has just been taken out of the hold
+-- both rooms keep the rules, nothing is held (a whole PDU has just been taken out of the hold), and the receiver has not stopped
 abbrev pub BothRooms : ℕ → Session → List ℕ → List ℕ → Type 0
-BothRooms limit s live working = (isRoom limit (s .live) live ≡ true) × (isRoom limit (s .working) working ≡ true) × (s .held ≡ 0)
+BothRooms limit s live working =
+    (isRoom limit (s .live) live ≡ true)
+    × (isRoom limit (s .working) working ≡ true)
+    × (s .held ≡ 0)
+    × (listens (stageOf (s .phase)) ≡ true)
 
 -- the session record and the rooms are this receiver's, nothing held
 abbrev pub Stands : ℕ → Session → List ℕ → List ℕ → Receiver → Type 0
@@ -43,6 +51,26 @@ Stands limit s live working r = leaves s live working [] ≡ inMemory limit r
 
 abbrev pub Did : ℕ → DeedDone → List ℕ → List ℕ → Deed → Type 0
 Did limit d live working deed = Stands limit (d .session) live working (deed .then) × (d .updates ≡ deed .updates)
+
+-- what comes of a PDU of a type in a phase: this where it is due, else 13
+abbrev pub inTurn : RtrPduType → Stage → Receiver → Receiver → Receiver
+inTurn type stage to r = cond (isDue type stage) to (stop 13 [] r)
+
+abbrev pub responseIn : Stage → ℕ → Receiver → Receiver
+responseIn stage session r = inTurn RtrPduType.CacheResponse stage (onCacheResponse (kindIn stage) session r) r
+
+-- a prefix of either family: both are due in the same phases
+abbrev pub recordIn : ℕ → Stage → Bool → Record → Receiver → Receiver
+recordIn limit stage announced x r = inTurn RtrPduType.IPv4Prefix stage (onRecord limit announced x r) r
+
+abbrev pub keyIn : Stage → Receiver → Receiver
+keyIn stage r = inTurn RtrPduType.RouterKey stage r r
+
+abbrev pub resetIn : Stage → Receiver → Receiver
+resetIn stage r = inTurn RtrPduType.CacheReset stage (inStage mustReset r) r
+
+abbrev pub endIn : Stage → RtrEndOfData → Receiver → Deed
+endIn stage p r = cond (isDue RtrPduType.EndOfData stage) (onEndOfData (sessionIn stage) p r) (noUpdate (stop 13 [] r))
 
 -- the record that a PDU carries, and whether it is announced
 unfoldable pub carriedBy : RtrPdu → Carried

@@ -1,12 +1,15 @@
--- The receiver, byte by byte and PDU by PDU, on tables: document 01, "Stream and receiver". No memory, no room and no hold buffer is spoken of here.
+-- The receiver, byte by byte and PDU by PDU, on tables: document 01, "Stream and receiver". No memory, no room and no hold buffer is spoken of here. `dueIn` is the table of turns, `deedOf` says what each PDU
+-- does in its turn, `onPdu` has the tests before that in document 01's order; then come bytes and pieces, the asks, the new connection and the notify comparison.
 use Prim.Native.Nat.{ℕ, _+_, _-_}
 use mathlib.Core.Bool.{Bool, true, false, cond, _&&_, _||_}
 use mathlib.Core.List.{List, [], _∷_, _++_}
 use lib.Dec.{eqb, ltb}
-use Rattle.rtr_models.specs.Codes.{codeNumber, versionNumber}
-use Rattle.rtr_models.specs.Values.{announces}
+use Rattle.rtr_models.specs.Codes.{codeNumber, found, typeNumber, versionNumber}
+use Rattle.rtr_models.specs.Values.{announces, typeOf, versionOf}
 use Rattle.rtr_models.specs.declared.RtrProtocolVersion.{RtrProtocolVersion}
 use Rattle.rtr_models.specs.declared.RtrEndOfData.{RtrEndOfData}
+use Rattle.rtr_models.specs.declared.RtrPduType.{RtrPduType}
+use Rattle.rtr_models.specs.declared.RtrPduType.the-variants.{SerialNotify as serialNotify, CacheResponse as cacheResponse, IPv4Prefix as ipv4Prefix, IPv6Prefix as ipv6Prefix, EndOfData as endOfData, CacheReset as cacheReset, RouterKey as routerKey, ErrorReport as errorReport}
 use Rattle.rtr_models.specs.declared.RtrPdu.{RtrPdu}
 use Rattle.rtr_models.specs.declared.RtrPdu.the-variants.{SerialNotify, SerialQuery, ResetQuery, CacheResponse, IPv4Prefix, IPv6Prefix, EndOfData, CacheReset, RouterKey, ErrorReport}
 use Rattle.rtr_codec.specs.Reading.{inUse}
@@ -27,6 +30,27 @@ pub data Stage : Type 0 where
   askedChange : Stage
   loading : LoadKind → ℕ → Stage
   stopped : ℕ → List ℕ → Stage
+
+-- which PDU is due in which phase; any other is out of turn (13). An Error Report waits for no turn (19).
+abbrev pub dueIn : Stage → List RtrPduType
+dueIn idle = serialNotify ∷ []
+dueIn mustReset = serialNotify ∷ []
+dueIn askedFull = serialNotify ∷ cacheResponse ∷ []
+dueIn askedChange = serialNotify ∷ cacheResponse ∷ cacheReset ∷ []
+dueIn (loading kind session) = serialNotify ∷ ipv4Prefix ∷ ipv6Prefix ∷ endOfData ∷ routerKey ∷ []
+dueIn (stopped number values) = []
+
+-- a type stands in the phase's row
+abbrev pub isDue : RtrPduType → Stage → Bool
+isDue type stage = found typeNumber (λ due. true) false (dueIn stage) (typeNumber type)
+
+-- what a Cache Response answers: the kind of the load asked for. It is due in the Asked phases alone, so the other values are never used.
+abbrev pub kindIn : Stage → LoadKind
+kindIn = elim [ idle ↦ LoadKind.Full | mustReset ↦ LoadKind.Full | askedFull ↦ LoadKind.Full | askedChange ↦ LoadKind.Change | loading kind session ↦ kind | stopped number values ↦ LoadKind.Full ]
+
+-- what an End of Data ends: the session of the load. It is due in a load alone, so the other values are never used.
+abbrev pub sessionIn : Stage → ℕ
+sessionIn = elim [ idle ↦ 0 | mustReset ↦ 0 | askedFull ↦ 0 | askedChange ↦ 0 | loading kind session ↦ session | stopped number values ↦ 0 ]
 
 -- a receiver: its version for life, its phase, the table's session, serial and intervals, the last Serial Notify, the live and the working table, the
 -- bytes held
@@ -80,13 +104,9 @@ onChangeResponse LiveTable.NoTable session r = stop 15 [] r
 onChangeResponse (LiveTable.Known t) session r = cond (eqb session (t .session)) (startLoad LoadKind.Change session (r .live) r) (stop 15 [] r)
 
 -- "Cache Response in an Asked phase begins Loading"
-abbrev pub onCacheResponse : Stage → ℕ → Receiver → Receiver
-onCacheResponse askedFull session r = startLoad LoadKind.Full session [] r
-onCacheResponse askedChange session r = onChangeResponse (r .table) session r
-onCacheResponse idle session r = stop 13 [] r
-onCacheResponse mustReset session r = stop 13 [] r
-onCacheResponse (loading kind id) session r = stop 13 [] r
-onCacheResponse (stopped number values) session r = stop 13 [] r
+abbrev pub onCacheResponse : LoadKind → ℕ → Receiver → Receiver
+onCacheResponse LoadKind.Full session r = startLoad LoadKind.Full session [] r
+onCacheResponse LoadKind.Change session r = onChangeResponse (r .table) session r
 
 -- the working table after a record, or its refusal
 abbrev pub changedTo : Change → Receiver → Receiver
@@ -95,32 +115,9 @@ changedTo (Change.changed t) r =
 changedTo (Change.refused number) r = stop number [] r
 
 -- "A prefix in Loading enters (lowest flag bit 1) or leaves (0) the working room"
-abbrev pub onRecord : ℕ → Stage → Bool → Record → Receiver → Receiver
-onRecord limit (loading kind id) true record₀ r = changedTo (enter limit record₀ (r .working)) r
-onRecord limit (loading kind id) false record₀ r = changedTo (leave record₀ (r .working)) r
-onRecord limit idle announced record₀ r = stop 13 [] r
-onRecord limit mustReset announced record₀ r = stop 13 [] r
-onRecord limit askedFull announced record₀ r = stop 13 [] r
-onRecord limit askedChange announced record₀ r = stop 13 [] r
-onRecord limit (stopped number values) announced record₀ r = stop 13 [] r
-
--- "Router Key in Loading is passed over"
-abbrev pub onRouterKey : Stage → Receiver → Receiver
-onRouterKey (loading kind id) r = r
-onRouterKey idle r = stop 13 [] r
-onRouterKey mustReset r = stop 13 [] r
-onRouterKey askedFull r = stop 13 [] r
-onRouterKey askedChange r = stop 13 [] r
-onRouterKey (stopped number values) r = stop 13 [] r
-
--- "Cache Reset in AskedChange: MustReset"
-abbrev pub onCacheReset : Stage → Receiver → Receiver
-onCacheReset askedChange r = inStage mustReset r
-onCacheReset idle r = stop 13 [] r
-onCacheReset mustReset r = stop 13 [] r
-onCacheReset askedFull r = stop 13 [] r
-onCacheReset (loading kind id) r = stop 13 [] r
-onCacheReset (stopped number values) r = stop 13 [] r
+abbrev pub onRecord : ℕ → Bool → Record → Receiver → Receiver
+onRecord limit true record₀ r = changedTo (enter limit record₀ (r .working)) r
+onRecord limit false record₀ r = changedTo (leave record₀ (r .working)) r
 
 -- the working table becomes the live one
 abbrev pub finish : RtrEndOfData → Receiver → Receiver
@@ -143,49 +140,41 @@ pub record Deed : Type 0 where
 abbrev pub noUpdate : Receiver → Deed
 noUpdate r = record { then = r; updates = 0 }
 
--- "End of Data in Loading with the load's session makes the working room live .."
-abbrev pub onEndOfData : Stage → RtrEndOfData → Receiver → Deed
-onEndOfData (loading kind id) p r = cond (eqb (p .«session_id») id) (record { then = finish p r; updates = 1 }) (noUpdate (stop 15 [] r))
-onEndOfData idle p r = noUpdate (stop 13 [] r)
-onEndOfData mustReset p r = noUpdate (stop 13 [] r)
-onEndOfData askedFull p r = noUpdate (stop 13 [] r)
-onEndOfData askedChange p r = noUpdate (stop 13 [] r)
-onEndOfData (stopped number values) p r = noUpdate (stop 13 [] r)
+-- "End of Data in Loading with the load's session makes the working room live .."; of another session it is 15
+abbrev pub onEndOfData : ℕ → RtrEndOfData → Receiver → Deed
+onEndOfData session p r = cond (eqb (p .«session_id») session) (record { then = finish p r; updates = 1 }) (noUpdate (stop 15 [] r))
 
--- a PDU in its turn, by what it is; what a cache never sends a router is out of turn
-unfoldable pub onKind : ℕ → RtrPdu → Receiver → Deed
-onKind limit (SerialNotify p) r = noUpdate (onSerialNotify (p .«session_id») (p .«serial_number») r)
-onKind limit (SerialQuery p) r = noUpdate (stop 13 [] r)
-onKind limit (ResetQuery p) r = noUpdate (stop 13 [] r)
-onKind limit (CacheResponse p) r = noUpdate (onCacheResponse (r .stage) (p .«session_id») r)
-onKind limit (IPv4Prefix p) r =
-    noUpdate (onRecord limit (r .stage) (announces (p .flags)) (ipv4Record (p .«prefix_length») (p .«max_length») (p .prefix) (p .asn)) r)
-onKind limit (IPv6Prefix p) r =
+-- what a PDU does once it passed the tests before it. "Router Key in Loading is passed over"; "Cache Reset in AskedChange: MustReset". The queries are a router's to send: they are due in no
+-- phase, and their lines are never used.
+unfoldable pub deedOf : ℕ → RtrPdu → Receiver → Deed
+deedOf limit (SerialNotify p) r = noUpdate (onSerialNotify (p .«session_id») (p .«serial_number») r)
+deedOf limit (SerialQuery p) r = noUpdate r
+deedOf limit (ResetQuery p) r = noUpdate r
+deedOf limit (CacheResponse p) r = noUpdate (onCacheResponse (kindIn (r .stage)) (p .«session_id») r)
+deedOf limit (IPv4Prefix p) r =
+    noUpdate (onRecord limit (announces (p .flags)) (ipv4Record (p .«prefix_length») (p .«max_length») (p .prefix) (p .asn)) r)
+deedOf limit (IPv6Prefix p) r =
     noUpdate
-    (onRecord limit (r .stage) (announces (p .flags))
+    (onRecord limit (announces (p .flags))
     (ipv6Record (p .«prefix_length») (p .«max_length») (p .prefix .w0) (p .prefix .w1) (p .prefix .w2) (p .prefix .w3) (p .asn))
     r)
-onKind limit (EndOfData p) r = onEndOfData (r .stage) p r
-onKind limit (CacheReset p) r = noUpdate (onCacheReset (r .stage) r)
-onKind limit (RouterKey p) r = noUpdate (onRouterKey (r .stage) r)
-onKind limit (ErrorReport p) r = noUpdate (stop 13 [] r)
+deedOf limit (EndOfData p) r = onEndOfData (sessionIn (r .stage)) p r
+deedOf limit (CacheReset p) r = noUpdate (inStage mustReset r)
+deedOf limit (RouterKey p) r = noUpdate r
+deedOf limit (ErrorReport p) r = noUpdate (stop 19 (codeNumber (p .«error_code») ∷ []) r)
+
+-- a PDU of the receiver's version in its turn, else 13
+unfoldable pub onKind : ℕ → RtrPdu → Receiver → Deed
+onKind limit pdu r = cond (isDue (typeOf pdu) (r .stage)) (deedOf limit pdu r) (noUpdate (stop 13 [] r))
 
 -- a PDU of the receiver's version, else 14
 abbrev pub ofVersion : RtrProtocolVersion → Receiver → Deed → Deed
 ofVersion v r deed = cond (eqb (versionNumber v) (versionNumber (r .version))) deed (noUpdate (stop 14 [] r))
 
--- one PDU: an Error Report of either version first (19), then the version (14), then what it is
+-- one PDU: an Error Report of either version first (19), then the version (14), then the turn (13), then what it does
 unfoldable pub onPdu : ℕ → RtrPdu → Receiver → Deed
-onPdu limit (ErrorReport p) r = noUpdate (stop 19 (codeNumber (p .«error_code») ∷ []) r)
-onPdu limit (SerialNotify p) r = ofVersion (p .version) r (onKind limit (SerialNotify p) r)
-onPdu limit (SerialQuery p) r = ofVersion (p .version) r (onKind limit (SerialQuery p) r)
-onPdu limit (ResetQuery p) r = ofVersion (p .version) r (onKind limit (ResetQuery p) r)
-onPdu limit (CacheResponse p) r = ofVersion (p .version) r (onKind limit (CacheResponse p) r)
-onPdu limit (IPv4Prefix p) r = ofVersion (p .version) r (onKind limit (IPv4Prefix p) r)
-onPdu limit (IPv6Prefix p) r = ofVersion (p .version) r (onKind limit (IPv6Prefix p) r)
-onPdu limit (EndOfData p) r = ofVersion (p .version) r (onKind limit (EndOfData p) r)
-onPdu limit (CacheReset p) r = ofVersion (p .version) r (onKind limit (CacheReset p) r)
-onPdu limit (RouterKey p) r = ofVersion (p .version) r (onKind limit (RouterKey p) r)
+onPdu limit pdu r =
+    cond (eqb (typeNumber (typeOf pdu)) (typeNumber errorReport)) (deedOf limit pdu r) (ofVersion (versionOf pdu) r (onKind limit pdu r))
 
 -- a feed so far: the receiver, the bytes taken and the updates finished
 pub record Feed : Type 0 where
@@ -206,12 +195,7 @@ heard limit taken updates r s (Heard.refused number values) = record { receiver 
 
 -- any phase but Stopped
 abbrev pub listens : Stage → Bool
-listens idle = true
-listens mustReset = true
-listens askedFull = true
-listens askedChange = true
-listens (loading kind session) = true
-listens (stopped number values) = false
+listens = elim [ idle ↦ true | mustReset ↦ true | askedFull ↦ true | askedChange ↦ true | loading kind session ↦ true | stopped number values ↦ false ]
 
 -- one byte; a receiver that stopped takes none
 unfoldable pub onByte : ℕ → ℕ → Feed → ℕ → Feed

@@ -29,9 +29,9 @@ ghost use Rattle.rtr_models.specs.Codes.{versionNumber};
 ghost use Rattle.rtr_codec.specs.Answers.{numberOf};
 ghost use Rattle.rtr_room.specs.Table.{enter, leave};
 ghost use Rattle.rtr_room.specs.Room.{records};
-ghost use Rattle.rtr_receiver.specs.Receiver.{onCacheResponse, onChangeResponse, changedTo, onRecord, onRouterKey, onCacheReset, finish, onEndOfData, onKind, onPdu, compared};
+ghost use Rattle.rtr_receiver.specs.Receiver.{onChangeResponse, changedTo, finish, onKind, onPdu, compared};
 ghost use Rattle.rtr_receiver.specs.Promises.{NotifySays, stopSaid, changeUnderWay, stageOf, receiverOf, inOrder, isReceiver, feedSays, fedSaid, startSays, startSaid, fullAskSays, changeAskSays, askSaid, reconnectSays, reconnectSaid, notifySays, notifySaid};
-ghost use Rattle.rtr_receiver.specs.Private.{tabled, cleared, BothRooms, Stands, Did, stoppedSession, askedFor, afterPdu, feedHere, StepAsks, Stepped, carriedBy};
+ghost use Rattle.rtr_receiver.specs.Private.{tabled, cleared, BothRooms, Stands, Did, responseIn, recordIn, keyIn, resetIn, endIn, stoppedSession, askedFor, afterPdu, feedHere, StepAsks, Stepped, carriedBy};
 
 // How many records a room has at the most.
 pub const RECORD_LIMIT: usize = 1024;
@@ -520,7 +520,7 @@ fn loading(s: Session, kind: LoadKind, session_id: u16, working: usize) -> Sessi
 
 fn on_cache_response(s: Session, live: &[u32], working: &mut [u32], session_id: u16) -> Session
     requires { ⌜ BothRooms 1024 s (now live) (now working) ⌝ }
-    ensures { λ r. ⌜ Stands 1024 r (now (live .entry)) (now (working .exit)) (onCacheResponse (stageOf (s .phase)) «session_id» (receiverOf s (now (live .entry)) (now (working .entry)) [])) ⌝ }
+    ensures { λ r. ⌜ Stands 1024 r (now (live .entry)) (now (working .exit)) (responseIn (stageOf (s .phase)) «session_id» (receiverOf s (now (live .entry)) (now (working .entry)) [])) ⌝ }
 {
     let phase = s.phase;
     match phase {
@@ -599,7 +599,7 @@ fn on_withdrawal(s: Session, live: &[u32], working: &mut [u32], r: Record) -> Se
 
 fn on_record(s: Session, live: &[u32], working: &mut [u32], announced: bool, r: Record) -> Session
     requires { ⌜ BothRooms 1024 s (now live) (now working) ⌝ }
-    ensures { λ t. ⌜ Stands 1024 t (now (live .entry)) (now (working .exit)) (onRecord 1024 (stageOf (s .phase)) announced r (receiverOf s (now (live .entry)) (now (working .entry)) [])) ⌝ }
+    ensures { λ t. ⌜ Stands 1024 t (now (live .entry)) (now (working .exit)) (recordIn 1024 (stageOf (s .phase)) announced r (receiverOf s (now (live .entry)) (now (working .entry)) [])) ⌝ }
 {
     let phase = s.phase;
     match phase {
@@ -615,7 +615,7 @@ fn on_record(s: Session, live: &[u32], working: &mut [u32], announced: bool, r: 
 
 fn on_router_key(s: Session, live: &[u32], working: &mut [u32]) -> Session
     requires { ⌜ BothRooms 1024 s (now live) (now working) ⌝ }
-    ensures { λ t. ⌜ Stands 1024 t (now (live .entry)) (now (working .exit)) (onRouterKey (stageOf (s .phase)) (receiverOf s (now (live .entry)) (now (working .entry)) [])) ⌝ }
+    ensures { λ t. ⌜ Stands 1024 t (now (live .entry)) (now (working .exit)) (keyIn (stageOf (s .phase)) (receiverOf s (now (live .entry)) (now (working .entry)) [])) ⌝ }
 {
     let phase = s.phase;
     match phase {
@@ -626,7 +626,7 @@ fn on_router_key(s: Session, live: &[u32], working: &mut [u32]) -> Session
 
 fn on_cache_reset(s: Session, live: &[u32], working: &mut [u32]) -> Session
     requires { ⌜ BothRooms 1024 s (now live) (now working) ⌝ }
-    ensures { λ t. ⌜ Stands 1024 t (now (live .entry)) (now (working .exit)) (onCacheReset (stageOf (s .phase)) (receiverOf s (now (live .entry)) (now (working .entry)) [])) ⌝ }
+    ensures { λ t. ⌜ Stands 1024 t (now (live .entry)) (now (working .exit)) (resetIn (stageOf (s .phase)) (receiverOf s (now (live .entry)) (now (working .entry)) [])) ⌝ }
 {
     let phase = s.phase;
     match phase {
@@ -663,7 +663,7 @@ fn finish(s: Session, live: &mut [u32], working: &mut [u32], p: RtrEndOfData) ->
 
 fn on_end_of_data(s: Session, live: &mut [u32], working: &mut [u32], p: RtrEndOfData) -> DeedDone
     requires { ⌜ BothRooms 1024 s (now live) (now working) ⌝ }
-    ensures { λ d. ⌜ Did 1024 d (now (live .exit)) (now (working .exit)) (onEndOfData (stageOf (s .phase)) p (receiverOf s (now (live .entry)) (now (working .entry)) [])) ⌝ }
+    ensures { λ d. ⌜ Did 1024 d (now (live .exit)) (now (working .exit)) (endIn (stageOf (s .phase)) p (receiverOf s (now (live .entry)) (now (working .entry)) [])) ⌝ }
 {
     let phase = s.phase;
     match phase {

@@ -2,7 +2,7 @@
 use mathlib.Core.Path.{refl, sym, ap, _∙_}
 use mathlib.Core.List.{[]}
 use denote.Ref.{now}
-use Rattle.rtr_receiver.specs.Receiver.{onCacheResponse}
+use Rattle.rtr_receiver.specs.Private.{responseIn}
 use Rattle.rtr_receiver.specs.Promises.{stageOf, receiverOf, inMemory}
 use Rattle.rtr_receiver.specs.declared.Stop.{Stop}
 use Rattle.rtr_receiver.specs.declared.Phase.{Phase}
@@ -45,7 +45,7 @@ returns-2 : tie.Need-returns-2
 returns-2 c =
     let a = c .before .before .before .before .before .before .before .before .args in
     c .before .before .on-change-response .ensures
-    ∙ ap (λ (p : Phase). inMemory 1024 (onCacheResponse (stageOf p) (a .session-id) (receiverOf (a .s) (now (a .live)) (now (a .working)) []))) (sym (c .before .before .before .before .enum-told2 .given .1))
+    ∙ ap (λ (p : Phase). inMemory 1024 (responseIn (stageOf p) (a .session-id) (receiverOf (a .s) (now (a .live)) (now (a .working)) []))) (sym (c .before .before .before .before .enum-told2 .given .1))
 
 same-length-3 : tie.Need-same-length-3
 same-length-3 c = search needs

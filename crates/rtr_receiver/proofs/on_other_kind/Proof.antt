@@ -67,7 +67,7 @@ returns c =
     let r = receiverOf (a .s) live working [] in
     did 1024 live (working) (c .no-update .result) (c .before .on-serial-notify .result) 0 (c .no-update .ensures) _
     (notify-stands 1024 (a .s) live working (c .before .before .before .before .before .before .before .pre .0) _ _ (c .before .on-serial-notify .result) (c .before .on-serial-notify .ensures))
-    _ (kind-notify 1024 r (a .pdu) (c .before .before .before .pdu .given .0 .0) (c .before .before .before .pdu .given .1))
+    _ (kind-notify 1024 r (a .pdu) (c .before .before .before .before .before .before .before .pre .0 .3) (c .before .before .before .pdu .given .0 .0) (c .before .before .before .pdu .given .1))
 
 same-length : tie.Need-same-length
 same-length c = search needs

@@ -3,7 +3,7 @@ use mathlib.Core.Bool.{Bool}
 use mathlib.Core.Path.{refl, sym, ap₂, _∙_}
 use mathlib.Core.List.{[]}
 use denote.Ref.{now}
-use Rattle.rtr_receiver.specs.Receiver.{onRecord}
+use Rattle.rtr_receiver.specs.Private.{recordIn}
 use Rattle.rtr_receiver.specs.Promises.{stageOf, receiverOf, inMemory}
 use Rattle.rtr_receiver.specs.declared.Stop.{Stop}
 use Rattle.rtr_receiver.specs.declared.Phase.{Phase}
@@ -25,7 +25,7 @@ returns : tie.Need-returns
 returns c =
     let a = c .before .before .before .before .before .before .before .before .before .args in
     c .before .before .on-announcement .ensures
-    ∙ ap₂ (λ (p : Phase) (announced : Bool). inMemory 1024 (onRecord 1024 (stageOf p) announced (a .r) (receiverOf (a .s) (now (a .live)) (now (a .working)) []))) (sym (c .before .before .before .before .before .enum-told .given .1)) (sym (c .before .before .before .before .if1 .taken))
+    ∙ ap₂ (λ (p : Phase) (announced : Bool). inMemory 1024 (recordIn 1024 (stageOf p) announced (a .r) (receiverOf (a .s) (now (a .live)) (now (a .working)) []))) (sym (c .before .before .before .before .before .enum-told .given .1)) (sym (c .before .before .before .before .if1 .taken))
 
 on-withdrawal-requires : tie.Need-on-withdrawal-requires
 on-withdrawal-requires c κs = search needs
@@ -40,7 +40,7 @@ returns-2 : tie.Need-returns-2
 returns-2 c =
     let a = c .before .before .before .before .before .before .before .before .before .args in
     c .before .before .on-withdrawal .ensures
-    ∙ ap₂ (λ (p : Phase) (announced : Bool). inMemory 1024 (onRecord 1024 (stageOf p) announced (a .r) (receiverOf (a .s) (now (a .live)) (now (a .working)) []))) (sym (c .before .before .before .before .before .enum-told .given .1)) (sym (c .before .before .before .before .if1 .left))
+    ∙ ap₂ (λ (p : Phase) (announced : Bool). inMemory 1024 (recordIn 1024 (stageOf p) announced (a .r) (receiverOf (a .s) (now (a .live)) (now (a .working)) []))) (sym (c .before .before .before .before .before .enum-told .given .1)) (sym (c .before .before .before .before .if1 .left))
 
 same-length-3 : tie.Need-same-length-3
 same-length-3 c = search needs

@@ -29,7 +29,7 @@ on-pdu-requires : tie.Need-on-pdu-requires
 on-pdu-requires c κs =
     let a = c .before .before .before .before .before .before .before .before .before .before .before .before .before .before .before .args in
     let shape = shape-of 1024 (a .s) (now (a .live)) (now (a .working)) (now (a .hold)) (c .before .before .before .before .before .before .before .before .before .before .before .before .before .before .before .pre .0) in
-    subst (λ (t : Session). BothRooms 1024 t (now (a .live)) (now (a .working))) (sym (c .before .before .with-held .ensures)) (shape .live-room, shape .working-room, refl)
+    subst (λ (t : Session). BothRooms 1024 t (now (a .live)) (now (a .working))) (sym (c .before .before .with-held .ensures)) (shape .live-room, shape .working-room, refl, c .before .before .before .before .before .before .before .before .before .before .before .before .before .before .before .pre .1)
 
 after-pdu-requires : tie.Need-after-pdu-requires
 after-pdu-requires c κs =
