@@ -1,7 +1,7 @@
 -- Bytes behind a PDU do not change what is read of it. A number that lies in s is the same in s ++ t, so each check goes the same way;
 -- where a check passes, what it tested says that the fields behind it lie in s too. Over every reading. Assumes nothing.
 use Prim.Native.Nat.{ℕ, zero, suc, _≤_, _+_}
-use mathlib.Core.Bool.{Bool, true, false}
+use mathlib.Core.Bool.{Bool, true, false, cond}
 use mathlib.Core.List.{List, [], _∷_, _++_}
 use mathlib.Core.Path.{_≡_, refl, ap, _∙_}
 use native.Mathlib.Omega.{arith}
@@ -15,12 +15,14 @@ use Rattle.rtr_models.specs.declared.RtrProtocolVersion.the-variants.{V0, V1}
 use Rattle.rtr_models.specs.declared.RtrPduType.{RtrPduType}
 use Rattle.rtr_models.specs.declared.RtrPduType.the-variants.{SerialNotify, SerialQuery, ResetQuery, CacheResponse, IPv4Prefix, IPv6Prefix, EndOfData, CacheReset, RouterKey, ErrorReport}
 use Rattle.rtr_models.specs.declared.RtrErrorCode.{RtrErrorCode}
+use Rattle.rtr_models.specs.declared.Place.{Place}
 use Rattle.rtr_models.specs.declared.VersionFound.{VersionFound}
 use Rattle.rtr_models.specs.declared.TypeFound.{TypeFound}
 use Rattle.rtr_models.specs.declared.CodeFound.{CodeFound}
 use Rattle.rtr_codec.specs.Bytes.{number}
 use Rattle.rtr_codec.specs.Reading.{Reading}
-use Rattle.rtr_codec.specs.Layout.{Field, widths, lengthOf, valuesFrom}
+use Rattle.rtr_codec.specs.Layout.{Label, Field, widths, lengthOf, same, place, placeFrom, valueFrom, valueOf}
+use Rattle.rtr_codec.specs.Layout.Label.{flags, asNumber}
 use Rattle.rtr_codec.specs.Layout.Field.{ignored, total, value, payload}
 use Rattle.rtr_codec.specs.Read.{Verdict, need, headerLength, ends, keyFields, readKey, readSerialNotify, readSerialQuery, readResetQuery, readCacheResponse, readIPv4Prefix, readIPv6Prefix, readEndOfData, readCacheReset, readRouterKey, readText, readEncapsulated, readCode, readErrorReport, readAs, readTyped, readVersioned}
 
@@ -34,6 +36,19 @@ ends-within : (b : Bool) (x h : ℕ) → ends b x h ≡ true → x ≤ h
 ends-within true x h e = leb-true x h e
 ends-within false x h e = omega (arith, eqb-true x h e)
 
+-- the field of a label ends within the fields: it is the first of them, or one of the others
+within-either : (b : Bool) (at n : ℕ) (fs : List Field) (other : Place) → other .start + other .len ≤ at + n + widths fs
+    → cond b (place at n) other .start + cond b (place at n) other .len ≤ at + (n + widths fs)
+within-either true at n fs other h = omega arith
+within-either false at n fs other h = omega arith
+
+place-within : (at : ℕ) (fs : List Field) (l : Label) → placeFrom at fs l .start + placeFrom at fs l .len ≤ at + widths fs
+place-within at [] l = omega arith
+place-within at (ignored n ∷ fs) l = omega (arith, place-within (at + n) fs l)
+place-within at (total ∷ fs) l = omega (arith, place-within (at + 4) fs l)
+place-within at (value m n ∷ fs) l = within-either (same m l) at n fs (placeFrom (at + n) fs l) (place-within (at + n) fs l)
+place-within at (payload m n ∷ fs) l = within-either (same m l) at n fs (placeFrom (at + n) fs l) (place-within (at + n) fs l)
+
 module _ (s t : List ℕ) where
   pub number-behind : (at size : ℕ) → at + size ≤ length s → number (s ++ t) at size ≡ number s at size
   unfolding number
@@ -43,17 +58,8 @@ module _ (s t : List ℕ) where
       let front : number (s ++ t) at size ≡ number s at size = number-behind at size (omega arith) in
       cc
 
-  values-behind : (at : ℕ) (fs : List Field) → at + widths fs ≤ length s → valuesFrom at fs (s ++ t) ≡ valuesFrom at fs s
-  values-behind at [] h = refl
-  values-behind at (ignored n ∷ fs) h = values-behind (at + n) fs (omega arith)
-  values-behind at (total ∷ fs) h = values-behind (at + 4) fs (omega arith)
-  values-behind at (value n ∷ fs) h =
-      let first : number (s ++ t) at n ≡ number s at n = number-behind at n (omega arith) in
-      let rest : valuesFrom (at + n) fs (s ++ t) ≡ valuesFrom (at + n) fs s = values-behind (at + n) fs (omega arith) in
-      cc
-  values-behind at (payload n ∷ fs) h =
-      let rest : valuesFrom (at + n) fs (s ++ t) ≡ valuesFrom (at + n) fs s = values-behind (at + n) fs (omega arith) in
-      cc
+  value-behind : (at : ℕ) (fs : List Field) (l : Label) → at + widths fs ≤ length s → valueFrom at fs (s ++ t) l ≡ valueFrom at fs s l
+  value-behind at fs l h = number-behind (placeFrom at fs l .start) (placeFrom at fs l .len) (omega (arith, place-within at fs l))
 
   pub header-behind : 8 ≤ length s → headerLength (s ++ t) ≡ headerLength s
   unfolding headerLength
@@ -76,7 +82,9 @@ module _ (s t : List ℕ) (large : 8 ≤ length s) (fits : headerLength s ≤ le
   key-behind fields =
       simp (header-behind s t large)
       (same-check (leb (lengthOf fields) (headerLength s)) 4 _ _ _
-      (λ e. simp (values-behind s t 2 fields (omega (arith, leb-true (lengthOf fields) (headerLength s) e)))))
+      (λ e.
+      let here : (l : Label) → valueOf fields (s ++ t) l ≡ valueOf fields s l = λ l. value-behind s t 2 fields l (omega (arith, leb-true (lengthOf fields) (headerLength s) e)) in
+      simp (here flags, here asNumber)))
 
   text-behind : (R : Reading) (v : RtrProtocolVersion) (c : RtrErrorCode) (e n : ℕ) → readText R v c e n (s ++ t) ≡ readText R v c e n s
   unfolding readText

@@ -8,7 +8,7 @@ use mathlib.Core.Path.{_≡_, refl, sym, ap, _∙_, subst}
 use native.Mathlib.Omega.{arith}
 use borrow.Author.Tests.{eqb-true, leb-true, le-leb}
 use lib.Dec.{leb, eqb}
-use lib.ListN.{length, getD, take, drop}
+use lib.ListN.{length, take, drop}
 use Rattle.rtr_text.specs.Utf8.{wellFormed}
 use Rattle.rtr_models.specs.Codes.{versionNumber, typeNumber, versionFound, typeFound, codeFound}
 use Rattle.rtr_models.specs.Values.{typeOf, versionOf}
@@ -26,10 +26,11 @@ use Rattle.rtr_models.specs.declared.RtrErrorReport.{RtrErrorReport}
 use Rattle.rtr_models.specs.declared.RtrPdu.{RtrPdu}
 use Rattle.rtr_codec.specs.Bytes.{number}
 use Rattle.rtr_codec.specs.Reading.{Reading}
-use Rattle.rtr_codec.specs.Layout.{lengthOf, valuesOf}
+use Rattle.rtr_codec.specs.Layout.{lengthOf, place, placeOf, valueOf}
+use Rattle.rtr_codec.specs.Layout.Label.{flags, asNumber, keyIdentifier}
 use Rattle.rtr_codec.specs.Read.{Verdict, need, ends, codeIn, headerLength, keyFields, readKey, readSerialNotify, readSerialQuery, readResetQuery, readCacheResponse, readIPv4Prefix, readIPv6Prefix, readEndOfData, readCacheReset, readRouterKey, readText, readEncapsulated, readCode, readErrorReport, readAs, readTyped, readVersioned, read}
 use Rattle.rtr_codec.specs.Read.Verdict.{accepted, refused}
-use Rattle.rtr_codec.specs.Stands.{place, endStands, keyStands, reportStands, kindStands, Stands}
+use Rattle.rtr_codec.specs.Stands.{endStands, keyStands, reportStands, kindStands, Stands}
 use Rattle.rtr_codec.proofs.Laws.{read-consumes}
 
 -- check 6 of a prefix
@@ -63,9 +64,9 @@ module _ (R : Reading) (s : List ℕ) where
   keyRead b =
       record {
         version = V1;
-        flags = getD (valuesOf (keyFields b) s) 0 0;
-        «subject_key_identifier» = place (getD (valuesOf (keyFields b) s) 1 0) 20;
-        asn = getD (valuesOf (keyFields b) s) 2 0;
+        flags = valueOf (keyFields b) s flags;
+        «subject_key_identifier» = placeOf (keyFields b) keyIdentifier;
+        asn = valueOf (keyFields b) s asNumber;
         «subject_public_key_info» = place (lengthOf (keyFields b)) (headerLength s - lengthOf (keyFields b));
       }
 

@@ -18,6 +18,9 @@ use Rattle.rtr_codec.specs.Reading.{Reading, rfc, crate}
 use Rattle.rtr_codec.specs.Departures.{Departure, has, applies}
 use Rattle.rtr_codec.specs.Read.{headerLength, readVersioned, read, needed}
 use Rattle.rtr_codec.specs.Read.Verdict.{accepted, refused}
+use Rattle.rtr_codec.specs.Answers.{refusal, numberOf}
+use Rattle.rtr_codec.specs.declared.RtrError.{RtrError}
+use Rattle.rtr_codec.specs.declared.RtrError.the-variants.{IncompletePdu, InvalidProtocolVersion, InvalidPduType, InvalidLength, RouterKeyInV0, InvalidPrefixLength, InvalidErrorCode, InvalidUtf8}
 use Rattle.rtr_codec.proofs.Whole.{Whole, versioned-whole}
 use Rattle.rtr_codec.proofs.Behind.{number-behind, header-behind, versioned-behind}
 use Rattle.rtr_codec.proofs.Departs.{read-alike}
@@ -170,3 +173,25 @@ readings-agree R R′ s h = read-alike R R′ s h
 -- where no named departure applies, the crate reads as the RFCs do
 pub read-departs : (s : List ℕ) → ((d : Departure) → applies d s ≡ false) → read crate s ≡ read rfc s
 read-departs s h = readings-agree crate rfc s (λ d. inr (h d))
+
+-- an error is a refusal by its number, with some values: whoever only needs that lists no errors
+pub refusal-is : (error : RtrError) → (values : List ℕ) × (refusal error ≡ refused (numberOf (refusal error)) values)
+refusal-is (IncompletePdu available needed) = (_, refl)
+refusal-is (InvalidPduType type) = (_, refl)
+refusal-is (InvalidProtocolVersion version) = (_, refl)
+refusal-is (InvalidErrorCode code) = (_, refl)
+refusal-is (InvalidLength expected actual type) = (_, refl)
+refusal-is (InvalidPrefixLength length max limit) = (_, refl)
+refusal-is InvalidUtf8 = (_, refl)
+refusal-is RouterKeyInV0 = (_, refl)
+
+-- and its number is 8 at the most
+pub refusal-small : (error : RtrError) → numberOf (refusal error) ≤ 8
+refusal-small (IncompletePdu available needed) = omega arith
+refusal-small (InvalidPduType type) = omega arith
+refusal-small (InvalidProtocolVersion version) = omega arith
+refusal-small (InvalidErrorCode code) = omega arith
+refusal-small (InvalidLength expected actual type) = omega arith
+refusal-small (InvalidPrefixLength length max limit) = omega arith
+refusal-small InvalidUtf8 = omega arith
+refusal-small RouterKeyInV0 = omega arith

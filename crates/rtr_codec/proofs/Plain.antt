@@ -13,7 +13,7 @@ use Rattle.rtr_models.specs.declared.RtrPduType.the-variants.{IPv4Prefix, IPv6P
 use Rattle.rtr_models.specs.declared.TypeFound.{TypeFound}
 use Rattle.rtr_codec.specs.Reading.{Reading}
 use Rattle.rtr_codec.specs.Read.{readIPv4Prefix, readIPv6Prefix, readAs, readTyped, readVersioned, read}
-use Rattle.rtr_codec.specs.Plain.{PlainPrefix}
+use Rattle.rtr_codec.specs.Private.{PlainPrefix}
 
 -- a test that failed says nothing
 pub no : {A : Type 0} → false ≡ true → A

@@ -12,21 +12,13 @@ use Rattle.rtr_codec.specs.Read.Verdict.{accepted}
 use Rattle.rtr_codec.specs.Run.{placeAfter, readAt}
 use Rattle.rtr_codec.specs.Answers.{refusal}
 use Rattle.rtr_codec.specs.declared.RtrError.{RtrError}
-use Rattle.rtr_codec.specs.declared.RtrError.the-variants.{IncompletePdu, InvalidProtocolVersion, InvalidPduType, InvalidLength, RouterKeyInV0, InvalidPrefixLength, InvalidErrorCode, InvalidUtf8}
-use Rattle.rtr_codec.proofs.Laws.{read-consumes}
+use Rattle.rtr_codec.proofs.Laws.{read-consumes, refusal-is}
 
 all-behind : (s : List ℕ) (at : ℕ) → take (length s - at) (drop at s) ≡ drop at s
 all-behind s at = take-all (length s - at) (drop at s) (simp length-drop (omega arith))
 
 unmoved : (error : RtrError) (at : ℕ) → placeAfter at (refusal error) ≡ at
-unmoved (IncompletePdu a n) at = refl
-unmoved (InvalidPduType n) at = refl
-unmoved (InvalidProtocolVersion n) at = refl
-unmoved (InvalidErrorCode n) at = refl
-unmoved (InvalidLength e a n) at = refl
-unmoved (InvalidPrefixLength l m b) at = refl
-unmoved InvalidUtf8 at = refl
-unmoved RouterKeyInV0 at = refl
+unmoved error at = rw (refusal-is error .1) refl
 
 module _ (R : Reading) (s : List ℕ) (at : ℕ) (v : Verdict) (e : v ≡ read R (take (length s - at) (drop at s))) where
   here : read R (drop at s) ≡ v

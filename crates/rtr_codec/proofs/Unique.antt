@@ -2,7 +2,7 @@
 use Prim.Native.Nat.{ℕ}
 use mathlib.Core.Bool.{cond}
 use mathlib.Core.List.{List}
-use mathlib.Core.Path.{_≡_, refl}
+use mathlib.Core.Path.{_≡_, refl, sym, ap, _∙_}
 use lib.Dec.{eqb}
 use lib.ListN.{getD}
 use Rattle.rtr_base.proofs.Unique.{only-one, only-this}
@@ -46,6 +46,11 @@ error-back (InvalidLength e a t) = refl
 error-back (InvalidPrefixLength l m b) = refl
 error-back InvalidUtf8 = refl
 error-back RouterKeyInV0 = refl
+
+-- so a refusal's number and values give back the error
+pub refusal-back : (e : RtrError) (k : ℕ) (x : List ℕ) → refusal e ≡ refused k x → errorOf k x ≡ e
+unfolding answerOf
+refusal-back e k x p = let q : Refused (errorOf k x) ≡ Refused e = ap answerOf (sym p) ∙ error-back e in cc
 
 verdict-back : (a : ReadAnswer) → answerOf (verdict a) ≡ a
 unfolding answerOf

@@ -1,5 +1,5 @@
 -- What people must believe of this crate. Read first: Read (what reading is), with Layout (the pictures of the RFCs) and Reading (where
--- the crate departs from them). Stands says of the PDU, byte by byte, what is accepted.
+-- the crate departs from them). Stands says of the PDU, byte by byte, what is accepted. Private serves the contracts of private functions alone.
 pub mod Read
 pub mod Stands
 pub mod Reading
@@ -8,4 +8,4 @@ pub mod Layout
 pub mod Bytes
 pub mod Answers
 pub mod Run
-pub mod Plain
+pub mod Private

@@ -1,14 +1,14 @@
 -- Reading one PDU from a slice: document 01, "Reading". The checks stand in its order, each with its refusal's number and values; what is
 -- read off the bytes is RFC 8210, sections 5.1 to 5.11, but for the switches of a `Reading`.
-use Prim.Native.Nat.{ℕ, _+_, _-_, _≤_, min}
+use Prim.Native.Nat.{ℕ, _+_, _-_, min}
 use mathlib.Core.Bool.{Bool, true, false, cond, _&&_, _||_}
 use mathlib.Core.List.{List, [], _∷_}
-use mathlib.Core.Path.{_≡_}
-use lib.ListN.{length, getD, take, drop}
+use lib.ListN.{length, take, drop}
 use lib.Dec.{leb, eqb}
-use Rattle.rtr_text.specs.Utf8.{wellFormed}
+use Rattle.rtr_text.specs.Utf8.{wellFormed, wellFormedUpTo}
 use Rattle.rtr_codec.specs.Bytes.{number}
-use Rattle.rtr_codec.specs.Layout.{Field, serialLayout, bareLayout, responseLayout, ipv4Layout, ipv6Layout, endLayout, keyLayout, crateKeyLayout, lengthOf, valuesOf}
+use Rattle.rtr_codec.specs.Layout.{Label, Field, serialLayout, bareLayout, responseLayout, ipv4Layout, ipv6Layout, endLayout, keyLayout, crateKeyLayout, reportLayout, textLayout, lengthOf, place, placeOf, valueFrom, valueOf, encapsulatedStart, textStart}
+use Rattle.rtr_codec.specs.Layout.Label.{sessionId, serialNumber, flags, prefixLength, maxLength, address0, address1, address2, address3, asNumber, refreshInterval, retryInterval, expireInterval, keyIdentifier, errorCode, encapsulatedLength, textLength}
 use Rattle.rtr_codec.specs.Reading.{Reading}
 use Rattle.rtr_models.specs.Codes.{versionFound, typeFound, codeFound, typeNumber}
 use Rattle.rtr_models.specs.declared.RtrProtocolVersion.{RtrProtocolVersion}
@@ -36,15 +36,11 @@ need false n values next = refused n values
 unfoldable pub headerLength : List ℕ → ℕ
 headerLength s = number s 4 4
 
--- what stands when a kind is looked at: n is the header's length, and so many bytes are there, the header among them
-abbrev pub Framed : ℕ → List ℕ → Type 0
-Framed n s = (n ≡ headerLength s) × ((8 ≤ length s) × (n ≤ length s))
-
--- check 5: the length is that of the fields
-abbrev pub fixed : RtrPduType → List Field → List ℕ → (List ℕ → Verdict) → Verdict
+-- check 5: the length is that of the fields; what comes next has their values by their labels
+abbrev pub fixed : RtrPduType → List Field → List ℕ → ((Label → ℕ) → Verdict) → Verdict
 fixed type fields s next =
     need (eqb (headerLength s) (lengthOf fields)) 4 (lengthOf fields ∷ headerLength s ∷ typeNumber type ∷ [])
-    (next (valuesOf fields s))
+    (next (valueOf fields s))
 
 -- check 6: prefix length ≤ max length ≤ the family's bits
 abbrev pub prefixes : ℕ → ℕ → ℕ → Verdict → Verdict
@@ -54,13 +50,13 @@ prefixes length max limit next = need (leb length max && leb max limit) 6 (lengt
 unfoldable pub readSerialNotify : RtrProtocolVersion → List ℕ → Verdict
 readSerialNotify v s =
     fixed SerialNotify serialLayout s
-    (λ x. accepted (RtrPdu.SerialNotify (record { version = v; «session_id» = getD x 0 0; «serial_number» = getD x 1 0 })) (headerLength s))
+    (λ x. accepted (RtrPdu.SerialNotify (record { version = v; «session_id» = x sessionId; «serial_number» = x serialNumber })) (headerLength s))
 
 -- 5.3
 unfoldable pub readSerialQuery : RtrProtocolVersion → List ℕ → Verdict
 readSerialQuery v s =
     fixed SerialQuery serialLayout s
-    (λ x. accepted (RtrPdu.SerialQuery (record { version = v; «session_id» = getD x 0 0; «serial_number» = getD x 1 0 })) (headerLength s))
+    (λ x. accepted (RtrPdu.SerialQuery (record { version = v; «session_id» = x sessionId; «serial_number» = x serialNumber })) (headerLength s))
 
 -- 5.4
 unfoldable pub readResetQuery : RtrProtocolVersion → List ℕ → Verdict
@@ -70,22 +66,22 @@ readResetQuery v s = fixed ResetQuery bareLayout s (λ x. accepted (RtrPdu.Reset
 unfoldable pub readCacheResponse : RtrProtocolVersion → List ℕ → Verdict
 readCacheResponse v s =
     fixed CacheResponse responseLayout s
-    (λ x. accepted (RtrPdu.CacheResponse (record { version = v; «session_id» = getD x 0 0 })) (headerLength s))
+    (λ x. accepted (RtrPdu.CacheResponse (record { version = v; «session_id» = x sessionId })) (headerLength s))
 
 -- 5.6
 unfoldable pub readIPv4Prefix : RtrProtocolVersion → List ℕ → Verdict
 readIPv4Prefix v s =
     fixed IPv4Prefix ipv4Layout s
-    (λ x. prefixes (getD x 1 0) (getD x 2 0) 32
+    (λ x. prefixes (x prefixLength) (x maxLength) 32
     (accepted
     (RtrPdu.IPv4Prefix
     (record {
       version = v;
-      flags = getD x 0 0;
-      «prefix_length» = getD x 1 0;
-      «max_length» = getD x 2 0;
-      prefix = getD x 3 0;
-      asn = getD x 4 0;
+      flags = x flags;
+      «prefix_length» = x prefixLength;
+      «max_length» = x maxLength;
+      prefix = x address0;
+      asn = x asNumber;
     }))
     (headerLength s)))
 
@@ -93,16 +89,16 @@ readIPv4Prefix v s =
 unfoldable pub readIPv6Prefix : RtrProtocolVersion → List ℕ → Verdict
 readIPv6Prefix v s =
     fixed IPv6Prefix ipv6Layout s
-    (λ x. prefixes (getD x 1 0) (getD x 2 0) 128
+    (λ x. prefixes (x prefixLength) (x maxLength) 128
     (accepted
     (RtrPdu.IPv6Prefix
     (record {
       version = v;
-      flags = getD x 0 0;
-      «prefix_length» = getD x 1 0;
-      «max_length» = getD x 2 0;
-      prefix = record { w0 = getD x 3 0; w1 = getD x 4 0; w2 = getD x 5 0; w3 = getD x 6 0 };
-      asn = getD x 7 0;
+      flags = x flags;
+      «prefix_length» = x prefixLength;
+      «max_length» = x maxLength;
+      prefix = record { w0 = x address0; w1 = x address1; w2 = x address2; w3 = x address3 };
+      asn = x asNumber;
     }))
     (headerLength s)))
 
@@ -114,8 +110,8 @@ readEndOfData V0 s =
     (RtrPdu.EndOfData
     (record {
       version = V0;
-      «session_id» = getD x 0 0;
-      «serial_number» = getD x 1 0;
+      «session_id» = x sessionId;
+      «serial_number» = x serialNumber;
       «refresh_interval» = Interval.Absent;
       «retry_interval» = Interval.Absent;
       «expire_interval» = Interval.Absent;
@@ -127,11 +123,11 @@ readEndOfData V1 s =
     (RtrPdu.EndOfData
     (record {
       version = V1;
-      «session_id» = getD x 0 0;
-      «serial_number» = getD x 1 0;
-      «refresh_interval» = Interval.Seconds (getD x 2 0);
-      «retry_interval» = Interval.Seconds (getD x 3 0);
-      «expire_interval» = Interval.Seconds (getD x 4 0);
+      «session_id» = x sessionId;
+      «serial_number» = x serialNumber;
+      «refresh_interval» = Interval.Seconds (x refreshInterval);
+      «retry_interval» = Interval.Seconds (x retryInterval);
+      «expire_interval» = Interval.Seconds (x expireInterval);
     }))
     (headerLength s))
 
@@ -150,10 +146,10 @@ readKey fields s =
     (RtrPdu.RouterKey
     (record {
       version = V1;
-      flags = getD (valuesOf fields s) 0 0;
-      «subject_key_identifier» = record { start = getD (valuesOf fields s) 1 0; len = 20 };
-      asn = getD (valuesOf fields s) 2 0;
-      «subject_public_key_info» = record { start = lengthOf fields; len = headerLength s - lengthOf fields };
+      flags = valueOf fields s flags;
+      «subject_key_identifier» = placeOf fields keyIdentifier;
+      asn = valueOf fields s asNumber;
+      «subject_public_key_info» = place (lengthOf fields) (headerLength s - lengthOf fields);
     }))
     (headerLength s))
 
@@ -170,25 +166,29 @@ capped n = min n 4294967295
 abbrev pub ends : Bool → ℕ → ℕ → Bool
 ends passedOver end total = cond passedOver (leb end total) (eqb end total)
 
+-- what goes with refusal 8, for a text that is well formed up to so many bytes: nothing (document 01, "Refusal numbers")
+abbrev pub textRefusal : ℕ → List ℕ
+textRefusal upTo = []
+
 -- check 7: the encapsulated length e, then the text's length t, then the text
 unfoldable pub readText : Reading → RtrProtocolVersion → RtrErrorCode → ℕ → ℕ → List ℕ → Verdict
 readText R v c e t s =
-    need (ends (R .bytesBehindText) (16 + e + t) (headerLength s)) 4 (capped (16 + e + t) ∷ headerLength s ∷ typeNumber ErrorReport ∷ [])
-    (need (wellFormed (take t (drop (16 + e) s))) 8 []
+    need (ends (R .bytesBehindText) (textStart e + t) (headerLength s)) 4 (capped (textStart e + t) ∷ headerLength s ∷ typeNumber ErrorReport ∷ [])
+    (need (wellFormed (take t (drop (textStart e) s))) 8 (textRefusal (wellFormedUpTo (take t (drop (textStart e) s))))
     (accepted
     (RtrPdu.ErrorReport
     (record {
       version = v;
       «error_code» = c;
-      «erroneous_pdu» = record { start = 12; len = e };
-      «error_text» = record { start = 16 + e; len = t };
+      «erroneous_pdu» = place encapsulatedStart e;
+      «error_text» = place (textStart e) t;
     }))
     (headerLength s)))
 
 unfoldable pub readEncapsulated : Reading → RtrProtocolVersion → RtrErrorCode → ℕ → List ℕ → Verdict
 readEncapsulated R v c e s =
-    need (leb (16 + e) (headerLength s)) 4 (capped (16 + e) ∷ headerLength s ∷ typeNumber ErrorReport ∷ [])
-    (readText R v c e (number s (12 + e) 4) s)
+    need (leb (textStart e) (headerLength s)) 4 (capped (textStart e) ∷ headerLength s ∷ typeNumber ErrorReport ∷ [])
+    (readText R v c e (valueFrom (encapsulatedStart + e) textLayout s textLength) s)
 
 -- RFC 6810, section 10, has the codes 0 to 7; RFC 8210, section 12, adds 8
 abbrev pub lastCode : RtrProtocolVersion → ℕ
@@ -201,12 +201,13 @@ codeIn eightInV0 v n = leb n (lastCode v) || (eightInV0 && eqb n 8)
 -- check 6, the error code
 unfoldable pub readCode : Reading → RtrProtocolVersion → ℕ → CodeFound → List ℕ → Verdict
 readCode R v n CodeFound.Unknown s = refused 7 (n ∷ [])
-readCode R v n (CodeFound.Known c) s = need (codeIn (R .codeEightInV0) v n) 7 (n ∷ []) (readEncapsulated R v c (number s 8 4) s)
+readCode R v n (CodeFound.Known c) s =
+    need (codeIn (R .codeEightInV0) v n) 7 (n ∷ []) (readEncapsulated R v c (valueOf reportLayout s encapsulatedLength) s)
 
 unfoldable pub readErrorReport : Reading → RtrProtocolVersion → List ℕ → Verdict
 readErrorReport R v s =
-    need (leb 16 (headerLength s)) 4 (16 ∷ headerLength s ∷ typeNumber ErrorReport ∷ [])
-    (readCode R v (number s 2 2) (codeFound (number s 2 2)) s)
+    need (leb (textStart 0) (headerLength s)) 4 (textStart 0 ∷ headerLength s ∷ typeNumber ErrorReport ∷ [])
+    (readCode R v (valueOf reportLayout s errorCode) (codeFound (valueOf reportLayout s errorCode)) s)
 
 -- checks 4 to 7, by the PDU's type
 unfoldable pub readAs : Reading → RtrProtocolVersion → RtrPduType → List ℕ → Verdict

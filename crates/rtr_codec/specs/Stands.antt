@@ -9,7 +9,6 @@ use lib.ListN.{length, take, drop}
 use Rattle.rtr_text.specs.Utf8.{wellFormed}
 use Rattle.rtr_models.specs.Codes.{versionNumber, typeNumber, codeNumber}
 use Rattle.rtr_models.specs.Values.{typeOf, versionOf}
-use Rattle.rtr_models.specs.declared.Place.{Place}
 use Rattle.rtr_models.specs.declared.Interval.the-variants.{Absent, Seconds}
 use Rattle.rtr_models.specs.declared.RtrProtocolVersion.{RtrProtocolVersion}
 use Rattle.rtr_models.specs.declared.RtrProtocolVersion.the-variants.{V0, V1}
@@ -20,11 +19,8 @@ use Rattle.rtr_models.specs.declared.RtrPdu.{RtrPdu}
 use Rattle.rtr_models.specs.declared.RtrPdu.the-variants.{SerialNotify, SerialQuery, ResetQuery, CacheResponse, IPv4Prefix, IPv6Prefix, EndOfData, CacheReset, RouterKey, ErrorReport}
 use Rattle.rtr_codec.specs.Bytes.{number}
 use Rattle.rtr_codec.specs.Reading.{Reading}
+use Rattle.rtr_codec.specs.Layout.{place}
 use Rattle.rtr_codec.specs.Read.{headerLength, ends, codeIn}
-
--- a payload is named by its place: where it begins, and how many bytes it has (document 01, "What must change shape")
-abbrev pub place : ℕ → ℕ → Place
-place start len = record { start = start; len = len }
 
 -- 5.8: version 0 has no intervals
 abbrev pub endStands : RtrProtocolVersion → RtrEndOfData → List ℕ → Type 0

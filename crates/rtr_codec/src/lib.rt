@@ -8,10 +8,10 @@ ghost use Prim.Native.Nat.{_+_, _≤_, _<_};
 ghost use lib.ListN.{length};
 ghost use Rattle.rtr_codec.specs.Bytes.{number};
 ghost use Rattle.rtr_codec.specs.Reading.{crate, inUse};
-ghost use Rattle.rtr_codec.specs.Read.{read, needed, headerLength, Framed, readSerialNotify, readSerialQuery, readResetQuery, readCacheResponse, readIPv4Prefix, readIPv6Prefix, readEndOfData, readCacheReset, readRouterKey, capped, readText, readEncapsulated, readErrorReport, readAs, readTyped};
+ghost use Rattle.rtr_codec.specs.Read.{read, needed, headerLength, readSerialNotify, readSerialQuery, readResetQuery, readCacheResponse, readIPv4Prefix, readIPv6Prefix, readEndOfData, readCacheReset, readRouterKey, capped, readText, readEncapsulated, readErrorReport, readAs, readTyped};
 ghost use Rattle.rtr_models.specs.Codes.{typeFound};
 ghost use Rattle.rtr_codec.specs.Answers.{verdict, refusal, numberOf};
-ghost use Rattle.rtr_codec.specs.Plain.{PlainPrefix};
+ghost use Rattle.rtr_codec.specs.Private.{Framed, PlainPrefix};
 ghost use Rattle.rtr_codec.specs.Run.{readAt, runSaid};
 
 // ---- Answers

@@ -9,6 +9,7 @@ use borrow.Author.Tests.{le-leb, lt-leb, eqb-true}
 use lib.Dec.{eqb}
 use lib.ListN.{length, drop, length-append}
 use Rattle.rtr_text.specs.Utf8.{wellFormed}
+use Rattle.rtr_text.proofs.Laws.{empty-is-well-formed}
 use Rattle.rtr_models.specs.Codes.{codeNumber}
 use Rattle.rtr_models.specs.Parts.{inside, keyInside, partIf}
 use Rattle.rtr_models.specs.declared.RtrProtocolVersion.{RtrProtocolVersion}
@@ -20,7 +21,8 @@ use Rattle.rtr_models.specs.declared.RtrPdu.the-variants.{RouterKey, ErrorRepor
 use Rattle.rtr_codec.specs.Reading.{Reading, inUse}
 use Rattle.rtr_base.specs.Over.{over}
 use Rattle.rtr_base.proofs.Overs.{over-front}
-use Rattle.rtr_encode.specs.Encode.{bytesOf, at, placesInside, textIn, encodedLength, encoding, encodeSays, encode, keyBytes, reportBytes, lastChecks}
+use Rattle.rtr_encode.specs.Encode.{bytesOf, at, placesInside, textIn, encodedLength, encoding, encodeSays, encode}
+use Rattle.rtr_encode.specs.Private.{keyBytes, reportBytes, lastChecks}
 use Rattle.rtr_encode.specs.Encode.Writing.{written, refused}
 use Rattle.rtr_encode.proofs.Payloads.{length-bytes, part-long}
 
@@ -82,19 +84,19 @@ report-encoding : (p : RtrErrorReport) (s : List ℕ) → inside (p .«erroneous
     ≡ reportBytes (p .version) (codeNumber (p .«error_code»)) (at (p .«erroneous_pdu») s) (at (p .«error_text») s) (16 + p .«erroneous_pdu» .len + p .«error_text» .len)
 unfolding bytesOf encoding encodedLength
 report-encoding p s i j =
-    let w : 8 + (8 + p .«erroneous_pdu» .len + p .«error_text» .len) ≡ 16 + p .«erroneous_pdu» .len + p .«error_text» .len = omega arith in
+    let w : 12 + (p .«erroneous_pdu» .len + 4 + p .«error_text» .len) ≡ 16 + p .«erroneous_pdu» .len + p .«error_text» .len = omega arith in
     simp (part-long (p .«erroneous_pdu») s i, part-long (p .«error_text») s j, w)
 
 key-core : (p : RtrRouterKey) (s out : List ℕ) → keyInside (p .«subject_key_identifier») s ≡ true → inside (p .«subject_public_key_info») s ≡ true
     → lastChecks (34 + p .«subject_public_key_info» .len) (encoding inUse (RouterKey p) s) out ≡ encode inUse (RouterKey p) s out
 unfolding encode encodeSays encodedLength
-key-core p s out k i = simp (k, i)
+key-core p s out k i = simp (k, i, empty-is-well-formed)
 
 report-core : (p : RtrErrorReport) (s out : List ℕ) → inside (p .«erroneous_pdu») s ≡ true → inside (p .«error_text») s ≡ true → wellFormed (at (p .«error_text») s) ≡ true
     → lastChecks (16 + p .«erroneous_pdu» .len + p .«error_text» .len) (encoding inUse (ErrorReport p) s) out ≡ encode inUse (ErrorReport p) s out
 unfolding encode encodeSays encodedLength
 report-core p s out i j w =
-    let n : 8 + (8 + p .«erroneous_pdu» .len + p .«error_text» .len) ≡ 16 + p .«erroneous_pdu» .len + p .«error_text» .len = omega arith in
+    let n : 12 + (p .«erroneous_pdu» .len + 4 + p .«error_text» .len) ≡ 16 + p .«erroneous_pdu» .len + p .«error_text» .len = omega arith in
     simp (i, j, w, n)
 
 pub key-encodes : (p : RtrRouterKey) (s out identifier info : List ℕ) → keyInside (p .«subject_key_identifier») s ≡ true → inside (p .«subject_public_key_info») s ≡ true

@@ -9,6 +9,7 @@ use borrow.Author.Tests.{le-leb}
 use lib.Dec.{leb}
 use lib.ListN.{length, getD, drop, length-append}
 use lib.Seq.{getD-at}
+use Rattle.rtr_text.proofs.Laws.{empty-is-well-formed}
 use Rattle.rtr_codec.specs.Bytes.{number}
 use Rattle.rtr_codec.specs.Layout.{lengthOf}
 use Rattle.rtr_codec.proofs.Laws.{number-none, number-more}
@@ -17,7 +18,7 @@ use Rattle.rtr_models.specs.Values.{typeOf, versionOf}
 use Rattle.rtr_models.specs.declared.RtrProtocolVersion.{RtrProtocolVersion}
 use Rattle.rtr_models.specs.declared.RtrPdu.{RtrPdu}
 use Rattle.rtr_codec.specs.Reading.{Reading}
-use Rattle.rtr_encode.specs.Encode.{Writing, bytesOf, fieldBytes, layoutOf, valuesIn, behind, behindLength, unless, placesInside, textIn, encodedLength, encoding, encodeSays, encode, outAfter}
+use Rattle.rtr_encode.specs.Encode.{Writing, bytesOf, fieldBytes, layoutOf, given, valuesIn, behind, behindLength, unless, placesInside, textIn, encodedLength, encoding, encodeSays, encode, outAfter}
 use Rattle.rtr_encode.specs.Encode.Writing.{written, refused}
 
 -- how long an encoding is, and what it is: version, type, fixed fields, and what follows them
@@ -26,7 +27,7 @@ unfolding encodedLength
 encoded-length-is R pdu = refl
 
 pub encoding-is : (R : Reading) (pdu : RtrPdu) (s : List ℕ)
-    → encoding R pdu s ≡ versionNumber (versionOf pdu) ∷ typeNumber (typeOf pdu) ∷ (fieldBytes (layoutOf R pdu) (encodedLength R pdu) (valuesIn pdu) s ++ behind pdu s)
+    → encoding R pdu s ≡ versionNumber (versionOf pdu) ∷ typeNumber (typeOf pdu) ∷ (fieldBytes (layoutOf R pdu) (encodedLength R pdu) (given (valuesIn pdu)) s ++ behind pdu s)
 unfolding encoding
 encoding-is R pdu s = refl
 
@@ -60,11 +61,11 @@ checked-last false n = refl
 
 pub reset-query-says : (R : Reading) (v : RtrProtocolVersion) (out : List ℕ) → encode R (RtrPdu.ResetQuery (record { version = v })) [] out .says ≡ cond (leb 8 (length out)) (written 8) (refused 9 (8 ∷ []))
 unfolding encode encodeSays encodedLength
-reset-query-says R v out = checked-last (leb 8 (length out)) 8
+reset-query-says R v out = rw empty-is-well-formed (checked-last (leb 8 (length out)) 8)
 
 pub serial-query-says : (R : Reading) (v : RtrProtocolVersion) (session serial : ℕ) (out : List ℕ) → encode R (RtrPdu.SerialQuery (record { version = v; «session_id» = session; «serial_number» = serial })) [] out .says ≡ cond (leb 12 (length out)) (written 12) (refused 9 (12 ∷ []))
 unfolding encode encodeSays encodedLength
-serial-query-says R v session serial out = checked-last (leb 12 (length out)) 12
+serial-query-says R v session serial out = rw empty-is-well-formed (checked-last (leb 12 (length out)) 12)
 
 -- where something is written, a test before it holds
 test-held : (b : Bool) (k : ℕ) (values : List ℕ) (next : Writing) (n : ℕ) → unless b k values next ≡ written n → (b ≡ true) × (next ≡ written n)

@@ -15,7 +15,8 @@ use Rattle.rtr_models.specs.declared.RtrProtocolVersion.{RtrProtocolVersion}
 use Rattle.rtr_models.specs.declared.Place.{Place}
 use Rattle.rtr_models.specs.declared.PartAnswer.{PartAnswer}
 use Rattle.rtr_base.specs.Over.{over}
-use Rattle.rtr_encode.specs.Encode.{bytesOf, at, keyBytes, reportBytes}
+use Rattle.rtr_encode.specs.Encode.{bytesOf, at}
+use Rattle.rtr_encode.specs.Private.{keyBytes, reportBytes}
 use Rattle.rtr_base.proofs.Overs.{next}
 
 pub flags-and-zero : (a : ℕ) → a < 256 → a ∷ 0 ∷ [] ≡ bytesOf 1 a ++ (0 ∷ [])

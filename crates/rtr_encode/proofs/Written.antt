@@ -14,7 +14,8 @@ use Rattle.rtr_models.specs.declared.RtrPdu.the-variants.{EndOfData}
 use Rattle.rtr_codec.specs.Reading.{Reading}
 use Rattle.rtr_base.specs.Over.{over}
 use Rattle.rtr_base.proofs.Overs.{over-front}
-use Rattle.rtr_encode.specs.Encode.{placesInside, textIn, encodedLength, encoding, encodeSays, encode, withVersion, endOfData}
+use Rattle.rtr_encode.specs.Encode.{placesInside, textIn, encodedLength, encoding, encodeSays, encode}
+use Rattle.rtr_encode.specs.Private.{withVersion, endOfData}
 use Rattle.rtr_encode.specs.Encode.Writing.{written, refused}
 
 module _ (R : Reading) (pdu : RtrPdu) (s out : List ℕ) (n : ℕ) (p : placesInside pdu s ≡ true) (t : textIn pdu s ≡ true)

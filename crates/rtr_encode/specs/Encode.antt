@@ -1,40 +1,40 @@
 -- Encoding one PDU into a lent buffer: document 01, "Encoding". The bytes are read off the same pictures as reading's (Layout of
 -- rtr_codec): RFC 8210, sections 5.2 to 5.11, and for a Router Key the arrangement of a `Reading`.
 use Prim.Native.Nat.{ℕ, zero, suc, _+_, _/_, _%_}
-use mathlib.Core.Bool.{Bool, true, false, _&&_}
+use mathlib.Core.Bool.{Bool, true, false, cond, _&&_}
 use mathlib.Core.List.{List, [], _∷_, _++_}
-use lib.ListN.{length, getD, take, drop, replicate}
+use lib.ListN.{length, take, drop, replicate}
 use lib.Dec.{leb}
-use Rattle.rtr_text.specs.Utf8.{wellFormed}
+use Rattle.rtr_text.specs.Utf8.{wellFormed, wellFormedUpTo}
 use Rattle.rtr_models.specs.Codes.{versionNumber, typeNumber, codeNumber}
 use Rattle.rtr_models.specs.Values.{secondsOr, typeOf, versionOf}
 use Rattle.rtr_models.specs.Parts.{inside, keyInside}
 use Rattle.rtr_models.specs.declared.RtrProtocolVersion.{RtrProtocolVersion}
 use Rattle.rtr_models.specs.declared.RtrProtocolVersion.the-variants.{V0, V1}
 use Rattle.rtr_models.specs.declared.RtrEndOfData.{RtrEndOfData}
-use Rattle.rtr_models.specs.declared.Interval.{Interval}
 use Rattle.rtr_models.specs.declared.Place.{Place}
 use Rattle.rtr_models.specs.declared.RtrPdu.{RtrPdu}
 use Rattle.rtr_models.specs.declared.RtrPdu.the-variants.{SerialNotify, SerialQuery, ResetQuery, CacheResponse, IPv4Prefix, IPv6Prefix, EndOfData, CacheReset, RouterKey, ErrorReport}
 use Rattle.rtr_codec.specs.Reading.{Reading}
-use Rattle.rtr_codec.specs.Layout.{Field, errorCode, serialLayout, bareLayout, responseLayout, ipv4Layout, ipv6Layout, endLayout, lengthOf}
+use Rattle.rtr_codec.specs.Layout.{Label, Field, serialLayout, bareLayout, responseLayout, ipv4Layout, ipv6Layout, endLayout, reportLayout, textLayout, widths, lengthOf, same}
+use Rattle.rtr_codec.specs.Layout.Label.{sessionId, serialNumber, flags, prefixLength, maxLength, address0, address1, address2, address3, asNumber, refreshInterval, retryInterval, expireInterval, keyIdentifier, errorCode, encapsulatedLength}
 use Rattle.rtr_codec.specs.Layout.Field.{ignored, total, value, payload}
-use Rattle.rtr_codec.specs.Read.{keyFields}
+use Rattle.rtr_codec.specs.Read.{keyFields, textRefusal}
 
 -- a number in so many bytes, big-endian
 unfoldable pub bytesOf : ℕ → ℕ → List ℕ
 bytesOf zero n = []
 bytesOf (suc size) n = bytesOf size (n / 256) ++ (n % 256 ∷ [])
 
--- the fields' bytes: ignored bytes are zero, `whole` stands for the PDU's length, values in their order, payloads as parts of s
-abbrev pub fieldBytes : List Field → ℕ → List ℕ → List ℕ → List ℕ
+-- the fields' bytes: ignored bytes are zero, `whole` stands for the PDU's length, each value by its label, payloads as parts of s
+abbrev pub fieldBytes : List Field → ℕ → (Label → ℕ) → List ℕ → List ℕ
 fieldBytes [] whole values s = []
 fieldBytes (ignored n ∷ fs) whole values s = replicate n 0 ++ fieldBytes fs whole values s
 fieldBytes (total ∷ fs) whole values s = bytesOf 4 whole ++ fieldBytes fs whole values s
-fieldBytes (value n ∷ fs) whole values s = bytesOf n (getD values 0 0) ++ fieldBytes fs whole (drop 1 values) s
-fieldBytes (payload n ∷ fs) whole values s = take n (drop (getD values 0 0) s) ++ fieldBytes fs whole (drop 1 values) s
+fieldBytes (value label n ∷ fs) whole values s = bytesOf n (values label) ++ fieldBytes fs whole values s
+fieldBytes (payload label n ∷ fs) whole values s = take n (drop (values label) s) ++ fieldBytes fs whole values s
 
--- a PDU's picture; an Error Report's fixed fields are its code and its length
+-- a PDU's picture, as far as its key info or its encapsulated PDU
 abbrev pub layoutOf : Reading → RtrPdu → List Field
 layoutOf R (SerialNotify p) = serialLayout
 layoutOf R (SerialQuery p) = serialLayout
@@ -45,33 +45,44 @@ layoutOf R (IPv6Prefix p) = ipv6Layout
 layoutOf R (EndOfData p) = endLayout (p .version)
 layoutOf R (CacheReset p) = bareLayout
 layoutOf R (RouterKey p) = keyFields (R .keyByCrate)
-layoutOf R (ErrorReport p) = errorCode ∷ total ∷ []
+layoutOf R (ErrorReport p) = reportLayout
+
+-- the value of a field, by its label; of a payload, the place where it begins
+pub data Given : Type 0 where
+  _≔_ : Label → ℕ → Given
+
+infix 68 _≔_
+-- what a label is given, 0 where it is given nothing
+abbrev pub given : List Given → Label → ℕ
+given [] l = 0
+given (m ≔ n ∷ more) l = cond (same m l) n (given more l)
 
 -- document 01: a version 1 End of Data without an interval gets its default, a version 0 one drops intervals
-abbrev pub endValues : RtrProtocolVersion → RtrEndOfData → List ℕ
-endValues V0 p = p .«session_id» ∷ p .«serial_number» ∷ []
+abbrev pub endValues : RtrProtocolVersion → RtrEndOfData → List Given
+endValues V0 p = sessionId ≔ p .«session_id» ∷ serialNumber ≔ p .«serial_number» ∷ []
 endValues V1 p =
-    p .«session_id» ∷ p .«serial_number» ∷ secondsOr 3600 (p .«refresh_interval») ∷ secondsOr 600 (p .«retry_interval») ∷ secondsOr 7200 (p .«expire_interval») ∷ []
+    sessionId ≔ p .«session_id» ∷ serialNumber ≔ p .«serial_number» ∷ refreshInterval ≔ secondsOr 3600 (p .«refresh_interval») ∷ retryInterval ≔ secondsOr 600 (p .«retry_interval») ∷ expireInterval ≔ secondsOr 7200 (p .«expire_interval») ∷ []
 
--- the values of a PDU's fields, in the picture's order
-abbrev pub valuesIn : RtrPdu → List ℕ
-valuesIn (SerialNotify p) = p .«session_id» ∷ p .«serial_number» ∷ []
-valuesIn (SerialQuery p) = p .«session_id» ∷ p .«serial_number» ∷ []
+-- the values of a PDU's fields
+abbrev pub valuesIn : RtrPdu → List Given
+valuesIn (SerialNotify p) = sessionId ≔ p .«session_id» ∷ serialNumber ≔ p .«serial_number» ∷ []
+valuesIn (SerialQuery p) = sessionId ≔ p .«session_id» ∷ serialNumber ≔ p .«serial_number» ∷ []
 valuesIn (ResetQuery p) = []
-valuesIn (CacheResponse p) = p .«session_id» ∷ []
-valuesIn (IPv4Prefix p) = p .flags ∷ p .«prefix_length» ∷ p .«max_length» ∷ p .prefix ∷ p .asn ∷ []
+valuesIn (CacheResponse p) = sessionId ≔ p .«session_id» ∷ []
+valuesIn (IPv4Prefix p) =
+    flags ≔ p .flags ∷ prefixLength ≔ p .«prefix_length» ∷ maxLength ≔ p .«max_length» ∷ address0 ≔ p .prefix ∷ asNumber ≔ p .asn ∷ []
 valuesIn (IPv6Prefix p) =
-    p .flags ∷ p .«prefix_length» ∷ p .«max_length» ∷ p .prefix .w0 ∷ p .prefix .w1 ∷ p .prefix .w2 ∷ p .prefix .w3 ∷ p .asn ∷ []
+    flags ≔ p .flags ∷ prefixLength ≔ p .«prefix_length» ∷ maxLength ≔ p .«max_length» ∷ address0 ≔ p .prefix .w0 ∷ address1 ≔ p .prefix .w1 ∷ address2 ≔ p .prefix .w2 ∷ address3 ≔ p .prefix .w3 ∷ asNumber ≔ p .asn ∷ []
 valuesIn (EndOfData p) = endValues (p .version) p
 valuesIn (CacheReset p) = []
-valuesIn (RouterKey p) = p .flags ∷ p .«subject_key_identifier» .start ∷ p .asn ∷ []
-valuesIn (ErrorReport p) = codeNumber (p .«error_code») ∷ []
+valuesIn (RouterKey p) = flags ≔ p .flags ∷ keyIdentifier ≔ p .«subject_key_identifier» .start ∷ asNumber ≔ p .asn ∷ []
+valuesIn (ErrorReport p) = errorCode ≔ codeNumber (p .«error_code») ∷ encapsulatedLength ≔ p .«erroneous_pdu» .len ∷ []
 
 -- the bytes at a place
 abbrev pub at : Place → List ℕ → List ℕ
 at p s = take (p .len) (drop (p .start) s)
 
--- what follows the fixed fields: a key's info; a report's copy and text, each behind its length
+-- what follows the picture: a key's info; a report's copy, and its text behind its length
 abbrev pub behind : RtrPdu → List ℕ → List ℕ
 behind (SerialNotify p) s = []
 behind (SerialQuery p) s = []
@@ -83,7 +94,7 @@ behind (EndOfData p) s = []
 behind (CacheReset p) s = []
 behind (RouterKey p) s = at (p .«subject_public_key_info») s
 behind (ErrorReport p) s =
-    bytesOf 4 (p .«erroneous_pdu» .len) ++ at (p .«erroneous_pdu») s ++ bytesOf 4 (p .«error_text» .len) ++ at (p .«error_text») s
+    at (p .«erroneous_pdu») s ++ bytesOf (widths textLayout) (p .«error_text» .len) ++ at (p .«error_text») s
 
 -- and how many bytes that is
 abbrev pub behindLength : RtrPdu → ℕ
@@ -96,7 +107,7 @@ behindLength (IPv6Prefix p) = 0
 behindLength (EndOfData p) = 0
 behindLength (CacheReset p) = 0
 behindLength (RouterKey p) = p .«subject_public_key_info» .len
-behindLength (ErrorReport p) = 8 + p .«erroneous_pdu» .len + p .«error_text» .len
+behindLength (ErrorReport p) = p .«erroneous_pdu» .len + widths textLayout + p .«error_text» .len
 
 -- the length of a PDU's encoding
 unfoldable pub encodedLength : Reading → RtrPdu → ℕ
@@ -105,7 +116,7 @@ encodedLength R pdu = lengthOf (layoutOf R pdu) + behindLength pdu
 -- the encoding: version, type, fields, and what follows them
 unfoldable pub encoding : Reading → RtrPdu → List ℕ → List ℕ
 encoding R pdu s =
-    versionNumber (versionOf pdu) ∷ typeNumber (typeOf pdu) ∷ (fieldBytes (layoutOf R pdu) (encodedLength R pdu) (valuesIn pdu) s ++ behind pdu s)
+    versionNumber (versionOf pdu) ∷ typeNumber (typeOf pdu) ∷ (fieldBytes (layoutOf R pdu) (encodedLength R pdu) (given (valuesIn pdu)) s ++ behind pdu s)
 
 -- check 11: every payload lies in the slice, a key identifier with its 20 bytes
 abbrev pub placesInside : RtrPdu → List ℕ → Bool
@@ -120,18 +131,22 @@ placesInside (CacheReset p) s = true
 placesInside (RouterKey p) s = keyInside (p .«subject_key_identifier») s && inside (p .«subject_public_key_info») s
 placesInside (ErrorReport p) s = inside (p .«erroneous_pdu») s && inside (p .«error_text») s
 
--- check 8: a report's text is UTF-8
+-- the text of a report, and no text in other kinds
+abbrev pub textOf : RtrPdu → List ℕ → List ℕ
+textOf (SerialNotify p) s = []
+textOf (SerialQuery p) s = []
+textOf (ResetQuery p) s = []
+textOf (CacheResponse p) s = []
+textOf (IPv4Prefix p) s = []
+textOf (IPv6Prefix p) s = []
+textOf (EndOfData p) s = []
+textOf (CacheReset p) s = []
+textOf (RouterKey p) s = []
+textOf (ErrorReport p) s = at (p .«error_text») s
+
+-- check 8: it is UTF-8
 abbrev pub textIn : RtrPdu → List ℕ → Bool
-textIn (SerialNotify p) s = true
-textIn (SerialQuery p) s = true
-textIn (ResetQuery p) s = true
-textIn (CacheResponse p) s = true
-textIn (IPv4Prefix p) s = true
-textIn (IPv6Prefix p) s = true
-textIn (EndOfData p) s = true
-textIn (CacheReset p) s = true
-textIn (RouterKey p) s = true
-textIn (ErrorReport p) s = wellFormed (at (p .«error_text») s)
+textIn pdu s = wellFormed (textOf pdu s)
 
 -- so many bytes written, or a refusal's number and values
 pub data Writing : Type 0 where
@@ -147,7 +162,7 @@ unless false n values next = refused n values
 unfoldable pub encodeSays : Reading → RtrPdu → List ℕ → ℕ → Writing
 encodeSays R pdu s room =
     unless (placesInside pdu s) 11 []
-    (unless (textIn pdu s) 8 []
+    (unless (textIn pdu s) 8 (textRefusal (wellFormedUpTo (textOf pdu s)))
     (unless (leb (encodedLength R pdu) 4294967295) 10 []
     (unless (leb (encodedLength R pdu) room) 9 (encodedLength R pdu ∷ []) (written (encodedLength R pdu)))))
 
@@ -164,44 +179,3 @@ pub record Encoded : Type 0 where
 unfoldable pub encode : Reading → RtrPdu → List ℕ → List ℕ → Encoded
 encode R pdu s out =
     record { says = encodeSays R pdu s (length out); out = outAfter (encodeSays R pdu s (length out)) (encoding R pdu s) out }
-
--- an End of Data with this version: the two functions of the code take one each
-abbrev pub withVersion : RtrProtocolVersion → RtrEndOfData → RtrEndOfData
-withVersion v p =
-    record {
-      version = v;
-      «session_id» = p .«session_id»;
-      «serial_number» = p .«serial_number»;
-      «refresh_interval» = p .«refresh_interval»;
-      «retry_interval» = p .«retry_interval»;
-      «expire_interval» = p .«expire_interval»;
-    }
-
--- a version 1 End of Data of these numbers
-abbrev pub endOfData : ℕ → ℕ → ℕ → ℕ → ℕ → RtrEndOfData
-endOfData session serial refresh retry expire =
-    record {
-      version = V1;
-      «session_id» = session;
-      «serial_number» = serial;
-      «refresh_interval» = Interval.Seconds refresh;
-      «retry_interval» = Interval.Seconds retry;
-      «expire_interval» = Interval.Seconds expire;
-    }
-
--- a Router Key's bytes in the crate's arrangement, with its payloads at hand
-abbrev pub keyBytes : RtrProtocolVersion → ℕ → List ℕ → ℕ → List ℕ → ℕ → List ℕ
-keyBytes v flags identifier asn info whole =
-    versionNumber v ∷ 9 ∷ (bytesOf 2 0 ++ bytesOf 4 whole) ++ (bytesOf 1 flags ++ (0 ∷ [])) ++ identifier ++ bytesOf 4 asn ++ info
-
--- an Error Report's bytes, with its payloads at hand
-abbrev pub reportBytes : RtrProtocolVersion → ℕ → List ℕ → List ℕ → ℕ → List ℕ
-reportBytes v code copy text whole =
-    versionNumber v ∷ 10 ∷ (bytesOf 2 code ++ bytesOf 4 whole) ++ bytesOf 4 (length copy) ++ copy ++ bytesOf 4 (length text) ++ text
-
--- the checks that are left once the payloads are in rule: 10, then 9
-abbrev pub lastSays : ℕ → ℕ → Writing
-lastSays n room = unless (leb n 4294967295) 10 [] (unless (leb n room) 9 (n ∷ []) (written n))
-
-abbrev pub lastChecks : ℕ → List ℕ → List ℕ → Encoded
-lastChecks n bytes out = record { says = lastSays n (length out); out = outAfter (lastSays n (length out)) bytes out }

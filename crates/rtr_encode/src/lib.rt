@@ -7,7 +7,8 @@ ghost use Prim.Native.Nat.{_+_, _≤_, _<_};
 ghost use lib.ListN.{length, take, drop};
 ghost use Rattle.rtr_models.specs.Codes.{versionNumber};
 ghost use Rattle.rtr_codec.specs.Reading.{inUse};
-ghost use Rattle.rtr_encode.specs.Encode.{bytesOf, encode, withVersion, endOfData, keyBytes, reportBytes, lastChecks};
+ghost use Rattle.rtr_encode.specs.Encode.{bytesOf, encode};
+ghost use Rattle.rtr_encode.specs.Private.{withVersion, endOfData, keyBytes, reportBytes, lastChecks};
 ghost use Rattle.rtr_encode.specs.Answers.{leaves, encodeRefusal, numberOf};
 ghost use Rattle.rtr_base.specs.Over.{over};
 

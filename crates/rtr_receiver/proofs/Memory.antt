@@ -8,7 +8,8 @@ use borrow.Author.Tests.{not-true, not-false}
 use lib.ListN.{length}
 use lib.Seq.{length-take-le}
 use Rattle.rtr_codec.specs.Read.{Verdict}
-use Rattle.rtr_codec.specs.Answers.{refusal}
+use Rattle.rtr_codec.specs.Answers.{refusal, numberOf}
+use Rattle.rtr_codec.proofs.Laws.{refusal-is}
 use Rattle.rtr_codec.specs.declared.RtrError.{RtrError}
 use Rattle.rtr_stream.specs.Search.{isStream}
 use Rattle.rtr_stream.specs.declared.StreamError.{StreamError}
@@ -154,14 +155,7 @@ module _ (limit : ℕ) (s : Session) (live working hold : List ℕ) where
 
 -- a read's refusal is one
 refused-by : (error : RtrError) → (number : ℕ) × (values : List ℕ) × (refusal error ≡ Verdict.refused number values)
-refused-by (RtrError.IncompletePdu available needed) = (_, _, refl)
-refused-by (RtrError.InvalidPduType type) = (_, _, refl)
-refused-by (RtrError.InvalidProtocolVersion version) = (_, _, refl)
-refused-by (RtrError.InvalidErrorCode code) = (_, _, refl)
-refused-by (RtrError.InvalidLength expected actual type) = (_, _, refl)
-refused-by (RtrError.InvalidPrefixLength length max limit) = (_, _, refl)
-refused-by RtrError.InvalidUtf8 = (_, _, refl)
-refused-by RtrError.RouterKeyInV0 = (_, _, refl)
+refused-by error = (numberOf (refusal error), refusal-is error .0, refusal-is error .1)
 
 -- a stop has a number and values
 pub stop-says : (stop : Stop) → (number : ℕ) × (values : List ℕ) × (stopSaid stop ≡ Verdict.refused number values)

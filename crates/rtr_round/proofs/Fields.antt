@@ -7,14 +7,14 @@ use mathlib.Core.List.{List, [], _∷_, _++_}
 use mathlib.Core.Logic.{_↔_}
 use mathlib.Core.Path.{_≡_, refl, sym, ap, _∙_}
 use native.Mathlib.Omega.{arith}
-use lib.ListN.{length, getD, take, drop, replicate, length-append, length-replicate}
+use lib.ListN.{length, take, drop, replicate, length-append, length-replicate}
 use Rattle.rtr_models.specs.declared.RtrProtocolVersion.{RtrProtocolVersion}
 use Rattle.rtr_models.specs.declared.RtrProtocolVersion.the-variants.{V0, V1}
 use Rattle.rtr_models.specs.declared.RtrPdu.{RtrPdu}
 use Rattle.rtr_models.specs.declared.RtrPdu.the-variants.{SerialNotify, SerialQuery, ResetQuery, CacheResponse, IPv4Prefix, IPv6Prefix, EndOfData, CacheReset, RouterKey, ErrorReport}
 use Rattle.rtr_codec.specs.Reading.{Reading}
 use Rattle.rtr_codec.specs.Bytes.{number}
-use Rattle.rtr_codec.specs.Layout.{Field, widths, valuesFrom, endLayout}
+use Rattle.rtr_codec.specs.Layout.{Label, Field, widths, endLayout}
 use Rattle.rtr_codec.specs.Layout.Field.{ignored, total, value, payload}
 use Rattle.rtr_codec.specs.Read.{headerLength, keyFields}
 use Rattle.rtr_codec.proofs.Laws.{header-is}
@@ -27,8 +27,8 @@ abbrev pub TotalAt4 : Bool → ℕ → List Field → Type 0
 TotalAt4 seen at [] = seen ≡ true
 TotalAt4 seen at (ignored n ∷ fs) = TotalAt4 seen (at + n) fs
 TotalAt4 seen at (total ∷ fs) = (at ≡ 4) × TotalAt4 true (at + 4) fs
-TotalAt4 seen at (value n ∷ fs) = TotalAt4 seen (at + n) fs
-TotalAt4 seen at (payload n ∷ fs) = TotalAt4 seen (at + n) fs
+TotalAt4 seen at (value l n ∷ fs) = TotalAt4 seen (at + n) fs
+TotalAt4 seen at (payload l n ∷ fs) = TotalAt4 seen (at + n) fs
 
 -- in every picture the length stands at byte 4
 end-at-4 : (v : RtrProtocolVersion) → TotalAt4 false 2 (endLayout v)
@@ -56,25 +56,33 @@ pub fields-long : (at : ℕ) (fs : List Field) → TotalAt4 false at fs → 8 �
 fields-long at [] t = absurd (let z : _≡_ {A = ℕ} 0 1 = cc in omega arith)
 fields-long at (ignored n ∷ fs) t = omega (arith, fields-long (at + n) fs t)
 fields-long at (total ∷ fs) t = omega (arith, t .0)
-fields-long at (value n ∷ fs) t = omega (arith, fields-long (at + n) fs t)
-fields-long at (payload n ∷ fs) t = omega (arith, fields-long (at + n) fs t)
+fields-long at (value l n ∷ fs) t = omega (arith, fields-long (at + n) fs t)
+fields-long at (payload l n ∷ fs) t = omega (arith, fields-long (at + n) fs t)
 
 -- the payloads that the values name lie in s
-abbrev pub PayloadsIn : List Field → List ℕ → List ℕ → Type 0
+abbrev pub PayloadsIn : List Field → (Label → ℕ) → List ℕ → Type 0
 PayloadsIn [] values s = Unit {0}
 PayloadsIn (ignored n ∷ fs) values s = PayloadsIn fs values s
 PayloadsIn (total ∷ fs) values s = PayloadsIn fs values s
-PayloadsIn (value n ∷ fs) values s = PayloadsIn fs (drop 1 values) s
-PayloadsIn (payload n ∷ fs) values s = (getD values 0 0 + n ≤ length s) × PayloadsIn fs (drop 1 values) s
+PayloadsIn (value l n ∷ fs) values s = PayloadsIn fs values s
+PayloadsIn (payload l n ∷ fs) values s = (values l + n ≤ length s) × PayloadsIn fs values s
+
+-- the values are those that the fields have in s from `at` on, and a payload is named where it stands
+abbrev pub Standing : ℕ → List Field → (Label → ℕ) → List ℕ → Type 0
+Standing at [] values s = Unit {0}
+Standing at (ignored n ∷ fs) values s = Standing (at + n) fs values s
+Standing at (total ∷ fs) values s = Standing (at + 4) fs values s
+Standing at (value l n ∷ fs) values s = (number s at n ≡ values l) × Standing (at + n) fs values s
+Standing at (payload l n ∷ fs) values s = (at ≡ values l) × Standing (at + n) fs values s
 
 module _ (s : List ℕ) where
-  pub length-fields : (fs : List Field) (whole : ℕ) (values : List ℕ) → PayloadsIn fs values s → length (fieldBytes fs whole values s) ≡ widths fs
+  pub length-fields : (fs : List Field) (whole : ℕ) (values : Label → ℕ) → PayloadsIn fs values s → length (fieldBytes fs whole values s) ≡ widths fs
   length-fields [] whole values h = refl
   length-fields (ignored n ∷ fs) whole values h = simp (length-append, length-replicate, length-fields fs whole values h)
   length-fields (total ∷ fs) whole values h = simp (length-append, length-bytes, length-fields fs whole values h)
-  length-fields (value n ∷ fs) whole values h = simp (length-append, length-bytes, length-fields fs whole (drop 1 values) h)
-  length-fields (payload n ∷ fs) whole values h =
-      simp (length-append, length-part s (getD values 0 0) n (h .0), length-fields fs whole (drop 1 values) (h .1))
+  length-fields (value l n ∷ fs) whole values h = simp (length-append, length-bytes, length-fields fs whole values h)
+  length-fields (payload l n ∷ fs) whole values h =
+      simp (length-append, length-part s (values l) n (h .0), length-fields fs whole values (h .1))
 
   -- a front that is always its part leaves the rest to decide
   given-front : {Z : Type 0} (x y : List ℕ) (at w k : ℕ) → length x ≡ w → at + w ≤ length s → x ≡ take w (drop at s)
@@ -83,18 +91,19 @@ module _ (s : List ℕ) where
       (λ q. i .0 ((front-and-rest s x y at w k e h) .0 q .1), λ z. (front-and-rest s x y at w k e h) .1 (p, i .1 z))
 
   module _ (bs : Bytes s) where
-    pub fields-back : (seen : Bool) (at : ℕ) (fs : List Field) → at + widths fs ≤ length s → TotalAt4 seen at fs
-        → (fieldBytes fs (headerLength s) (valuesFrom at fs s) s ≡ take (widths fs) (drop at s)) ↔ ignoredZero at fs s
-    fields-back seen at [] h t = (λ _. tt, λ _. refl)
-    fields-back seen at (ignored n ∷ fs) h t =
-        let i = front-and-rest s (replicate n 0) (fieldBytes fs (headerLength s) (valuesFrom (at + n) fs s) s) at n (widths fs) (length-replicate n 0) (omega arith) in
-        let r = fields-back seen (at + n) fs (omega arith) t in
+    pub fields-back : (seen : Bool) (at : ℕ) (fs : List Field) (values : Label → ℕ) → Standing at fs values s → at + widths fs ≤ length s → TotalAt4 seen at fs
+        → (fieldBytes fs (headerLength s) values s ≡ take (widths fs) (drop at s)) ↔ ignoredZero at fs s
+    fields-back seen at [] values k h t = (λ _. tt, λ _. refl)
+    fields-back seen at (ignored n ∷ fs) values k h t =
+        let i = front-and-rest s (replicate n 0) (fieldBytes fs (headerLength s) values s) at n (widths fs) (length-replicate n 0) (omega arith) in
+        let r = fields-back seen (at + n) fs values k (omega arith) t in
         (λ q. (sym (i .0 q .0), r .0 (i .0 q .1)), λ z. i .1 (sym (z .0), r .1 (z .1)))
-    fields-back seen at (total ∷ fs) h t =
+    fields-back seen at (total ∷ fs) values k h t =
         let here : bytesOf 4 (headerLength s) ≡ take 4 (drop at s) = ap (bytesOf 4) (header-is s) ∙ rw (t .0) (bytes-of-number s bs 4 4 (omega arith)) in
-        given-front _ _ at 4 (widths fs) (length-bytes 4 (headerLength s)) (omega arith) here (fields-back true (at + 4) fs (omega arith) (t .1))
-    fields-back seen at (value n ∷ fs) h t =
-        given-front _ _ at n (widths fs) (length-bytes n (number s at n)) (omega arith) (bytes-of-number s bs at n (omega arith))
-        (fields-back seen (at + n) fs (omega arith) t)
-    fields-back seen at (payload n ∷ fs) h t =
-        given-front _ _ at n (widths fs) (length-part s at n (omega arith)) (omega arith) refl (fields-back seen (at + n) fs (omega arith) t)
+        given-front _ _ at 4 (widths fs) (length-bytes 4 (headerLength s)) (omega arith) here (fields-back true (at + 4) fs values k (omega arith) (t .1))
+    fields-back seen at (value l n ∷ fs) values k h t =
+        given-front _ _ at n (widths fs) (length-bytes n (values l)) (omega arith) (ap (bytesOf n) (sym (k .0)) ∙ bytes-of-number s bs at n (omega arith))
+        (fields-back seen (at + n) fs values (k .1) (omega arith) t)
+    fields-back seen at (payload l n ∷ fs) values k h t =
+        let here : take n (drop (values l) s) ≡ take n (drop at s) = ap (λ (i : ℕ). take n (drop i s)) (sym (k .0)) in
+        given-front _ _ at n (widths fs) (ap length here ∙ length-part s at n (omega arith)) (omega arith) here (fields-back seen (at + n) fs values (k .1) (omega arith) t)

@@ -15,9 +15,10 @@ use Rattle.rtr_models.specs.declared.RtrProtocolVersion.the-variants.{V0, V1}
 use Rattle.rtr_models.specs.declared.RtrPdu.{RtrPdu}
 use Rattle.rtr_models.specs.declared.RtrPdu.the-variants.{SerialNotify, SerialQuery, ResetQuery, CacheResponse, IPv4Prefix, IPv6Prefix, EndOfData, CacheReset, RouterKey, ErrorReport}
 use Rattle.rtr_codec.specs.Reading.{Reading}
-use Rattle.rtr_codec.specs.Layout.{endLayout}
+use Rattle.rtr_codec.specs.Layout.{Label, endLayout}
+use Rattle.rtr_codec.specs.Layout.Label.{keyIdentifier}
 use Rattle.rtr_codec.specs.Read.{keyFields}
-use Rattle.rtr_encode.specs.Encode.{at, layoutOf, endValues, valuesIn, behind, behindLength, placesInside}
+use Rattle.rtr_encode.specs.Encode.{at, layoutOf, given, endValues, valuesIn, behind, behindLength, placesInside}
 use Rattle.rtr_round.proofs.Bytes.{length-bytes, length-part}
 use Rattle.rtr_round.proofs.Fields.{PayloadsIn}
 
@@ -27,28 +28,28 @@ both-true true false e = (refl, e)
 both-true false b e = absurd (let z : _≡_ {A = ℕ} 0 1 = cc in omega arith)
 
 -- the payloads among the fixed fields lie in the slice: a Router Key's key identifier
-end-payloads : (v : RtrProtocolVersion) (values s : List ℕ) → PayloadsIn (endLayout v) values s
+end-payloads : (v : RtrProtocolVersion) (values : Label → ℕ) (s : List ℕ) → PayloadsIn (endLayout v) values s
 end-payloads V0 values s = tt
 end-payloads V1 values s = tt
 
-key-payloads : (byCrate : Bool) (flags start asn : ℕ) (s : List ℕ) → start + 20 ≤ length s → PayloadsIn (keyFields byCrate) (flags ∷ start ∷ asn ∷ []) s
-key-payloads true flags start asn s h = (h, tt)
-key-payloads false flags start asn s h = (h, tt)
+key-payloads : (byCrate : Bool) (values : Label → ℕ) (s : List ℕ) → values keyIdentifier + 20 ≤ length s → PayloadsIn (keyFields byCrate) values s
+key-payloads true values s h = (h, tt)
+key-payloads false values s h = (h, tt)
 
-pub payloads-inside : (R : Reading) (pdu : RtrPdu) (s : List ℕ) → placesInside pdu s ≡ true → PayloadsIn (layoutOf R pdu) (valuesIn pdu) s
+pub payloads-inside : (R : Reading) (pdu : RtrPdu) (s : List ℕ) → placesInside pdu s ≡ true → PayloadsIn (layoutOf R pdu) (given (valuesIn pdu)) s
 payloads-inside R (SerialNotify p) s h = tt
 payloads-inside R (SerialQuery p) s h = tt
 payloads-inside R (ResetQuery p) s h = tt
 payloads-inside R (CacheResponse p) s h = tt
 payloads-inside R (IPv4Prefix p) s h = tt
 payloads-inside R (IPv6Prefix p) s h = tt
-payloads-inside R (EndOfData p) s h = end-payloads (p .version) (endValues (p .version) p) s
+payloads-inside R (EndOfData p) s h = end-payloads (p .version) (given (endValues (p .version) p)) s
 payloads-inside R (CacheReset p) s h = tt
 payloads-inside R (RouterKey p) s h =
     let k : Place = p .«subject_key_identifier» in
     let outer = both-true (keyInside k s) (inside (p .«subject_public_key_info») s) h in
     let inner = both-true (eqb (k .len) 20) (inside k s) (outer .0) in
-    key-payloads (R .keyByCrate) (p .flags) (k .start) (p .asn) s (omega (arith, eqb-true (k .len) 20 (inner .0), leb-true (k .start + k .len) (length s) (inner .1)))
+    key-payloads (R .keyByCrate) (given (valuesIn (RouterKey p))) s (omega (arith, eqb-true (k .len) 20 (inner .0), leb-true (k .start + k .len) (length s) (inner .1)))
 payloads-inside R (ErrorReport p) s h = tt
 
 -- what follows the fixed fields is as long as its places say

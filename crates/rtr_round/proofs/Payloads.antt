@@ -19,11 +19,12 @@ use Rattle.rtr_models.specs.Values.{typeOf, versionOf}
 use Rattle.rtr_models.specs.declared.RtrPdu.{RtrPdu}
 use Rattle.rtr_models.specs.declared.RtrPdu.the-variants.{SerialNotify, SerialQuery, ResetQuery, CacheResponse, IPv4Prefix, IPv6Prefix, EndOfData, CacheReset, RouterKey, ErrorReport}
 use Rattle.rtr_codec.specs.Reading.{Reading}
-use Rattle.rtr_codec.specs.Layout.{lengthOf}
+use Rattle.rtr_codec.specs.Layout.{Label, lengthOf, placeOf}
+use Rattle.rtr_codec.specs.Layout.Label.{flags, asNumber, keyIdentifier}
 use Rattle.rtr_codec.specs.Read.{keyFields}
-use Rattle.rtr_encode.specs.Encode.{at, bytesOf, fieldBytes, layoutOf, valuesIn, encodedLength, encoding}
+use Rattle.rtr_encode.specs.Encode.{at, bytesOf, fieldBytes, layoutOf, given, valuesIn, encodedLength, encoding}
 use Rattle.rtr_encode.proofs.Laws.{encoding-is}
-use Rattle.rtr_round.specs.RoundTrip.{InRule, keyStart, readBack, payloadsOf}
+use Rattle.rtr_round.specs.RoundTrip.{InRule, readBack, payloadsOf}
 use Rattle.rtr_round.proofs.Bytes.{length-bytes, length-part}
 use Rattle.rtr_round.proofs.Fields.{length-fields}
 use Rattle.rtr_round.proofs.Inside.{both-true, payloads-inside}
@@ -33,28 +34,28 @@ part-at : (p x q : List ℕ) (n w : ℕ) → length p ≡ n → length x ≡ w �
 part-at p x q n w e f = ap (take w) (drop-at p (x ++ q) n e) ∙ take-at x q w f
 
 -- a key identifier stands at its byte, in either arrangement
-identifier-written : (byCrate : Bool) (v whole flags start asn : ℕ) (s q : List ℕ) → start + 20 ≤ length s
-    → take 20 (drop (keyStart byCrate) (v ∷ 9 ∷ (fieldBytes (keyFields byCrate) whole (flags ∷ start ∷ asn ∷ []) s ++ q))) ≡ take 20 (drop start s)
-identifier-written true v whole flags start asn s q h =
-    let x : List ℕ = take 20 (drop start s) in
-    let front : List ℕ = v ∷ 9 ∷ 0 ∷ 0 ∷ (bytesOf 4 whole ++ bytesOf 1 flags ++ (0 ∷ [])) in
+identifier-written : (byCrate : Bool) (v whole : ℕ) (values : Label → ℕ) (s q : List ℕ) → values keyIdentifier + 20 ≤ length s
+    → at (placeOf (keyFields byCrate) keyIdentifier) (v ∷ 9 ∷ (fieldBytes (keyFields byCrate) whole values s ++ q)) ≡ take 20 (drop (values keyIdentifier) s)
+identifier-written true v whole values s q h =
+    let x : List ℕ = take 20 (drop (values keyIdentifier) s) in
+    let front : List ℕ = v ∷ 9 ∷ 0 ∷ 0 ∷ (bytesOf 4 whole ++ bytesOf 1 (values flags) ++ (0 ∷ [])) in
     let long : length front ≡ 10 = simp (length-append, length-bytes) in
-    let joined : v ∷ 9 ∷ (fieldBytes (keyFields true) whole (flags ∷ start ∷ asn ∷ []) s ++ q) ≡ front ++ (x ++ (bytesOf 4 asn ++ q)) = simp append-assoc in
-    ap (λ (l : List ℕ). take 20 (drop 10 l)) joined ∙ part-at front x (bytesOf 4 asn ++ q) 10 20 long (length-part s start 20 h)
-identifier-written false v whole flags start asn s q h =
-    let x : List ℕ = take 20 (drop start s) in
-    let front : List ℕ = v ∷ 9 ∷ (bytesOf 1 flags ++ (0 ∷ []) ++ bytesOf 4 whole) in
+    let joined : v ∷ 9 ∷ (fieldBytes (keyFields true) whole values s ++ q) ≡ front ++ (x ++ (bytesOf 4 (values asNumber) ++ q)) = simp append-assoc in
+    ap (λ (l : List ℕ). take 20 (drop 10 l)) joined ∙ part-at front x (bytesOf 4 (values asNumber) ++ q) 10 20 long (length-part s (values keyIdentifier) 20 h)
+identifier-written false v whole values s q h =
+    let x : List ℕ = take 20 (drop (values keyIdentifier) s) in
+    let front : List ℕ = v ∷ 9 ∷ (bytesOf 1 (values flags) ++ (0 ∷ []) ++ bytesOf 4 whole) in
     let long : length front ≡ 8 = simp (length-append, length-bytes) in
-    let joined : v ∷ 9 ∷ (fieldBytes (keyFields false) whole (flags ∷ start ∷ asn ∷ []) s ++ q) ≡ front ++ (x ++ (bytesOf 4 asn ++ q)) = simp append-assoc in
-    ap (λ (l : List ℕ). take 20 (drop 8 l)) joined ∙ part-at front x (bytesOf 4 asn ++ q) 8 20 long (length-part s start 20 h)
+    let joined : v ∷ 9 ∷ (fieldBytes (keyFields false) whole values s ++ q) ≡ front ++ (x ++ (bytesOf 4 (values asNumber) ++ q)) = simp append-assoc in
+    ap (λ (l : List ℕ). take 20 (drop 8 l)) joined ∙ part-at front x (bytesOf 4 (values asNumber) ++ q) 8 20 long (length-part s (values keyIdentifier) 20 h)
 
 -- the bytes before what follows the fixed fields
 abbrev frontBytes : Reading → RtrPdu → List ℕ → List ℕ
-frontBytes R pdu s = versionNumber (versionOf pdu) ∷ typeNumber (typeOf pdu) ∷ fieldBytes (layoutOf R pdu) (encodedLength R pdu) (valuesIn pdu) s
+frontBytes R pdu s = versionNumber (versionOf pdu) ∷ typeNumber (typeOf pdu) ∷ fieldBytes (layoutOf R pdu) (encodedLength R pdu) (given (valuesIn pdu)) s
 
 module _ (R : Reading) (s rest : List ℕ) where
   length-front : (pdu : RtrPdu) → InRule R pdu s → length (frontBytes R pdu s) ≡ lengthOf (layoutOf R pdu)
-  length-front pdu rule = omega (arith, length-fields s (layoutOf R pdu) (encodedLength R pdu) (valuesIn pdu) (payloads-inside R pdu s (rule .places)))
+  length-front pdu rule = omega (arith, length-fields s (layoutOf R pdu) (encodedLength R pdu) (given (valuesIn pdu)) (payloads-inside R pdu s (rule .places)))
 
   key-payloads-back : (p : RtrRouterKey) → InRule R (RouterKey p) s
       → payloadsOf (readBack R (RouterKey p)) (encoding R (RouterKey p) s ++ rest) ≡ payloadsOf (RouterKey p) s
@@ -67,8 +68,8 @@ module _ (R : Reading) (s rest : List ℕ) where
       let twenty : k .len ≡ 20 = eqb-true (k .len) 20 (inner .0) in
       let room : k .start + 20 ≤ length s = omega (arith, leb-true (k .start + k .len) (length s) (inner .1)) in
       let joined : encoding R (RouterKey p) s ++ rest ≡ front ++ (at i s ++ rest) = ap (λ (l : List ℕ). l ++ rest) (encoding-is R (RouterKey p) s) ∙ append-assoc front (at i s) rest in
-      let first : take 20 (drop (keyStart (R .keyByCrate)) (front ++ (at i s ++ rest))) ≡ take 20 (drop (k .start) s) =
-      identifier-written (R .keyByCrate) (versionNumber (p .version)) (encodedLength R (RouterKey p)) (p .flags) (k .start) (p .asn) s (at i s ++ rest) room in
+      let first : at (placeOf (keyFields (R .keyByCrate)) keyIdentifier) (front ++ (at i s ++ rest)) ≡ take 20 (drop (k .start) s) =
+      identifier-written (R .keyByCrate) (versionNumber (p .version)) (encodedLength R (RouterKey p)) (given (valuesIn (RouterKey p))) s (at i s ++ rest) room in
       let second : take (i .len) (drop (lengthOf (keyFields (R .keyByCrate))) (front ++ (at i s ++ rest))) ≡ at i s =
       part-at front (at i s) rest (lengthOf (keyFields (R .keyByCrate))) (i .len) (length-front (RouterKey p) rule)
       (length-part s (i .start) (i .len) (leb-true (i .start + i .len) (length s) (outer .1))) in
@@ -85,13 +86,13 @@ module _ (R : Reading) (s rest : List ℕ) where
       let inside = both-true (inside c s) (inside x s) (rule .places) in
       let long : length (at c s) ≡ n = length-part s (c .start) n (leb-true _ _ (inside .0)) in
       let long′ : length (at x s) ≡ m = length-part s (x .start) m (leb-true _ _ (inside .1)) in
-      let eight : length front ≡ 8 = length-front (ErrorReport p) rule in
-      let joined : encoding R (ErrorReport p) s ++ rest ≡ front ++ bytesOf 4 n ++ (at c s ++ (bytesOf 4 m ++ at x s ++ rest)) = rw (encoding-is R (ErrorReport p) s) (simp append-assoc) in
-      let joined′ : encoding R (ErrorReport p) s ++ rest ≡ front ++ bytesOf 4 n ++ at c s ++ bytesOf 4 m ++ (at x s ++ rest) = rw (encoding-is R (ErrorReport p) s) (simp append-assoc) in
-      let copy = part-at (front ++ bytesOf 4 n) (at c s) (bytesOf 4 m ++ at x s ++ rest) 12 n (length-append front (bytesOf 4 n) ∙ omega (arith, length-bytes 4 n)) long in
-      let text = part-at (front ++ bytesOf 4 n ++ at c s ++ bytesOf 4 m) (at x s) rest (16 + n) m
-      (length-append (front ++ bytesOf 4 n ++ at c s) (bytesOf 4 m)
-      ∙ omega (arith, length-bytes 4 m, length-append (front ++ bytesOf 4 n) (at c s), length-append front (bytesOf 4 n), length-bytes 4 n)) long′ in
+      let twelve : length front ≡ 12 = length-front (ErrorReport p) rule in
+      let joined : encoding R (ErrorReport p) s ++ rest ≡ front ++ (at c s ++ (bytesOf 4 m ++ at x s ++ rest)) = rw (encoding-is R (ErrorReport p) s) (simp append-assoc) in
+      let joined′ : encoding R (ErrorReport p) s ++ rest ≡ front ++ at c s ++ bytesOf 4 m ++ (at x s ++ rest) = rw (encoding-is R (ErrorReport p) s) (simp append-assoc) in
+      let copy = part-at front (at c s) (bytesOf 4 m ++ at x s ++ rest) 12 n twelve long in
+      let text = part-at (front ++ at c s ++ bytesOf 4 m) (at x s) rest (16 + n) m
+      (length-append (front ++ at c s) (bytesOf 4 m)
+      ∙ omega (arith, length-bytes 4 m, length-append front (at c s))) long′ in
       cc
 
 -- each payload of a PDU in rule is, at its place in the encoding, the bytes that it was in s, whatever follows the encoding

@@ -6,7 +6,7 @@ use mathlib.Core.List.{List, [], _∷_, _++_, append-assoc}
 use mathlib.Core.Path.{_≡_, refl, sym, ap, _∙_}
 use native.Mathlib.Omega.{arith}
 use borrow.Author.Tests.{leb-true, eq-eqb, le-leb}
-use lib.ListN.{length, getD, take, drop, length-append}
+use lib.ListN.{length, take, drop, length-append}
 use lib.Seq.{take-all, drop-at}
 use Rattle.rtr_models.specs.Codes.{codeNumber}
 use Rattle.rtr_models.specs.Parts.{inside}
@@ -21,23 +21,20 @@ use Rattle.rtr_models.specs.declared.RtrPdu.{RtrPdu}
 use Rattle.rtr_models.specs.declared.RtrPdu.the-variants.{SerialNotify, SerialQuery, ResetQuery, CacheResponse, IPv4Prefix, IPv6Prefix, EndOfData, CacheReset, RouterKey, ErrorReport}
 use Rattle.rtr_codec.specs.Bytes.{number}
 use Rattle.rtr_codec.specs.Reading.{Reading}
-use Rattle.rtr_codec.specs.Layout.{lengthOf, valuesOf, endLayout}
+use Rattle.rtr_codec.specs.Layout.{lengthOf, place, placeOf, endLayout}
+use Rattle.rtr_codec.specs.Layout.Label.{keyIdentifier}
 use Rattle.rtr_codec.specs.Read.{ends, headerLength, keyFields}
-use Rattle.rtr_codec.specs.Stands.{place, endStands, keyStands, kindStands}
-use Rattle.rtr_encode.specs.Encode.{at, bytesOf, layoutOf, endValues, valuesIn, behind, behindLength}
-use Rattle.rtr_round.specs.RoundTrip.{InRule, endBack, keyStart, readBack}
+use Rattle.rtr_codec.specs.Stands.{endStands, keyStands, kindStands}
+use Rattle.rtr_encode.specs.Encode.{at, bytesOf, layoutOf, given, endValues, valuesIn, behind, behindLength}
+use Rattle.rtr_round.specs.RoundTrip.{InRule, endBack, readBack}
 use Rattle.rtr_round.proofs.Bytes.{length-bytes, length-part}
 use Rattle.rtr_round.proofs.Inside.{both-true}
-use Rattle.rtr_round.proofs.Written.{placed, number-written}
+use Rattle.rtr_round.proofs.Written.{Valued, number-written}
 
 -- a text that ends with the PDU ends in rule
 ends-exactly : (b : Bool) (x h : ℕ) → x ≡ h → ends b x h ≡ true
 ends-exactly true x h e = le-leb x h (omega arith)
 ends-exactly false x h e = eq-eqb x h e
-
--- element i of one list is element i of the other
-nth : {a b : List ℕ} → a ≡ b → (i : ℕ) → getD a i 0 ≡ getD b i 0
-nth e i = ap (λ (l : List ℕ). getD l i 0) e
 
 -- a PDU's reading back has its version and its type
 end-version : (v : RtrProtocolVersion) (p : RtrEndOfData) → endBack v p .version ≡ v
@@ -57,30 +54,30 @@ back-head R (RouterKey p) = (refl, refl)
 back-head R (ErrorReport p) = (refl, refl)
 
 module _ (R : Reading) (E : List ℕ) where
-  end-back : (v : RtrProtocolVersion) (p : RtrEndOfData) → headerLength E ≡ lengthOf (endLayout v) + 0 → valuesOf (endLayout v) E ≡ placed 2 (endLayout v) (endValues v p)
+  end-back : (v : RtrProtocolVersion) (p : RtrEndOfData) → headerLength E ≡ lengthOf (endLayout v) + 0 → Valued 2 (endLayout v) (given (endValues v p)) E
       → endStands (endBack v p .version) (endBack v p) E
-  end-back V0 p h e = (h, nth e 0, nth e 1, refl, refl, refl)
-  end-back V1 p h e = (h, nth e 0, nth e 1, ap Seconds (nth e 2), ap Seconds (nth e 3), ap Seconds (nth e 4))
+  end-back V0 p h e = (h, e .0, e .1 .0, refl, refl, refl)
+  end-back V1 p h e = (h, e .0, e .1 .0, ap Seconds (e .1 .1 .0), ap Seconds (e .1 .1 .1 .0), ap Seconds (e .1 .1 .1 .1 .0))
 
   -- a Router Key with its identifier and its info where the encoding has them
   abbrev keyBack : Bool → RtrRouterKey → RtrRouterKey
   keyBack b p =
-      record { version = p .version; flags = p .flags; «subject_key_identifier» = place (keyStart b) 20; asn = p .asn; «subject_public_key_info» = place (lengthOf (keyFields b)) (p .«subject_public_key_info» .len) }
+      record { version = p .version; flags = p .flags; «subject_key_identifier» = placeOf (keyFields b) keyIdentifier; asn = p .asn; «subject_public_key_info» = place (lengthOf (keyFields b)) (p .«subject_public_key_info» .len) }
 
   key-back : (b : Bool) (p : RtrRouterKey) → headerLength E ≡ lengthOf (keyFields b) + p .«subject_public_key_info» .len
-      → valuesOf (keyFields b) E ≡ placed 2 (keyFields b) (p .flags ∷ p .«subject_key_identifier» .start ∷ p .asn ∷ []) → keyStands b (keyBack b p) E
+      → Valued 2 (keyFields b) (given (valuesIn (RouterKey p))) E → keyStands b (keyBack b p) E
   key-back true p h e =
       let rest : headerLength E - 34 ≡ p .«subject_public_key_info» .len = omega arith in
-      (omega arith, nth e 0, refl, nth e 2, ap (place 34) rest)
+      (omega arith, e .0, refl, e .1 .0, ap (place 34) rest)
   key-back false p h e =
       let rest : headerLength E - 32 ≡ p .«subject_public_key_info» .len = omega arith in
-      (omega arith, nth e 0, refl, nth e 2, ap (place 32) rest)
+      (omega arith, e .0, refl, e .1 .0, ap (place 32) rest)
 
-  -- a report's copy and text stand behind its 8 fixed bytes, each behind its length
+  -- a report's copy stands behind its picture, and its text behind its length
   report-back : (p : RtrErrorReport) (s front : List ℕ) → InRule R (ErrorReport p) s → 16 + p .«erroneous_pdu» .len + p .«error_text» .len ≤ 4294967295
-      → headerLength E ≡ 8 + (8 + p .«erroneous_pdu» .len + p .«error_text» .len) → number E 2 2 ≡ codeNumber (p .«error_code») → length front ≡ 8 → E ≡ front ++ behind (ErrorReport p) s
+      → headerLength E ≡ 12 + (p .«erroneous_pdu» .len + 4 + p .«error_text» .len) → number E 2 2 ≡ codeNumber (p .«error_code») → number E 8 4 ≡ p .«erroneous_pdu» .len → length front ≡ 12 → E ≡ front ++ behind (ErrorReport p) s
       → kindStands R E (readBack R (ErrorReport p))
-  report-back p s front rule short h c l q =
+  report-back p s front rule short h c a l q =
       let n : ℕ = p .«erroneous_pdu» .len in
       let m : ℕ = p .«error_text» .len in
       let copy : List ℕ = at (p .«erroneous_pdu») s in
@@ -88,30 +85,31 @@ module _ (R : Reading) (E : List ℕ) where
       let inside = both-true (inside (p .«erroneous_pdu») s) (inside (p .«error_text») s) (rule .places) in
       let long : length copy ≡ n = length-part s (p .«erroneous_pdu» .start) n (leb-true _ _ (inside .0)) in
       let long′ : length text ≡ m = length-part s (p .«error_text» .start) m (leb-true _ _ (inside .1)) in
-      let first : E ≡ front ++ (bytesOf 4 n ++ (copy ++ bytesOf 4 m ++ text)) = q ∙ simp append-assoc in
-      let second : E ≡ front ++ bytesOf 4 n ++ copy ++ (bytesOf 4 m ++ text) = q ∙ simp append-assoc in
-      let third : E ≡ front ++ bytesOf 4 n ++ copy ++ bytesOf 4 m ++ text = q ∙ simp append-assoc in
-      let a : number E 8 4 ≡ n = rw first (number-written front (copy ++ bytesOf 4 m ++ text) 8 4 n l (omega arith)) in
+      let second : E ≡ front ++ copy ++ (bytesOf 4 m ++ text) = q ∙ simp append-assoc in
+      let third : E ≡ front ++ copy ++ bytesOf 4 m ++ text = q ∙ simp append-assoc in
       let b : number E (12 + n) 4 ≡ m =
       rw second
-      (number-written (front ++ bytesOf 4 n ++ copy) text (12 + n) 4 m (simp (length-append, length-bytes) (omega arith)) (omega arith)) in
+      (number-written (front ++ copy) text (12 + n) 4 m (simp length-append (omega arith)) (omega arith)) in
       let d : take m (drop (16 + n) E) ≡ text =
       ap (λ (z : List ℕ). take m (drop (16 + n) z)) third
-      ∙ ap (take m) (drop-at (front ++ bytesOf 4 n ++ copy ++ bytesOf 4 m) text (16 + n) (simp (length-append, length-bytes) (omega arith)))
+      ∙ ap (take m) (drop-at (front ++ copy ++ bytesOf 4 m) text (16 + n) (simp (length-append, length-bytes) (omega arith)))
       ∙ take-all m text (omega arith) in
       rw (a, b) (c, rw c (rule .kind), refl, refl, ends-exactly (R .bytesBehindText) (16 + n + m) (headerLength E) (omega arith), rw d (rule .text))
 
   pub as-back : (pdu : RtrPdu) (s front : List ℕ) → InRule R pdu s → lengthOf (layoutOf R pdu) + behindLength pdu ≤ 4294967295 → headerLength E ≡ lengthOf (layoutOf R pdu) + behindLength pdu
-      → valuesOf (layoutOf R pdu) E ≡ placed 2 (layoutOf R pdu) (valuesIn pdu) → length front ≡ lengthOf (layoutOf R pdu) → E ≡ front ++ behind pdu s
+      → Valued 2 (layoutOf R pdu) (given (valuesIn pdu)) E → length front ≡ lengthOf (layoutOf R pdu) → E ≡ front ++ behind pdu s
       → kindStands R E (readBack R pdu)
-  as-back (SerialNotify p) s front rule short h e l q = (h, nth e 0, nth e 1)
-  as-back (SerialQuery p) s front rule short h e l q = (h, nth e 0, nth e 1)
+  as-back (SerialNotify p) s front rule short h e l q = (h, e .0, e .1 .0)
+  as-back (SerialQuery p) s front rule short h e l q = (h, e .0, e .1 .0)
   as-back (ResetQuery p) s front rule short h e l q = h
-  as-back (CacheResponse p) s front rule short h e l q = (h, nth e 0)
-  as-back (IPv4Prefix p) s front rule short h e l q = (h, nth e 0, nth e 1, nth e 2, nth e 3, nth e 4, rule .kind .0, rule .kind .1)
+  as-back (CacheResponse p) s front rule short h e l q = (h, e .0)
+  as-back (IPv4Prefix p) s front rule short h e l q =
+      let word = e .1 .1 .1 in
+      (h, e .0, e .1 .0, e .1 .1 .0, word .0, word .1 .0, rule .kind .0, rule .kind .1)
   as-back (IPv6Prefix p) s front rule short h e l q =
-      (h, nth e 0, nth e 1, nth e 2, nth e 3, nth e 4, nth e 5, nth e 6, nth e 7, rule .kind .0, rule .kind .1)
+      let word = e .1 .1 .1 in
+      (h, e .0, e .1 .0, e .1 .1 .0, word .0, word .1 .0, word .1 .1 .0, word .1 .1 .1 .0, word .1 .1 .1 .1 .0, rule .kind .0, rule .kind .1)
   as-back (EndOfData p) s front rule short h e l q = end-back (p .version) p h e
   as-back (CacheReset p) s front rule short h e l q = h
   as-back (RouterKey p) s front rule short h e l q = (sym (rule .kind), key-back (R .keyByCrate) p h e)
-  as-back (ErrorReport p) s front rule short h e l q = report-back p s front rule (omega arith) h (nth e 0) l q
+  as-back (ErrorReport p) s front rule short h e l q = report-back p s front rule (omega arith) h (e .0) (e .1 .0) l q

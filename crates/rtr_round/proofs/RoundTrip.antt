@@ -18,12 +18,12 @@ use Rattle.rtr_models.specs.Values.{typeOf, versionOf}
 use Rattle.rtr_models.specs.declared.RtrPdu.{RtrPdu}
 use Rattle.rtr_codec.specs.Bytes.{number}
 use Rattle.rtr_codec.specs.Reading.{Reading}
-use Rattle.rtr_codec.specs.Layout.{widths, lengthOf, valuesOf}
+use Rattle.rtr_codec.specs.Layout.{widths, lengthOf}
 use Rattle.rtr_codec.specs.Read.{headerLength, read, needed}
 use Rattle.rtr_codec.specs.Read.Verdict.{accepted}
 use Rattle.rtr_codec.proofs.Laws.{header-is, needed-large, read-consumes, read-behind}
 use Rattle.rtr_codec.proofs.Exactly.{reads-standing}
-use Rattle.rtr_encode.specs.Encode.{fieldBytes, layoutOf, valuesIn, behind, behindLength, encodedLength, encoding, placesInside, textIn, encode}
+use Rattle.rtr_encode.specs.Encode.{fieldBytes, layoutOf, given, valuesIn, behind, behindLength, encodedLength, encoding, placesInside, textIn, encode}
 use Rattle.rtr_encode.specs.Encode.Writing.{written}
 use Rattle.rtr_encode.proofs.Laws.{encoded-length-is, encoding-is, tests-write}
 use Rattle.rtr_round.specs.RoundTrip.{Bytes, ignoredZero, nothingBehind, InRule, readBack}
@@ -31,7 +31,7 @@ use Rattle.rtr_round.proofs.Bytes.{byte-at, four-bytes-fit, append-same
 use Rattle.rtr_round.proofs.Fields.{total-at-4, fields-long, length-fields, fields-back}
 use Rattle.rtr_round.proofs.Inside.{payloads-inside, length-behind}
 use Rattle.rtr_round.proofs.Accepted.{Found, accepted-found}
-use Rattle.rtr_round.proofs.Written.{placed, values-written, total-written}
+use Rattle.rtr_round.proofs.Written.{Valued, values-written, total-written}
 use Rattle.rtr_round.proofs.ReadBack.{back-head, as-back}
 
 first-two : (s : List ℕ) → 2 ≤ length s → take 2 s ≡ number s 0 1 ∷ number s 1 1 ∷ []
@@ -41,7 +41,7 @@ first-two (a ∷ b ∷ s) h = simp byte-at
 
 -- the fixed fields as they are written
 abbrev fixedBytes : Reading → RtrPdu → List ℕ → List ℕ
-fixedBytes R pdu s = fieldBytes (layoutOf R pdu) (encodedLength R pdu) (valuesIn pdu) s
+fixedBytes R pdu s = fieldBytes (layoutOf R pdu) (encodedLength R pdu) (given (valuesIn pdu)) s
 
 -- and as they stand
 abbrev fixedPart : Reading → RtrPdu → List ℕ → List ℕ
@@ -53,7 +53,7 @@ restPart R pdu s = take (behindLength pdu) (drop (lengthOf (layoutOf R pdu)) s)
 
 module _ (R : Reading) (pdu : RtrPdu) (s : List ℕ) (places : placesInside pdu s ≡ true) where
   length-fixed : length (fixedBytes R pdu s) ≡ widths (layoutOf R pdu)
-  length-fixed = length-fields s (layoutOf R pdu) (encodedLength R pdu) (valuesIn pdu) (payloads-inside R pdu s places)
+  length-fixed = length-fields s (layoutOf R pdu) (encodedLength R pdu) (given (valuesIn pdu)) (payloads-inside R pdu s places)
 
   pub length-encoding : length (encoding R pdu s) ≡ encodedLength R pdu
   length-encoding =
@@ -89,9 +89,9 @@ encode-of-read R s pdu n bs e =
     let found : Found R s pdu n = accepted-found R s pdu n bs e in
     let c : (n ≡ headerLength s) × (8 ≤ n) × (n ≤ length s) = read-consumes R s pdu n e in
     let decide = fixed-decide R s pdu n found (c .1) (c .2) in
-    let back = fields-back s bs false 2 (layoutOf R pdu) (fixed-inside R s pdu n found (c .1) (c .2)) (total-at-4 R pdu) in
-    let fixed : encodedLength R pdu ≡ n → fixedBytes R pdu s ≡ fieldBytes (layoutOf R pdu) (headerLength s) (valuesOf (layoutOf R pdu) s) s =
-    λ m. cc (m, c .0, found .values) in (
+    let back = fields-back s bs false 2 (layoutOf R pdu) (given (valuesIn pdu)) (found .values) (fixed-inside R s pdu n found (c .1) (c .2)) (total-at-4 R pdu) in
+    let fixed : encodedLength R pdu ≡ n → fixedBytes R pdu s ≡ fieldBytes (layoutOf R pdu) (headerLength s) (given (valuesIn pdu)) s =
+    λ m. cc (m, c .0) in (
       λ q.
           let m : encodedLength R pdu ≡ n = sym (length-encoding R pdu s (found .places)) ∙ ap length q ∙ length-take-le n s (c .2) in
           (back .0 (sym (fixed m) ∙ decide .0 (q ∙ ap (λ (k : ℕ). take k s) (sym m))), found .last .0 m),
@@ -124,12 +124,12 @@ module _ (R : Reading) (pdu : RtrPdu) (s : List ℕ) (rule : InRule R pdu s) whe
   header-written : headerLength (encoding R pdu s) ≡ encodedLength R pdu
   header-written =
       header-is (encoding R pdu s)
-      ∙ total-written s (encoding R pdu s) (behind pdu s) (encodedLength R pdu) (layoutOf R pdu) 2 (valuesIn pdu)
+      ∙ total-written s (encoding R pdu s) (behind pdu s) (encodedLength R pdu) (layoutOf R pdu) 2 (given (valuesIn pdu))
       (versionNumber (versionOf pdu) ∷ typeNumber (typeOf pdu) ∷ []) (payloads-inside R pdu s (rule .places)) (total-at-4 R pdu) (rule .short) refl (encoding-is R pdu s)
 
-  values-back : valuesOf (layoutOf R pdu) (encoding R pdu s) ≡ placed 2 (layoutOf R pdu) (valuesIn pdu)
+  values-back : Valued 2 (layoutOf R pdu) (given (valuesIn pdu)) (encoding R pdu s)
   values-back =
-      values-written s (encoding R pdu s) (behind pdu s) (encodedLength R pdu) (layoutOf R pdu) 2 (valuesIn pdu)
+      values-written s (encoding R pdu s) (behind pdu s) (encodedLength R pdu) (layoutOf R pdu) 2 (given (valuesIn pdu))
       (versionNumber (versionOf pdu) ∷ typeNumber (typeOf pdu) ∷ []) (payloads-inside R pdu s (rule .places)) (rule .fits) refl (encoding-is R pdu s)
 
   version-written : number (encoding R pdu s) 0 1 ≡ versionNumber (versionOf pdu)

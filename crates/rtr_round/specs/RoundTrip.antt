@@ -1,7 +1,7 @@
 -- When encoding what was read gives back the bytes, and when reading what was encoded gives back the PDU: demand 2.
 use Prim.Native.Nat.{ℕ, _+_, _<_, _≤_, _^_}
 use mathlib.Core.List.{List, [], _∷_}
-use mathlib.Core.Bool.{Bool, true, cond}
+use mathlib.Core.Bool.{true}
 use mathlib.Core.Path.{_≡_}
 use lib.ListN.{getD, take, drop, replicate}
 use Rattle.rtr_models.specs.Codes.{codeNumber}
@@ -13,10 +13,11 @@ use Rattle.rtr_models.specs.declared.RtrEndOfData.{RtrEndOfData}
 use Rattle.rtr_models.specs.declared.RtrPdu.{RtrPdu}
 use Rattle.rtr_models.specs.declared.RtrPdu.the-variants.{SerialNotify, SerialQuery, ResetQuery, CacheResponse, IPv4Prefix, IPv6Prefix, EndOfData, CacheReset, RouterKey, ErrorReport}
 use Rattle.rtr_codec.specs.Reading.{Reading}
-use Rattle.rtr_codec.specs.Layout.{Field, lengthOf}
+use Rattle.rtr_codec.specs.Layout.{Label, Field, lengthOf, place, placeOf, encapsulatedStart, textStart}
 use Rattle.rtr_codec.specs.Layout.Field.{ignored, total, value, payload}
+use Rattle.rtr_codec.specs.Layout.Label.{keyIdentifier}
 use Rattle.rtr_codec.specs.Read.{codeIn, keyFields}
-use Rattle.rtr_encode.specs.Encode.{layoutOf, valuesIn, encodedLength, placesInside, textIn, at}
+use Rattle.rtr_encode.specs.Encode.{layoutOf, given, valuesIn, encodedLength, placesInside, textIn, at}
 
 -- every element of a slice is a byte, as in any slice of the code
 abbrev pub Bytes : List ℕ → Type 0
@@ -27,8 +28,8 @@ abbrev pub ignoredZero : ℕ → List Field → List ℕ → Type 0
 ignoredZero at [] s = Unit {0}
 ignoredZero at (ignored n ∷ fs) s = (take n (drop at s) ≡ replicate n 0) × ignoredZero (at + n) fs s
 ignoredZero at (total ∷ fs) s = ignoredZero (at + 4) fs s
-ignoredZero at (value n ∷ fs) s = ignoredZero (at + n) fs s
-ignoredZero at (payload n ∷ fs) s = ignoredZero (at + n) fs s
+ignoredZero at (value label n ∷ fs) s = ignoredZero (at + n) fs s
+ignoredZero at (payload label n ∷ fs) s = ignoredZero (at + n) fs s
 
 -- nothing follows an Error Report's text in the n bytes of the PDU
 abbrev pub nothingBehind : RtrPdu → ℕ → Type 0
@@ -44,12 +45,12 @@ nothingBehind (RouterKey p) n = Unit {0}
 nothingBehind (ErrorReport p) n = n ≡ p .«error_text» .start + p .«error_text» .len
 
 -- each value fits the bytes of its field
-abbrev pub valuesFit : List Field → List ℕ → Type 0
+abbrev pub valuesFit : List Field → (Label → ℕ) → Type 0
 valuesFit [] values = Unit {0}
 valuesFit (ignored n ∷ fs) values = valuesFit fs values
 valuesFit (total ∷ fs) values = valuesFit fs values
-valuesFit (value n ∷ fs) values = (getD values 0 0 < 256 ^ n) × valuesFit fs (drop 1 values)
-valuesFit (payload n ∷ fs) values = valuesFit fs (drop 1 values)
+valuesFit (value label n ∷ fs) values = (values label < 256 ^ n) × valuesFit fs values
+valuesFit (payload label n ∷ fs) values = valuesFit fs values
 
 -- the rules of single kinds: a prefix's lengths, a Router Key's version, an error code of the version's list
 abbrev pub kindInRule : Reading → RtrPdu → Type 0
@@ -66,7 +67,7 @@ kindInRule R (ErrorReport p) = codeIn (R .codeEightInV0) (p .version) (codeNumbe
 
 -- a PDU that can be sent and read: its values fit, its payloads lie in s, its text is UTF-8, its length fits 32 bits, its kind's rules hold
 pub record InRule (R : Reading) (pdu : RtrPdu) (s : List ℕ) : Type 0 where
-  pub fits : valuesFit (layoutOf R pdu) (valuesIn pdu)
+  pub fits : valuesFit (layoutOf R pdu) (given (valuesIn pdu))
   pub places : placesInside pdu s ≡ true
   pub text : textIn pdu s ≡ true
   pub short : encodedLength R pdu ≤ 4294967295
@@ -93,10 +94,6 @@ endBack V1 p =
       «expire_interval» = Seconds (secondsOr 7200 (p .«expire_interval»));
     }
 
--- the byte at which a key identifier stands: RFC 8210, 5.10, and the crate's arrangement
-abbrev pub keyStart : Bool → ℕ
-keyStart byCrate = cond byCrate 10 8
-
 -- the PDU that its encoding is read as: the same, with its payloads where the encoding has them
 abbrev pub readBack : Reading → RtrPdu → RtrPdu
 readBack R (SerialNotify p) = SerialNotify p
@@ -112,17 +109,17 @@ readBack R (RouterKey p) =
     (record {
       version = p .version;
       flags = p .flags;
-      «subject_key_identifier» = record { start = keyStart (R .keyByCrate); len = 20 };
+      «subject_key_identifier» = placeOf (keyFields (R .keyByCrate)) keyIdentifier;
       asn = p .asn;
-      «subject_public_key_info» = record { start = lengthOf (keyFields (R .keyByCrate)); len = p .«subject_public_key_info» .len };
+      «subject_public_key_info» = place (lengthOf (keyFields (R .keyByCrate))) (p .«subject_public_key_info» .len);
     })
 readBack R (ErrorReport p) =
     ErrorReport
     (record {
       version = p .version;
       «error_code» = p .«error_code»;
-      «erroneous_pdu» = record { start = 12; len = p .«erroneous_pdu» .len };
-      «error_text» = record { start = 16 + p .«erroneous_pdu» .len; len = p .«error_text» .len };
+      «erroneous_pdu» = place encapsulatedStart (p .«erroneous_pdu» .len);
+      «error_text» = place (textStart (p .«erroneous_pdu» .len)) (p .«error_text» .len);
     })
 
 -- the payloads of a PDU, as they stand in s: a Router Key's identifier and info, an Error Report's copy and text

@@ -11,7 +11,7 @@ use Rattle.rtr_codec.proofs.Laws.{needed-short, needed-large, header-stays}
 use Rattle.rtr_stream.specs.Stream.{Heard, heardOf, judge}
 use Rattle.rtr_stream.specs.Stream.Heard.{waits}
 use Rattle.rtr_stream.specs.Search.{over, searchFrom, outcomeOf}
-use Rattle.rtr_stream.specs.Turns.{JudgedTo, TurnedTo, searchHere}
+use Rattle.rtr_stream.specs.Private.{JudgedTo, TurnedTo, searchHere}
 use Rattle.rtr_stream.specs.declared.Then.{Then}
 use Rattle.rtr_stream.proofs.Judge.{InRange, Waiting, IsStream, judge-whole, waits-waiting, waiting-lacks, waiting-grows, is-stream}
 use Rattle.rtr_stream.proofs.Judge.Waiting.{short, cut}

@@ -10,14 +10,13 @@ use lib.Seq.{take-all, length-take-le, getD-take, getD-drop}
 use Rattle.rtr_models.specs.declared.RtrPdu.{RtrPdu}
 use Rattle.rtr_codec.specs.Reading.{inUse}
 use Rattle.rtr_codec.specs.Read.{read, headerLength, needed}
-use Rattle.rtr_codec.proofs.Laws.{needed-large, header-stays}
+use Rattle.rtr_codec.proofs.Laws.{needed-large, header-stays, refusal-is}
 use Rattle.rtr_codec.specs.Answers.{verdict}
 use Rattle.rtr_codec.specs.declared.RtrError.{RtrError}
-use Rattle.rtr_codec.specs.declared.RtrError.the-variants.{IncompletePdu, InvalidProtocolVersion, InvalidPduType, InvalidLength, RouterKeyInV0, InvalidPrefixLength, InvalidErrorCode, InvalidUtf8}
 use Rattle.rtr_codec.specs.declared.ReadAnswer.{ReadAnswer}
 use Rattle.rtr_stream.specs.Stream.{Heard, heardOf, lengthIn, judge}
 use Rattle.rtr_stream.specs.Search.{Search, End, Says, Outcome, over, searchFrom, isStream, search, outcomeOf, saysOf, lying, streamRefusal, searchSaid}
-use Rattle.rtr_stream.specs.Turns.{LengthTested, JudgedTo, Turned, searchHere}
+use Rattle.rtr_stream.specs.Private.{LengthTested, JudgedTo, Turned, searchHere}
 use Rattle.rtr_stream.specs.declared.StreamError.{StreamError}
 use Rattle.rtr_stream.specs.declared.LengthTest.{LengthTest}
 use Rattle.rtr_stream.specs.declared.Then.{Then}
@@ -55,14 +54,7 @@ refused-alike hold piece s before at next go error heard e = same error ∙ ap (
         searchSaid (record { stream = record { held = 0 }; next = next; answer = StreamAnswer.Refused error }) hold piece
         ≡ outcomeOf before at (over next s (heardOf (streamRefusal error)) go)
     same (StreamError.OverHold length) = refl
-    same (StreamError.Read (IncompletePdu a n)) = refl
-    same (StreamError.Read (InvalidPduType t)) = refl
-    same (StreamError.Read (InvalidProtocolVersion v)) = refl
-    same (StreamError.Read (InvalidErrorCode c)) = refl
-    same (StreamError.Read (InvalidLength e a t)) = refl
-    same (StreamError.Read (InvalidPrefixLength l m b)) = refl
-    same (StreamError.Read InvalidUtf8) = refl
-    same (StreamError.Read RouterKeyInV0) = refl
+    same (StreamError.Read e) = rw (refusal-is e .1) refl
 
 -- a PDU found in the hold's first n bytes
 pub found-in-hold : (hold piece : List ℕ) (n before at next : ℕ) (go : Search) (pdu : RtrPdu) (heard : Heard) →

@@ -6,11 +6,14 @@ use mathlib.Core.Path.{_≡_, refl, sym, ap, _∙_}
 use denote.Ref.{now}
 use lib.Dec.{eqb}
 use lib.ListN.{getD, take}
-use mathlib.Core.Bool.{cond}
+use mathlib.Core.Bool.{Bool, cond}
+use native.Mathlib.Omega.{arith}
+use borrow.Author.Tests.{ne-eqb}
 use Rattle.rtr_base.proofs.Unique.{only-this}
 use Rattle.rtr_codec.specs.Read.{Verdict}
+use Rattle.rtr_codec.specs.Answers.{refusal, numberOf}
+use Rattle.rtr_codec.proofs.Laws.{refusal-is, refusal-small}
 use Rattle.rtr_codec.specs.declared.RtrError.{RtrError}
-use Rattle.rtr_codec.specs.declared.RtrError.the-variants.{IncompletePdu, InvalidProtocolVersion, InvalidPduType, InvalidLength, RouterKeyInV0, InvalidPrefixLength, InvalidErrorCode, InvalidUtf8}
 use Rattle.rtr_codec.specs.declared.ReadAnswer.{ReadAnswer}
 use Rattle.rtr_codec.proofs.Unique.{answerOf, error-back}
 use Rattle.rtr_stream.specs.Search.{Says, Outcome, streamRefusal, stopsBy, saidBy, searchSaid}
@@ -36,14 +39,13 @@ saying (Says.refusedCall number hold) = StreamAnswer.NotAStream
 
 error-told : (e : RtrError) → saying (stopsBy (streamRefusal (StreamError.Read e))) ≡ StreamAnswer.Refused (StreamError.Read e)
 unfolding saying answered
-error-told (IncompletePdu a n) = ap answered (error-back (IncompletePdu a n))
-error-told (InvalidPduType t) = ap answered (error-back (InvalidPduType t))
-error-told (InvalidProtocolVersion v) = ap answered (error-back (InvalidProtocolVersion v))
-error-told (InvalidErrorCode c) = ap answered (error-back (InvalidErrorCode c))
-error-told (InvalidLength e a t) = ap answered (error-back (InvalidLength e a t))
-error-told (InvalidPrefixLength l m b) = ap answered (error-back (InvalidPrefixLength l m b))
-error-told InvalidUtf8 = ap answered (error-back InvalidUtf8)
-error-told RouterKeyInV0 = ap answered (error-back RouterKeyInV0)
+error-told e =
+    let k : ℕ = numberOf (refusal e) in
+    let x : List ℕ = refusal-is e .0 in
+    ap (λ (v : Verdict). saying (stopsBy v)) (refusal-is e .1)
+    ∙ ap (λ (b : Bool). cond b (StreamAnswer.Refused (StreamError.OverHold (getD x 0 0))) (answered (answerOf (Verdict.refused k x)))) (ne-eqb k 12 (λ q. omega (arith, refusal-small e)))
+    ∙ ap (λ (v : Verdict). answered (answerOf v)) (sym (refusal-is e .1))
+    ∙ ap answered (error-back e)
 
 searchedOf : Outcome → Searched
 searchedOf o = record { stream = record { held = o .count }; next = o .next; answer = saying (o .says) }

@@ -13,7 +13,7 @@ ghost use Prim.Native.Nat.{_+_, _-_, _≤_, _<_};
 ghost use lib.ListN.{length, take, drop};
 ghost use Rattle.rtr_codec.specs.Answers.{numberOf};
 ghost use Rattle.rtr_stream.specs.Search.{isStream, search, searchSaid, streamRefusal, outcomeOf};
-ghost use Rattle.rtr_stream.specs.Turns.{LengthTested, Turned, ReadHere, HeaderHere, searchHere};
+ghost use Rattle.rtr_stream.specs.Private.{LengthTested, Turned, ReadHere, HeaderHere, searchHere};
 
 // The longest PDU that is listened to: an Error Report with a copy and a text of 65,535 bytes each.
 pub const RTR_MAX_ERROR_REPORT_LEN: u32 = 131086;

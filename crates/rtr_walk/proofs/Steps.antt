@@ -16,8 +16,9 @@ use Rattle.rtr_codec.specs.Reading.{Reading}
 use Rattle.rtr_codec.specs.Read.{Verdict, read}
 use Rattle.rtr_codec.specs.Answers.{refusal, numberOf}
 use Rattle.rtr_codec.specs.declared.RtrError.{RtrError}
-use Rattle.rtr_codec.specs.declared.RtrError.the-variants.{IncompletePdu, InvalidPduType, InvalidProtocolVersion, InvalidErrorCode, InvalidLength, InvalidPrefixLength, InvalidUtf8, RouterKeyInV0}
-use Rattle.rtr_walk.specs.Walk.{End, refusedWalk, walk, inner, bytesInside, walkFrom, walkInside}
+use Rattle.rtr_codec.proofs.Laws.{refusal-is}
+use Rattle.rtr_walk.specs.Walk.{End, refusedWalk, walk, inner, bytesInside, walkFrom}
+use Rattle.rtr_walk.specs.Private.{walkInside}
 use Rattle.rtr_walk.specs.Walk.End.{plain, empty, refusedBy, tooDeep}
 use Rattle.rtr_walk.specs.Walk.Inner.{ends}
 use Rattle.rtr_walk.specs.Walk.WalkVerdict.{walked, refused}
@@ -38,17 +39,6 @@ other-ends (EndOfData p) s h = refl
 other-ends (CacheReset p) s h = refl
 other-ends (RouterKey p) s h = refl
 other-ends (ErrorReport p) s h = absurd (miss others 9 tt h)
-
--- an error is a refusal by its number
-refusal-is : (error : RtrError) → (values : List ℕ) × (refusal error ≡ Verdict.refused (numberOf (refusal error)) values)
-refusal-is (IncompletePdu available needed) = (_, refl)
-refusal-is (InvalidPduType type) = (_, refl)
-refusal-is (InvalidProtocolVersion version) = (_, refl)
-refusal-is (InvalidErrorCode code) = (_, refl)
-refusal-is (InvalidLength expected actual type) = (_, refl)
-refusal-is (InvalidPrefixLength length max limit) = (_, refl)
-refusal-is InvalidUtf8 = (_, refl)
-refusal-is RouterKeyInV0 = (_, refl)
 
 module _ (R : Reading) where
   -- from a PDU that ends the walk, and from one that holds bytes

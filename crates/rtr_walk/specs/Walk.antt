@@ -69,16 +69,6 @@ walkFrom R (suc left) level pdu s =
           ]
     ]
 
--- the same from a report's encapsulated bytes
-unfoldable pub walkInside : Reading → ℕ → ℕ → List ℕ → WalkVerdict
-walkInside R left level [] = walked level empty
-walkInside R zero level (b ∷ bs) = walked level tooDeep
-walkInside R (suc left) level (b ∷ bs) =
-    elim (read R (b ∷ bs)) [
-      | Verdict.accepted deeper consumed ↦ walkFrom R left (level + 1) deeper (b ∷ bs)
-      | Verdict.refused number values ↦ walked level (refusedBy number)
-    ]
-
 -- the walk: a refused read at level 0 refuses it
 unfoldable pub walk : Reading → List ℕ → WalkVerdict
 walk R s =

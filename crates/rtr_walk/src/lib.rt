@@ -8,7 +8,8 @@ use rtr_models::RtrPduType;
 ghost use mathlib.Core.Path.{_≡_};
 ghost use Prim.Native.Nat.{_-_, _≤_};
 ghost use Rattle.rtr_codec.specs.Reading.{inUse};
-ghost use Rattle.rtr_walk.specs.Walk.{walk, walkFrom, walkInside, walkSaid};
+ghost use Rattle.rtr_walk.specs.Walk.{walk, walkFrom, walkSaid};
+ghost use Rattle.rtr_walk.specs.Private.{walkInside};
 
 // Where a walk ends.
 pub enum WalkEnd {

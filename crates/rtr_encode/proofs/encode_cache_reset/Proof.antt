@@ -3,6 +3,7 @@ use mathlib.Core.List.{[]}
 use mathlib.Core.Path.{refl}
 use native.Mathlib.Omega.{arith}
 use denote.Ref.{now}
+use Rattle.rtr_text.proofs.Laws.{empty-is-well-formed}
 use Rattle.rtr_models.specs.declared.RtrPdu.the-variants.{CacheReset}
 use Rattle.rtr_codec.specs.Reading.{inUse}
 use Rattle.rtr_encode.specs.Encode.{bytesOf, encodedLength, encoding}
@@ -18,7 +19,7 @@ returns : tie.Need-returns
 unfolding encodedLength
 returns c =
     let a = c .before .before .before .args in
-    rw (c .short .ensures) (too-short inUse (CacheReset (a .pdu)) [] (now (a .out)) 8 refl refl refl (omega arith) (c .before .if1 .taken))
+    rw (c .short .ensures) (too-short inUse (CacheReset (a .pdu)) [] (now (a .out)) 8 refl empty-is-well-formed refl (omega arith) (c .before .if1 .taken))
 
 put-header-requires : tie.Need-put-header-requires
 put-header-requires c κs = search needs
@@ -30,7 +31,7 @@ returns-2 : tie.Need-returns-2
 unfolding bytesOf encodedLength encoding
 returns-2 c =
     let a = c .before .before .before .before .before .before .args in
-    wrote inUse (CacheReset (a .pdu)) [] (now (a .out)) 8 refl refl refl (omega arith) _ (c .before .before .before .before .if1 .left) refl
+    wrote inUse (CacheReset (a .pdu)) [] (now (a .out)) 8 refl empty-is-well-formed refl (omega arith) _ (c .before .before .before .before .if1 .left) refl
     (c .before .before .put-header .ensures)
 
 pub encode-cache-reset-spec : {M : Type 1} → statement M

@@ -5,7 +5,8 @@ use denote.Ref.{now}
 use Rattle.rtr_models.specs.declared.RtrProtocolVersion.{RtrProtocolVersion}
 use Rattle.rtr_models.specs.declared.RtrPdu.the-variants.{EndOfData}
 use Rattle.rtr_codec.specs.Reading.{inUse}
-use Rattle.rtr_encode.specs.Encode.{withVersion, encode}
+use Rattle.rtr_encode.specs.Encode.{encode}
+use Rattle.rtr_encode.specs.Private.{withVersion}
 use Rattle.rtr_encode.proofs.Written.{filled}
 use borrow.Author.Needs.{needs}
 use Rattle.rtr_encode.proofs.encode_end_of_data.Statement.{statement}

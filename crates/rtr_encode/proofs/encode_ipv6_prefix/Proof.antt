@@ -3,6 +3,7 @@ use mathlib.Core.List.{[]}
 use mathlib.Core.Path.{refl}
 use native.Mathlib.Omega.{arith}
 use denote.Ref.{now}
+use Rattle.rtr_text.proofs.Laws.{empty-is-well-formed}
 use Rattle.rtr_models.specs.declared.RtrPdu.the-variants.{IPv6Prefix}
 use Rattle.rtr_codec.specs.Reading.{inUse}
 use Rattle.rtr_encode.specs.Encode.{bytesOf, encodedLength, encoding}
@@ -19,7 +20,7 @@ returns : tie.Need-returns
 unfolding encodedLength
 returns c =
     let a = c .before .before .before .args in
-    rw (c .short .ensures) (too-short inUse (IPv6Prefix (a .pdu)) [] (now (a .out)) 32 refl refl refl (omega arith) (c .before .if1 .taken))
+    rw (c .short .ensures) (too-short inUse (IPv6Prefix (a .pdu)) [] (now (a .out)) 32 refl empty-is-well-formed refl (omega arith) (c .before .if1 .taken))
 
 put-header-requires : tie.Need-put-header-requires
 put-header-requires c κs = search needs
@@ -49,7 +50,7 @@ returns-2 : tie.Need-returns-2
 unfolding bytesOf encodedLength encoding
 returns-2 c =
     let a = c .before .before .before .before .before .before .before .before .before .before .before .before .before .before .before .before .before .before .before .before .before .before .before .before .before .before .before .before .before .before .before .args in
-    wrote inUse (IPv6Prefix (a .pdu)) [] (now (a .out)) 32 refl refl refl (omega arith) _ (c .before .before .before .before .before .before .before .before .before .before .before .before .before .before .before .before .before .before .before .before .before .before .before .before .before .before .before .before .before .if1 .left) refl
+    wrote inUse (IPv6Prefix (a .pdu)) [] (now (a .out)) 32 refl empty-is-well-formed refl (omega arith) _ (c .before .before .before .before .before .before .before .before .before .before .before .before .before .before .before .before .before .before .before .before .before .before .before .before .before .before .before .before .before .if1 .left) refl
     (next (now (a .out)) _ _ _ _ 28 (next (now (a .out)) _ _ _ _ 24 (next (now (a .out)) _ _ _ _ 20 (next (now (a .out)) _ _ _ _ 16 (next (now (a .out)) _ _ _ _ 12 (next (now (a .out)) _ _ _ _ 8 (c .before .before .before .before .before .before .before .before .before .before .before .before .before .before .before .before .before .before .before .before .before .before .before .before .before .before .put-header .ensures) refl (c .before .before .before .before .before .before .before .before .before .before .before .before .before .before .before .before .before .before .before .before .before .before .put-lengths .ensures)) refl (c .before .before .before .before .before .before .before .before .before .before .before .before .before .before .before .before .before .before .put32 .ensures)) refl (c .before .before .before .before .before .before .before .before .before .before .before .before .before .before .put322 .ensures)) refl (c .before .before .before .before .before .before .before .before .before .before .put323 .ensures)) refl (c .before .before .before .before .before .before .put324 .ensures)) refl (c .before .before .put325 .ensures))
 
 pub encode-ipv6-prefix-spec : {M : Type 1} → statement M

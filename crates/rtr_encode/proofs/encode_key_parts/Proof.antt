@@ -3,7 +3,7 @@ use Prim.Native.Nat.{_+_}
 use native.Mathlib.Omega.{arith}
 use denote.Ref.{now}
 use lib.ListN.{length}
-use Rattle.rtr_encode.specs.Encode.{keyBytes}
+use Rattle.rtr_encode.specs.Private.{keyBytes}
 use Rattle.rtr_encode.proofs.Checks.{too-long, no-room, all-in, key-length}
 use borrow.Author.Needs.{needs}
 use Rattle.rtr_encode.proofs.encode_key_parts.Statement.{statement}

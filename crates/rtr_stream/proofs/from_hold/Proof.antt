@@ -9,7 +9,7 @@ use borrow.Author.Needs.{needs}
 use Rattle.rtr_codec.proofs.Laws.{needed-short}
 use Rattle.rtr_codec.specs.Reading.{inUse}
 use Rattle.rtr_stream.specs.Stream.{Heard, judge}
-use Rattle.rtr_stream.specs.Turns.{JudgedTo}
+use Rattle.rtr_stream.specs.Private.{JudgedTo}
 use Rattle.rtr_stream.proofs.Judge.{stream-is}
 use Rattle.rtr_stream.proofs.Turns.{rest-kept}
 use Rattle.rtr_stream.proofs.Holds.{part-long, part-put, wants-more, wanted-fits, rest-waits, whole-heard, judged-turn}

@@ -9,7 +9,7 @@ use lib.ListN.{length}
 use borrow.Author.Needs.{needs}
 use borrow.Author.Tests.{not-true, not-false}
 use Rattle.rtr_stream.specs.Search.{isStream, lying, outcomeOf}
-use Rattle.rtr_stream.specs.Turns.{TurnedTo, searchHere}
+use Rattle.rtr_stream.specs.Private.{TurnedTo, searchHere}
 use Rattle.rtr_stream.proofs.Judge.{stream-is}
 use Rattle.rtr_stream.proofs.Turns.{lies-in-hold, outcomes-alike, not-a-stream, a-stream}
 use Rattle.rtr_stream.proofs.search.Statement.{statement}

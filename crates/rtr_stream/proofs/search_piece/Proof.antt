@@ -3,7 +3,7 @@ use mathlib.Core.Path.{subst}
 use native.Mathlib.Omega.{arith}
 use denote.Ref.{now}
 use borrow.Author.Needs.{needs}
-use Rattle.rtr_stream.specs.Turns.{TurnedTo}
+use Rattle.rtr_stream.specs.Private.{TurnedTo}
 use Rattle.rtr_stream.proofs.Turns.{nothing-left}
 use Rattle.rtr_stream.proofs.search_piece.Statement.{statement}
 use Rattle.rtr_stream.proofs.search_piece.Tie as tie
