@@ -36,7 +36,7 @@ extern "C" {
  * and with HINGEMOSS_HOLD_MOST no PDU is too long for it. */
 #define HINGEMOSS_RECORDS 1024
 #define HINGEMOSS_ROOM_NUMBERS 6144
-#define HINGEMOSS_SESSION_NUMBERS 18
+#define HINGEMOSS_SESSION_NUMBERS 24
 #define HINGEMOSS_PDU_NUMBERS 12
 #define HINGEMOSS_HOLD_LEAST 8
 #define HINGEMOSS_HOLD_MOST 131086
@@ -90,7 +90,8 @@ enum hingemoss_session {
     HINGEMOSS_SESSION_NOTE_SERIAL = 14,
     HINGEMOSS_SESSION_LIVE = 15,       /* records in the live room */
     HINGEMOSS_SESSION_WORKING = 16,    /* records in the working room */
-    HINGEMOSS_SESSION_HELD = 17        /* bytes held in the hold */
+    HINGEMOSS_SESSION_HELD = 17,       /* bytes held in the hold */
+    HINGEMOSS_SESSION_LIMIT = 18       /* the most records that a room has: HINGEMOSS_RECORDS. Behind it stand five zeros, places that are kept for later versions */
 };
 
 enum hingemoss_phase {

@@ -27,7 +27,7 @@ use Rattle.rtr_walk.specs.Walk.{endSaid, refusedWalk, walkSaid, walk}
 use Rattle.rtr_walk.specs.declared.WalkEnd.{WalkEnd}
 use Rattle.rtr_walk.specs.declared.WalkAnswer.{WalkAnswer}
 use Rattle.rtr_stream.specs.declared.StreamError.{StreamError}
-use Rattle.rtr_receiver.specs.Promises.{AskSays, StartSays, leaves, feedSays, fedSaidBy, fedSaid, startSays, startSaid, askWriting, askSaid, fullAskSays, changeAskSays, reconnectNumber, reconnectSays, reconnectSaid, notifySays, notifySaid}
+use Rattle.rtr_receiver.specs.Promises.{AskSays, StartSays, leaves, feedSays, fedSaidBy, fedSaid, startSays, startSaid, askWriting, askSaid, fullAskSays, changeAskSays, reconnectNumber, reconnectSays, reconnectSaid, notifySays, notifySaid, recordLimit}
 use Rattle.rtr_receiver.specs.Runs.{Call, Step, Run}
 use Rattle.rtr_receiver.specs.declared.LoadKind.{LoadKind}
 use Rattle.rtr_receiver.specs.declared.Stop.{Stop}
@@ -38,7 +38,7 @@ use Rattle.rtr_receiver.specs.declared.FeedAnswer.{FeedAnswer}
 use Rattle.rtr_receiver.specs.declared.Fed.{Fed}
 use Rattle.rtr_receiver.specs.declared.Reconnected.{Reconnected}
 use Rattle.rtr_receiver.specs.declared.NotifyAnswer.{NotifyAnswer}
-use Rattle.rtr_numbers.specs.Numbers.{sessionNumbers}
+use Rattle.rtr_numbers.specs.Numbers.{sessionNumbers, sessionSize}
 use Rattle.rtr_pdu_numbers.specs.Numbers.{pduNumbers}
 use Rattle.rtr_numbers.specs.Back.{sessionOf}
 use Rattle.rtr_pdu_numbers.specs.Back.{pduOf}
@@ -127,30 +127,30 @@ reads-back n s e = ap isKnown e
 
 -- ---- start
 
-module _ (version : ℕ) (session live working hold : List ℕ) (long : length session ≡ 18) (found : VersionFound) (f : found ≡ versionFound version) where
+module _ (version : ℕ) (session live working hold : List ℕ) (long : length session ≡ sessionSize) (found : VersionFound) (f : found ≡ versionFound version) where
   by-version : (x : VersionFound) → found ≡ x → startFound x session live working hold ≡ startC version session live working hold
   unfolding startC
   by-version x e =
       ap (λ (y : VersionFound). startFound y session live working hold) (sym e ∙ f)
-      ∙ sym (ap (λ (b : Bool). cond b (startFound (versionFound version) session live working hold) (startGives 22 session live working)) (eq-eqb (length session) 18 long))
+      ∙ sym (ap (λ (b : Bool). cond b (startFound (versionFound version) session live working hold) (startGives 22 session live working)) (eq-eqb (length session) sessionSize long))
 
   pub start-unknown : found ≡ VersionFound.Unknown → startGives 22 session live working ≡ startC version session live working hold
   start-unknown told = by-version VersionFound.Unknown told
 
   pub start-started : (v : RtrProtocolVersion) (answer : StartAnswer) (s : Session) (session′ live′ working′ : List ℕ) →
       found ≡ VersionFound.Known v →
-      startSaid answer live′ working′ hold ≡ startSays 1024 v live working hold →
+      startSaid answer live′ working′ hold ≡ startSays recordLimit v live working hold →
       answer ≡ StartAnswer.Started s →
-      session′ ≡ cond (eqb (length session) 18) (sessionNumbers s) session →
+      session′ ≡ cond (eqb (length session) sessionSize) (sessionNumbers s) session →
       startGives 0 session′ live′ working′ ≡ startC version session live working hold
   start-started v answer s session′ live′ working′ known said told put =
-      ap (λ (n : List ℕ). startGives 0 n live′ working′) (set-at 18 session session′ (sessionNumbers s) long put)
+      ap (λ (n : List ℕ). startGives 0 n live′ working′) (set-at sessionSize session session′ (sessionNumbers s) long put)
       ∙ ap (λ (x : StartSays). startLeft x session) (sym (ap (λ (a : StartAnswer). startSaid a live′ working′ hold) told) ∙ said)
       ∙ by-version (VersionFound.Known v) known
 
   pub start-refused : (v : RtrProtocolVersion) (answer : StartAnswer) (live′ working′ : List ℕ) →
       found ≡ VersionFound.Known v →
-      startSaid answer live′ working′ hold ≡ startSays 1024 v live working hold →
+      startSaid answer live′ working′ hold ≡ startSays recordLimit v live working hold →
       answer ≡ StartAnswer.NotAReceiver →
       startGives 22 session live′ working′ ≡ startC version session live working hold
   start-refused v answer live′ working′ known said told =
@@ -159,9 +159,9 @@ module _ (version : ℕ) (session live working hold : List ℕ) (long : length s
 
   pub begins : (v : RtrProtocolVersion) (answer : StartAnswer) (s : Session) (session′ live′ working′ : List ℕ) →
       found ≡ VersionFound.Known v →
-      startSaid answer live′ working′ hold ≡ startSays 1024 v live working hold →
+      startSaid answer live′ working′ hold ≡ startSays recordLimit v live working hold →
       answer ≡ StartAnswer.Started s →
-      (length session ≡ 18 → sessionOf session′ ≡ SessionFound.Known s) →
+      (length session ≡ sessionSize → sessionOf session′ ≡ SessionFound.Known s) →
       Begins version (memory session′ live′ working′ hold)
   begins v answer s session′ live′ working′ known said told back =
       record {
@@ -216,11 +216,11 @@ module _ (taken updates : ℕ) (s : Session) (live working hold : List ℕ) wher
   feed-said (FeedAnswer.Stopped (Stop.ErrorReport c)) = λ i. record { answer = 19; session = sessionNumbers s; live = live; working = working; held = held-back i; taken = taken; updates = updates }
 
 module _ (n : List ℕ) (found : SessionFound) (f : found ≡ sessionOf n) where
-  known-long : (s : Session) → found ≡ SessionFound.Known s → length n ≡ 18
+  known-long : (s : Session) → found ≡ SessionFound.Known s → length n ≡ sessionSize
   known-long s told = session-of-length n s (sym f ∙ told)
 
   -- numbers that were set to a session's are a session's, as those were that were found
-  pub stays-session : (n′ : List ℕ) (s s′ : Session) → found ≡ SessionFound.Known s → (length n ≡ 18 → sessionOf n′ ≡ SessionFound.Known s′) → isSession n′ ≡ isSession n
+  pub stays-session : (n′ : List ℕ) (s s′ : Session) → found ≡ SessionFound.Known s → (length n ≡ sessionSize → sessionOf n′ ≡ SessionFound.Known s′) → isSession n′ ≡ isSession n
   unfolding isSession
   stays-session n′ s s′ told back = ap isKnown (back (known-long s told)) ∙ sym (ap isKnown (sym f ∙ told))
 
@@ -233,48 +233,48 @@ module _ (n : List ℕ) (found : SessionFound) (f : found ≡ sessionOf n) where
 
   module _ (live working hold : List ℕ) (s : Session) (told : found ≡ SessionFound.Known s) where
     pub leads-full : (out : List ℕ) (r : AskedSession) (n′ out′ : List ℕ) →
-        askSaid r live working hold out′ ≡ fullAskSays 1024 s live working hold out →
-        (length n ≡ 18 → sessionOf n′ ≡ SessionFound.Known (r .session)) →
+        askSaid r live working hold out′ ≡ fullAskSays (s .life .limit) s live working hold out →
+        (length n ≡ sessionSize → sessionOf n′ ≡ SessionFound.Known (r .session)) →
         LeadsOn (memory n live working hold) (Call.ask LoadKind.Full out) (memory n′ live working hold)
     leads-full out r n′ out′ said back t known =
         record {
           known = r .session;
           known-is = back (known-long s told);
-          step = Step.askedFull (r .session) (r .answer) out′ (said ∙ ap (λ (x : Session). fullAskSays 1024 x live working hold out) (one-session s t told known));
+          step = Step.askedFull (r .session) (r .answer) out′ (said ∙ ap (λ (x : Session). fullAskSays (x .life .limit) x live working hold out) (one-session s t told known));
         }
 
     pub leads-change : (out : List ℕ) (r : AskedSession) (n′ out′ : List ℕ) →
-        askSaid r live working hold out′ ≡ changeAskSays 1024 s live working hold out →
-        (length n ≡ 18 → sessionOf n′ ≡ SessionFound.Known (r .session)) →
+        askSaid r live working hold out′ ≡ changeAskSays (s .life .limit) s live working hold out →
+        (length n ≡ sessionSize → sessionOf n′ ≡ SessionFound.Known (r .session)) →
         LeadsOn (memory n live working hold) (Call.ask LoadKind.Change out) (memory n′ live working hold)
     leads-change out r n′ out′ said back t known =
         record {
           known = r .session;
           known-is = back (known-long s told);
-          step = Step.askedChange (r .session) (r .answer) out′ (said ∙ ap (λ (x : Session). changeAskSays 1024 x live working hold out) (one-session s t told known));
+          step = Step.askedChange (r .session) (r .answer) out′ (said ∙ ap (λ (x : Session). changeAskSays (x .life .limit) x live working hold out) (one-session s t told known));
         }
 
     pub leads-fed : (piece : List ℕ) (r : Fed) (n′ live′ working′ hold′ : List ℕ) →
-        fedSaid r live′ working′ hold′ ≡ feedSays 1024 s live working hold piece →
-        (length n ≡ 18 → sessionOf n′ ≡ SessionFound.Known (r .session)) →
+        fedSaid r live′ working′ hold′ ≡ feedSays (s .life .limit) s live working hold piece →
+        (length n ≡ sessionSize → sessionOf n′ ≡ SessionFound.Known (r .session)) →
         length hold′ ≡ length hold →
         LeadsOn (memory n live working hold) (Call.feed piece) (memory n′ live′ working′ hold′)
     leads-fed piece r n′ live′ working′ hold′ said back size t known =
         record {
           known = r .session;
           known-is = back (known-long s told);
-          step = Step.fed (r .session) (r .done) live′ working′ hold′ size (said ∙ ap (λ (x : Session). feedSays 1024 x live working hold piece) (one-session s t told known));
+          step = Step.fed (r .session) (r .done) live′ working′ hold′ size (said ∙ ap (λ (x : Session). feedSays (x .life .limit) x live working hold piece) (one-session s t told known));
         }
 
     pub leads-reconnected : (r : Reconnected) (n′ working′ : List ℕ) →
-        reconnectSaid r live working′ hold ≡ reconnectSays 1024 s live working hold →
-        (length n ≡ 18 → sessionOf n′ ≡ SessionFound.Known (r .session)) →
+        reconnectSaid r live working′ hold ≡ reconnectSays (s .life .limit) s live working hold →
+        (length n ≡ sessionSize → sessionOf n′ ≡ SessionFound.Known (r .session)) →
         LeadsOn (memory n live working hold) Call.reconnect (memory n′ live working′ hold)
     leads-reconnected r n′ working′ said back t known =
         record {
           known = r .session;
           known-is = back (known-long s told);
-          step = Step.connected (r .session) (r .answer) working′ (said ∙ ap (λ (x : Session). reconnectSays 1024 x live working hold) (one-session s t told known));
+          step = Step.connected (r .session) (r .answer) working′ (said ∙ ap (λ (x : Session). reconnectSays (x .life .limit) x live working hold) (one-session s t told known));
         }
 
   -- ---- the asks
@@ -283,10 +283,10 @@ module _ (n : List ℕ) (found : SessionFound) (f : found ≡ sessionOf n) where
         found ≡ SessionFound.Known s →
         askSaid r live working hold out′ ≡ ask s →
         number ≡ encoding.numberOf (askWriting (r .answer)) →
-        n′ ≡ cond (eqb (length n) 18) (sessionNumbers (r .session)) n →
+        n′ ≡ cond (eqb (length n) sessionSize) (sessionNumbers (r .session)) n →
         askGives number n′ out′ ≡ askFound ask (sessionOf n) n out
     ask-known s r number n′ out′ told said named put =
-        let written = set-at 18 n n′ (sessionNumbers (r .session)) (known-long s told) put in
+        let written = set-at sessionSize n n′ (sessionNumbers (r .session)) (known-long s told) put in
         (λ i. askGives (named i) (written i) out′)
         ∙ ap askLeft said
         ∙ ap (λ (x : SessionFound). askFound ask x n out) (sym told ∙ f)
@@ -298,13 +298,13 @@ module _ (n : List ℕ) (found : SessionFound) (f : found ≡ sessionOf n) where
   module _ (live working hold : List ℕ) where
     pub reconnect-known : (s : Session) (r : Reconnected) (number : ℕ) (n′ working′ : List ℕ) →
         found ≡ SessionFound.Known s →
-        reconnectSaid r live working′ hold ≡ reconnectSays 1024 s live working hold →
+        reconnectSaid r live working′ hold ≡ reconnectSays (s .life .limit) s live working hold →
         number ≡ reconnectNumber (r .answer) →
-        n′ ≡ cond (eqb (length n) 18) (sessionNumbers (r .session)) n →
+        n′ ≡ cond (eqb (length n) sessionSize) (sessionNumbers (r .session)) n →
         reconnectGives number n′ working′ ≡ reconnectC n live working hold
     unfolding reconnectC
     reconnect-known s r number n′ working′ told said named put =
-        let written = set-at 18 n n′ (sessionNumbers (r .session)) (known-long s told) put in
+        let written = set-at sessionSize n n′ (sessionNumbers (r .session)) (known-long s told) put in
         (λ i. reconnectGives (named i) (written i) working′)
         ∙ ap reconnectLeft said
         ∙ ap (λ (x : SessionFound). reconnectFound x n live working hold) (sym told ∙ f)
@@ -316,7 +316,7 @@ module _ (n : List ℕ) (found : SessionFound) (f : found ≡ sessionOf n) where
     -- ---- notify
     pub notify-known : (s : Session) (answer : NotifyAnswer) (number compared : ℕ) →
         found ≡ SessionFound.Known s →
-        notifySaid answer ≡ notifySays 1024 s live working hold →
+        notifySaid answer ≡ notifySays (s .life .limit) s live working hold →
         number ≡ notifyNumber answer →
         compared ≡ notifyCompared answer →
         notifyGives number compared ≡ notifyC n live working hold
@@ -335,13 +335,13 @@ module _ (n : List ℕ) (found : SessionFound) (f : found ≡ sessionOf n) where
   module _ (live working hold piece : List ℕ) where
     pub feed-known : (s : Session) (r : Fed) (number : ℕ) (n′ live′ working′ hold′ : List ℕ) →
         found ≡ SessionFound.Known s →
-        fedSaid r live′ working′ hold′ ≡ feedSays 1024 s live working hold piece →
+        fedSaid r live′ working′ hold′ ≡ feedSays (s .life .limit) s live working hold piece →
         number ≡ feedNumber (r .done .answer) →
-        n′ ≡ cond (eqb (length n) 18) (sessionNumbers (r .session)) n →
+        n′ ≡ cond (eqb (length n) sessionSize) (sessionNumbers (r .session)) n →
         feedGives number n′ live′ working′ hold′ (r .done .taken) (r .done .updates) ≡ feedC n live working hold piece
     unfolding feedC gives said-of
     feed-known s r number n′ live′ working′ hold′ told said named put =
-        let written = set-at 18 n n′ (sessionNumbers (r .session)) (known-long s told) put in
+        let written = set-at sessionSize n n′ (sessionNumbers (r .session)) (known-long s told) put in
         (λ i. feedGives (named i) (written i) live′ working′ hold′ (r .done .taken) (r .done .updates))
         ∙ feed-said (r .done .taken) (r .done .updates) (r .session) live′ working′ hold′ (r .done .answer)
         ∙ ap feedLeft said
@@ -355,7 +355,7 @@ module _ (n : List ℕ) (found : SessionFound) (f : found ≡ sessionOf n) where
   module _ (live out : List ℕ) where
     pub listing-known : (s : Session) (answer : ListAnswer) (number amount : ℕ) (out′ : List ℕ) →
         found ≡ SessionFound.Known s →
-        listing.leaves answer out′ ≡ listing.listingSays 1024 s live out →
+        listing.leaves answer out′ ≡ listing.listingSays (s .life .limit) s live out →
         number ≡ encoding.numberOf (listing.listSaid answer) →
         amount ≡ amountOf (listing.listSaid answer) →
         encodeGives number amount out′ ≡ listingC n live out

@@ -1,4 +1,4 @@
--- What each call from C answers and leaves, through the crates below: a session is its 18 numbers (rtr_numbers) and a PDU its 12 (rtr_pdu_numbers), rooms are
+-- What each call from C answers and leaves, through the crates below: a session is its 24 numbers (rtr_numbers) and a PDU its 12 (rtr_pdu_numbers), rooms are
 -- of 1,024 records. Numbers that are no session's and no PDU's are refused by 22.
 use Prim.Native.Nat.{ℕ}
 use mathlib.Core.Bool.{Bool, true, false, cond}
@@ -15,11 +15,11 @@ use Rattle.rtr_encode.specs.Answers.{numberOf}
 use Rattle.rtr_listing.specs.Promises.{listingSays}
 use Rattle.rtr_walk.specs.Walk.{End, WalkVerdict, walk}
 use Rattle.rtr_receiver.specs.Receiver.{Notified}
-use Rattle.rtr_receiver.specs.Promises.{Ending, FeedSays, StartSays, AskSays, ReconnectSays, NotifySays, stopSaid, feedSays, startSays, fullAskSays, changeAskSays, reconnectSays, notifySays}
+use Rattle.rtr_receiver.specs.Promises.{Ending, FeedSays, StartSays, AskSays, ReconnectSays, NotifySays, stopSaid, feedSays, startSays, fullAskSays, changeAskSays, reconnectSays, notifySays, recordLimit}
 use Rattle.rtr_receiver.specs.declared.Session.{Session}
 use Rattle.rtr_receiver.specs.declared.FeedAnswer.{FeedAnswer}
 use Rattle.rtr_receiver.specs.declared.NotifyAnswer.{NotifyAnswer}
-use Rattle.rtr_numbers.specs.Numbers.{leftNumbers}
+use Rattle.rtr_numbers.specs.Numbers.{leftNumbers, sessionSize}
 use Rattle.rtr_pdu_numbers.specs.Numbers.{pduNumbers}
 use Rattle.rtr_numbers.specs.Back.{sessionOf}
 use Rattle.rtr_pdu_numbers.specs.Back.{pduOf}
@@ -31,7 +31,7 @@ abbrev pub isKnown : SessionFound → Bool
 isKnown (SessionFound.Known s) = true
 isKnown SessionFound.Unknown = false
 
--- 18 numbers that some session has
+-- numbers that some session has
 unfoldable pub isSession : List ℕ → Bool
 isSession numbers = isKnown (sessionOf numbers)
 
@@ -133,13 +133,13 @@ startLeft (StartSays.refusedStart number live working) session = startGives numb
 
 -- a version that was found is started
 abbrev pub startFound : VersionFound → List ℕ → List ℕ → List ℕ → List ℕ → StartLeft
-startFound (VersionFound.Known version) session live working hold = startLeft (startSays 1024 version live working hold) session
+startFound (VersionFound.Known version) session live working hold = startLeft (startSays recordLimit version live working hold) session
 startFound VersionFound.Unknown session live working hold = startGives 22 session live working
 
 -- the promise of `hingemoss_start`
 unfoldable pub startC : ℕ → List ℕ → List ℕ → List ℕ → List ℕ → StartLeft
 startC version session live working hold =
-    cond (eqb (length session) 18) (startFound (versionFound version) session live working hold) (startGives 22 session live working)
+    cond (eqb (length session) sessionSize) (startFound (versionFound version) session live working hold) (startGives 22 session live working)
 
 -- ---- the asks: 0, 22, 20, 21 or 9, the session and the output
 pub record AskLeft : Type 0 where
@@ -162,11 +162,11 @@ askFound ask SessionFound.Unknown session out = askGives 22 session out
 
 -- the promise of `hingemoss_full_ask`
 unfoldable pub fullAskC : List ℕ → List ℕ → List ℕ → List ℕ → List ℕ → AskLeft
-fullAskC session live working hold out = askFound (λ s. fullAskSays 1024 s live working hold out) (sessionOf session) session out
+fullAskC session live working hold out = askFound (λ s. fullAskSays (s .life .limit) s live working hold out) (sessionOf session) session out
 
 -- the promise of `hingemoss_change_ask`
 unfoldable pub changeAskC : List ℕ → List ℕ → List ℕ → List ℕ → List ℕ → AskLeft
-changeAskC session live working hold out = askFound (λ s. changeAskSays 1024 s live working hold out) (sessionOf session) session out
+changeAskC session live working hold out = askFound (λ s. changeAskSays (s .life .limit) s live working hold out) (sessionOf session) session out
 
 -- ---- feed: 0 or the stop's number, or 22; the session, both rooms, the bytes held (of 22 the whole hold), bytes taken and updates finished
 pub record FeedLeft : Type 0 where
@@ -225,7 +225,7 @@ feedLeft (FeedSays.refusedFeed number taken updates left hold) =
 
 -- a session that was found is fed
 abbrev pub feedFound : SessionFound → List ℕ → List ℕ → List ℕ → List ℕ → List ℕ → FeedLeft
-feedFound (SessionFound.Known s) session live working hold piece = feedLeft (feedSays 1024 s live working hold piece)
+feedFound (SessionFound.Known s) session live working hold piece = feedLeft (feedSays (s .life .limit) s live working hold piece)
 feedFound SessionFound.Unknown session live working hold piece = feedGives 22 session live working hold 0 0
 
 -- the promise of `hingemoss_feed`
@@ -254,7 +254,7 @@ reconnectLeft r = reconnectGives (r .number) (leftNumbers (r .left)) (r .left .w
 
 -- a session that was found is reconnected
 abbrev pub reconnectFound : SessionFound → List ℕ → List ℕ → List ℕ → List ℕ → ReconnectLeft
-reconnectFound (SessionFound.Known s) session live working hold = reconnectLeft (reconnectSays 1024 s live working hold)
+reconnectFound (SessionFound.Known s) session live working hold = reconnectLeft (reconnectSays (s .life .limit) s live working hold)
 reconnectFound SessionFound.Unknown session live working hold = reconnectGives 22 session working
 
 -- the promise of `hingemoss_reconnect`
@@ -286,7 +286,7 @@ notifyLeft (NotifySays.refusedNotify number) = notifyGives number 0
 
 -- a session that was found is compared
 abbrev pub notifyFound : SessionFound → List ℕ → List ℕ → List ℕ → NotifyLeft
-notifyFound (SessionFound.Known s) live working hold = notifyLeft (notifySays 1024 s live working hold)
+notifyFound (SessionFound.Known s) live working hold = notifyLeft (notifySays (s .life .limit) s live working hold)
 notifyFound SessionFound.Unknown live working hold = notifyGives 22 0
 
 -- the promise of `hingemoss_notify`
@@ -315,7 +315,7 @@ notifyCompared NotifyAnswer.NotAReceiver = 0
 
 -- ---- listing: 0, 22 or 9; the bytes written, or needed (9), or 0; and the output
 abbrev pub listingFound : SessionFound → List ℕ → List ℕ → EncodeLeft
-listingFound (SessionFound.Known s) live out = encodeLeft (listingSays 1024 s live out)
+listingFound (SessionFound.Known s) live out = encodeLeft (listingSays (s .life .limit) s live out)
 listingFound SessionFound.Unknown live out = encodeGives 22 0 out
 
 -- the promise of `hingemoss_listing`

@@ -6,6 +6,7 @@ use Prim.Native.Nat.{ℕ}
 use mathlib.Core.List.{List, [], _∷_, _++_}
 use mathlib.Core.Path.{_≡_}
 use lib.ListN.{length, getD}
+use Rattle.rtr_receiver.specs.Promises.{recordLimit}
 use Rattle.rtr_models.specs.Codes.{versionFound}
 use Rattle.rtr_models.specs.declared.RtrProtocolVersion.{RtrProtocolVersion}
 use Rattle.rtr_models.specs.declared.VersionFound.{VersionFound}
@@ -40,7 +41,7 @@ memoryOf c s = record { session = s; live = c .live; working = c .working; hold 
 pub record Led (c : CMemory) (s : Session) (call : Call) (c′ : CMemory) : Type 0 where
   pub known : Session
   pub known-is : sessionOf (c′ .session) ≡ SessionFound.Known known
-  pub step : Step 1024 (memoryOf c s) call (memoryOf c′ known)
+  pub step : Step (s .life .limit) (memoryOf c s) call (memoryOf c′ known)
 
 -- wherever the numbers were a session's
 abbrev pub LeadsOn : CMemory → Call → CMemory → Type 0
@@ -52,7 +53,7 @@ pub record Begins (version : ℕ) (c : CMemory) : Type 0 where
   pub spoken-is : versionFound version ≡ VersionFound.Known spoken
   pub known : Session
   pub known-is : sessionOf (c .session) ≡ SessionFound.Known known
-  pub run : Run 1024 spoken (length (c .hold)) [] (memoryOf c known)
+  pub run : Run recordLimit spoken (length (c .hold)) [] (memoryOf c known)
 
 -- ---- A run
 

@@ -92,14 +92,14 @@ abbrev memory : Session → Slice → Slice → Slice → Lent
 memory s x1 x2 x3 = record { session = s; live = now x1; working = now x2; hold = now x3 }
 
 pub feed-times-says : {M : Type 1} (𝓤 : URA M) (H : Heap 𝓤) (A : Atoms 𝓤) (mem : Memory → SProp 𝓤) (run : Routine → Fun 𝓤) (κs : Lfts 5) (x y : RefT Session) (x1 x2 x3 x4 y1 y2 y3 : Slice) (n : ℕ) →
-    feed-times.ensures-1 𝓤 H κs A mem run x x1 x2 x3 x4 n (record { entry = x; exit = y }) (record { entry = x1; exit = y1 }) (record { entry = x2; exit = y2 }) (record { entry = x3; exit = y3 }) (record { entry = x4; exit = x4 }) (record { entry = n; exit = n }) tt ≡ fact 𝓤 (FedTimes 1024 (now x4) (memory (now x) x1 x2 x3) n (memory (now y) y1 y2 y3))
+    feed-times.ensures-1 𝓤 H κs A mem run x x1 x2 x3 x4 n (record { entry = x; exit = y }) (record { entry = x1; exit = y1 }) (record { entry = x2; exit = y2 }) (record { entry = x3; exit = y3 }) (record { entry = x4; exit = x4 }) (record { entry = n; exit = n }) tt ≡ fact 𝓤 (FedTimes (now x4) (memory (now x) x1 x2 x3) n (memory (now y) y1 y2 y3))
 feed-times-says 𝓤 H A mem run κs x y x1 x2 x3 x4 y1 y2 y3 n = refl
 
 pub feed-times-through-says : {M : Type 1} (𝓤 : URA M) (H : Heap 𝓤) (A : Atoms 𝓤) (mem : Memory → SProp 𝓤) (run : Routine → Fun 𝓤) (κs : Lfts 4) (x : Session) (x1 x2 x3 x4 y1 y2 y3 : Slice) (n : ℕ) (r : Session) →
-    feed-times-through.ensures-1 𝓤 H κs A mem run x x1 x2 x3 x4 n (record { entry = x; exit = x }) (record { entry = x1; exit = y1 }) (record { entry = x2; exit = y2 }) (record { entry = x3; exit = y3 }) (record { entry = x4; exit = x4 }) (record { entry = n; exit = n }) r ≡ fact 𝓤 (FedTimes 1024 (now x4) (memory x x1 x2 x3) n (memory r y1 y2 y3))
+    feed-times-through.ensures-1 𝓤 H κs A mem run x x1 x2 x3 x4 n (record { entry = x; exit = x }) (record { entry = x1; exit = y1 }) (record { entry = x2; exit = y2 }) (record { entry = x3; exit = y3 }) (record { entry = x4; exit = x4 }) (record { entry = n; exit = n }) r ≡ fact 𝓤 (FedTimes (now x4) (memory x x1 x2 x3) n (memory r y1 y2 y3))
 feed-times-through-says 𝓤 H A mem run κs x x1 x2 x3 x4 y1 y2 y3 n r = refl
 
-pub feed-times-unique : (x : Session) (x1 x2 x3 x4 : Slice) (n : ℕ) (y y′ : Session) (y1 y2 y3 y1′ y2′ y3′ : Slice) → FedTimes 1024 (now x4) (memory x x1 x2 x3) n (memory y y1 y2 y3) → FedTimes 1024 (now x4) (memory x x1 x2 x3) n (memory y′ y1′ y2′ y3′)
+pub feed-times-unique : (x : Session) (x1 x2 x3 x4 : Slice) (n : ℕ) (y y′ : Session) (y1 y2 y3 y1′ y2′ y3′ : Slice) → FedTimes (now x4) (memory x x1 x2 x3) n (memory y y1 y2 y3) → FedTimes (now x4) (memory x x1 x2 x3) n (memory y′ y1′ y2′ y3′)
     → (y ≡ y′) × (now y1 ≡ now y1′) × (now y2 ≡ now y2′) × (take (y .held) (now y3) ≡ take (y′ .held) (now y3′))
 feed-times-unique x x1 x2 x3 x4 n y y′ y1 y2 y3 y1′ y2′ y3′ p p′ =
     let one = times-unique (now x4) (memory x x1 x2 x3) n (memory y y1 y2 y3) (memory y′ y1′ y2′ y3′) p p′ in

@@ -38,7 +38,7 @@ pub fn feed_in_place(
     hold: &mut [u8],
     piece: &[u8],
 ) -> Done
-    ensures { λ r. ⌜ fedSaid (record { session = now (session .exit); done = r }) (now (live .exit)) (now (working .exit)) (now (hold .exit)) ≡ feedSays 1024 (now (session .entry)) (now (live .entry)) (now (working .entry)) (now (hold .entry)) (now (piece .entry)) ⌝ }
+    ensures { λ r. ⌜ fedSaid (record { session = now (session .exit); done = r }) (now (live .exit)) (now (working .exit)) (now (hold .exit)) ≡ feedSays (now (session .entry) .life .limit) (now (session .entry)) (now (live .entry)) (now (working .entry)) (now (hold .entry)) (now (piece .entry)) ⌝ }
 {
     let fed = feed(*session, live, working, hold, piece);
     *session = fed.session;
@@ -54,7 +54,7 @@ pub fn feed_times(
     piece: &[u8],
     count: u32,
 )
-    ensures { λ _. ⌜ FedTimes 1024 (now (piece .entry)) (record { session = now (session .entry); live = now (live .entry); working = now (working .entry); hold = now (hold .entry) }) count (record { session = now (session .exit); live = now (live .exit); working = now (working .exit); hold = now (hold .exit) }) ⌝ }
+    ensures { λ _. ⌜ FedTimes (now (piece .entry)) (record { session = now (session .entry); live = now (live .entry); working = now (working .entry); hold = now (hold .entry) }) count (record { session = now (session .exit); live = now (live .exit); working = now (working .exit); hold = now (hold .exit) }) ⌝ }
 {
     let mut left = count;
     while left > 0 {
@@ -71,7 +71,7 @@ pub fn full_ask_in_place(
     hold: &[u8],
     out: &mut [u8],
 ) -> AskAnswer
-    ensures { λ r. ⌜ askSaid (record { session = now (session .exit); answer = r }) (now (live .entry)) (now (working .entry)) (now (hold .entry)) (now (out .exit)) ≡ fullAskSays 1024 (now (session .entry)) (now (live .entry)) (now (working .entry)) (now (hold .entry)) (now (out .entry)) ⌝ }
+    ensures { λ r. ⌜ askSaid (record { session = now (session .exit); answer = r }) (now (live .entry)) (now (working .entry)) (now (hold .entry)) (now (out .exit)) ≡ fullAskSays (now (session .entry) .life .limit) (now (session .entry)) (now (live .entry)) (now (working .entry)) (now (hold .entry)) (now (out .entry)) ⌝ }
 {
     let asked = full_ask(*session, live, working, hold, out);
     *session = asked.session;
@@ -86,7 +86,7 @@ pub fn change_ask_in_place(
     hold: &[u8],
     out: &mut [u8],
 ) -> AskAnswer
-    ensures { λ r. ⌜ askSaid (record { session = now (session .exit); answer = r }) (now (live .entry)) (now (working .entry)) (now (hold .entry)) (now (out .exit)) ≡ changeAskSays 1024 (now (session .entry)) (now (live .entry)) (now (working .entry)) (now (hold .entry)) (now (out .entry)) ⌝ }
+    ensures { λ r. ⌜ askSaid (record { session = now (session .exit); answer = r }) (now (live .entry)) (now (working .entry)) (now (hold .entry)) (now (out .exit)) ≡ changeAskSays (now (session .entry) .life .limit) (now (session .entry)) (now (live .entry)) (now (working .entry)) (now (hold .entry)) (now (out .entry)) ⌝ }
 {
     let asked = change_ask(*session, live, working, hold, out);
     *session = asked.session;
@@ -100,7 +100,7 @@ pub fn reconnect_in_place(
     working: &mut [u32],
     hold: &[u8],
 ) -> ReconnectAnswer
-    ensures { λ r. ⌜ reconnectSaid (record { session = now (session .exit); answer = r }) (now (live .entry)) (now (working .exit)) (now (hold .entry)) ≡ reconnectSays 1024 (now (session .entry)) (now (live .entry)) (now (working .entry)) (now (hold .entry)) ⌝ }
+    ensures { λ r. ⌜ reconnectSaid (record { session = now (session .exit); answer = r }) (now (live .entry)) (now (working .exit)) (now (hold .entry)) ≡ reconnectSays (now (session .entry) .life .limit) (now (session .entry)) (now (live .entry)) (now (working .entry)) (now (hold .entry)) ⌝ }
 {
     let connected = reconnect(*session, live, working, hold);
     *session = connected.session;
@@ -109,7 +109,7 @@ pub fn reconnect_in_place(
 
 // Whether the last Serial Notify tells of something newer: the record is only read.
 pub fn notify_of(session: &Session, live: &[u32], working: &[u32], hold: &[u8]) -> NotifyAnswer
-    ensures { λ r. ⌜ notifySaid r ≡ notifySays 1024 (now (session .entry)) (now (live .entry)) (now (working .entry)) (now (hold .entry)) ⌝ }
+    ensures { λ r. ⌜ notifySaid r ≡ notifySays (now (session .entry) .life .limit) (now (session .entry)) (now (live .entry)) (now (working .entry)) (now (hold .entry)) ⌝ }
 {
     notify(*session, live, working, hold)
 }
@@ -123,7 +123,7 @@ pub fn feed_through(
     hold: &mut [u8],
     piece: &[u8],
 ) -> Fed
-    ensures { λ r. ⌜ fedSaid r (now (live .exit)) (now (working .exit)) (now (hold .exit)) ≡ feedSays 1024 session (now (live .entry)) (now (working .entry)) (now (hold .entry)) (now (piece .entry)) ⌝ }
+    ensures { λ r. ⌜ fedSaid r (now (live .exit)) (now (working .exit)) (now (hold .exit)) ≡ feedSays (session .life .limit) session (now (live .entry)) (now (working .entry)) (now (hold .entry)) (now (piece .entry)) ⌝ }
 {
     let mut lent = session;
     let done = feed_in_place(&mut lent, live, working, hold, piece);
@@ -142,7 +142,7 @@ pub fn feed_times_through(
     piece: &[u8],
     count: u32,
 ) -> Session
-    ensures { λ r. ⌜ FedTimes 1024 (now (piece .entry)) (record { session = session; live = now (live .entry); working = now (working .entry); hold = now (hold .entry) }) count (record { session = r; live = now (live .exit); working = now (working .exit); hold = now (hold .exit) }) ⌝ }
+    ensures { λ r. ⌜ FedTimes (now (piece .entry)) (record { session = session; live = now (live .entry); working = now (working .entry); hold = now (hold .entry) }) count (record { session = r; live = now (live .exit); working = now (working .exit); hold = now (hold .exit) }) ⌝ }
 {
     let mut lent = session;
     feed_times(&mut lent, live, working, hold, piece, count);
@@ -156,7 +156,7 @@ pub fn full_ask_through(
     hold: &[u8],
     out: &mut [u8],
 ) -> AskedSession
-    ensures { λ r. ⌜ askSaid r (now (live .entry)) (now (working .entry)) (now (hold .entry)) (now (out .exit)) ≡ fullAskSays 1024 session (now (live .entry)) (now (working .entry)) (now (hold .entry)) (now (out .entry)) ⌝ }
+    ensures { λ r. ⌜ askSaid r (now (live .entry)) (now (working .entry)) (now (hold .entry)) (now (out .exit)) ≡ fullAskSays (session .life .limit) session (now (live .entry)) (now (working .entry)) (now (hold .entry)) (now (out .entry)) ⌝ }
 {
     let mut lent = session;
     let answer = full_ask_in_place(&mut lent, live, working, hold, out);
@@ -173,7 +173,7 @@ pub fn change_ask_through(
     hold: &[u8],
     out: &mut [u8],
 ) -> AskedSession
-    ensures { λ r. ⌜ askSaid r (now (live .entry)) (now (working .entry)) (now (hold .entry)) (now (out .exit)) ≡ changeAskSays 1024 session (now (live .entry)) (now (working .entry)) (now (hold .entry)) (now (out .entry)) ⌝ }
+    ensures { λ r. ⌜ askSaid r (now (live .entry)) (now (working .entry)) (now (hold .entry)) (now (out .exit)) ≡ changeAskSays (session .life .limit) session (now (live .entry)) (now (working .entry)) (now (hold .entry)) (now (out .entry)) ⌝ }
 {
     let mut lent = session;
     let answer = change_ask_in_place(&mut lent, live, working, hold, out);
@@ -189,7 +189,7 @@ pub fn reconnect_through(
     working: &mut [u32],
     hold: &[u8],
 ) -> Reconnected
-    ensures { λ r. ⌜ reconnectSaid r (now (live .entry)) (now (working .exit)) (now (hold .entry)) ≡ reconnectSays 1024 session (now (live .entry)) (now (working .entry)) (now (hold .entry)) ⌝ }
+    ensures { λ r. ⌜ reconnectSaid r (now (live .entry)) (now (working .exit)) (now (hold .entry)) ≡ reconnectSays (session .life .limit) session (now (live .entry)) (now (working .entry)) (now (hold .entry)) ⌝ }
 {
     let mut lent = session;
     let answer = reconnect_in_place(&mut lent, live, working, hold);
@@ -200,7 +200,7 @@ pub fn reconnect_through(
 }
 
 pub fn notify_through(session: Session, live: &[u32], working: &[u32], hold: &[u8]) -> NotifyAnswer
-    ensures { λ r. ⌜ notifySaid r ≡ notifySays 1024 session (now (live .entry)) (now (working .entry)) (now (hold .entry)) ⌝ }
+    ensures { λ r. ⌜ notifySaid r ≡ notifySays (session .life .limit) session (now (live .entry)) (now (working .entry)) (now (hold .entry)) ⌝ }
 {
     notify_of(&session, live, working, hold)
 }

@@ -13,7 +13,8 @@ use Rattle.rtr_receiver.specs.Promises.{isReceiver}
 use Rattle.rtr_receiver.specs.Runs.{Call, Memory, Run}
 use Rattle.rtr_receiver.specs.declared.Session.{Session}
 use Rattle.rtr_receiver.proofs.Laws.{shape-kept}
-use Rattle.rtr_listing.specs.Listing.{digits, decimal, headLines, addressOf, recordLines, allLines, listing}
+use Rattle.rtr_listing.specs.declared.Head.{Head}
+use Rattle.rtr_listing.specs.Listing.{digits, decimal, headLines, headOf, addressOf, recordLines, allLines, listing}
 use Rattle.rtr_listing.specs.Promises.{puts, isListed, listingSays}
 use Rattle.rtr_listing.proofs.Digits as digits′
 use Rattle.rtr_listing.proofs.Numbers as numbers
@@ -45,7 +46,7 @@ other-length = lines.other-length
 -- ---- the listing in parts: written head first and then record by record it is the same bytes as written whole
 
 -- the head alone where there is no record
-pub listing-of-none : (s : Session) → listing s [] ≡ headLines s
+pub listing-of-none : (s : Session) → listing s [] ≡ headLines (headOf s)
 listing-of-none = lines.listing-of-none
 
 -- one record more is its five lines behind
@@ -57,7 +58,7 @@ pub all-append : (t u : List Record) → allLines (t ++ u) ≡ allLines t ++ all
 all-append = lines.all-append
 
 -- no head and no record is longer than 128 bytes, so an output of that size is never refused by 9
-pub head-at-most : (s : Session) → length (headLines s) ≤ 128
+pub head-at-most : (h : Head) → length (headLines h) ≤ 128
 head-at-most = lines.head-at-most
 
 pub record-at-most : (r : Record) → length (recordLines r) ≤ 128
@@ -78,7 +79,7 @@ pub refused-is : (limit : ℕ) (s : Session) (live out : List ℕ) → isListed 
 refused-is limit s live out h = sym (calls.refused-by-22 limit s live out h)
 
 -- what can be is put out whole
-pub listed-is : (limit : ℕ) (s : Session) (live out : List ℕ) → isListed limit s live ≡ true → listingSays limit s live out ≡ puts (listing s (records (s .live) live)) out
+pub listed-is : (limit : ℕ) (s : Session) (live out : List ℕ) → isListed limit s live ≡ true → listingSays limit s live out ≡ puts (listing s (records (s .live .records) live)) out
 listed-is limit s live out h = sym (calls.listed-says limit s live out h)
 
 -- every receiver can be listed

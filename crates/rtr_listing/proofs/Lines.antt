@@ -17,7 +17,8 @@ use Rattle.rtr_room.proofs.Laws.{records-none, records-next, found-inside}
 use Rattle.rtr_receiver.specs.declared.LiveTable.{LiveTable}
 use Rattle.rtr_receiver.specs.declared.Table.{Table}
 use Rattle.rtr_receiver.specs.declared.Session.{Session}
-use Rattle.rtr_listing.specs.Listing.{text, digits, places, decimal, lineOf, line, stoppedAs, tableLines, headLines, addressOf, recordLines, allLines, listing}
+use Rattle.rtr_listing.specs.declared.Head.{Head}
+use Rattle.rtr_listing.specs.Listing.{text, digits, places, decimal, lineOf, line, countDigits, tableLines, headLines, headOf, addressOf, recordLines, allLines, listing}
 use Rattle.rtr_listing.proofs.Digits.{digits-length, places-at-most}
 
 pub line-length : (name value : List ℕ) → length (lineOf name value) ≡ length name + length value + 1
@@ -40,7 +41,7 @@ pub table-length : (t : Table) (count : ℕ)
     + length (line "refresh=" (decimal (t .refresh)))
     + length (line "retry=" (decimal (t .retry)))
     + length (line "expire=" (decimal (t .expire)))
-    + length (line "count=" (digits 10 4 count))
+    + length (line "count=" (digits 10 countDigits count))
 unfolding tableLines
 table-length t count = simp length-append
 
@@ -56,8 +57,8 @@ table-at-most (LiveTable.Known t) count =
       number-at-most (text "refresh=") (t .refresh),
       number-at-most (text "retry=") (t .retry),
       number-at-most (text "expire=") (t .expire),
-      line-length (text "count=") (digits 10 4 count),
-      digits-length 10 4 count,
+      line-length (text "count=") (digits 10 countDigits count),
+      digits-length 10 countDigits count,
     )
 
 -- without a table
@@ -66,12 +67,12 @@ unfolding tableLines lineOf
 no-table-lines t count e = ap (λ (x : LiveTable). tableLines x count) e
 
 -- a head's lines: the stop, then the table
-pub head-length : (s : Session) → length (headLines s) ≡ length (line "stopped=" (decimal (stoppedAs (s .phase)))) + length (tableLines (s .table) (s .live))
+pub head-length : (h : Head) → length (headLines h) ≡ length (line "stopped=" (decimal (h .stopped))) + length (tableLines (h .table) (h .count))
 unfolding headLines
-head-length s = length-append (line "stopped=" (decimal (stoppedAs (s .phase)))) (tableLines (s .table) (s .live))
+head-length h = length-append (line "stopped=" (decimal (h .stopped))) (tableLines (h .table) (h .count))
 
-pub head-at-most : (s : Session) → length (headLines s) ≤ 128
-head-at-most s = omega (arith, head-length s, number-at-most (text "stopped=") (stoppedAs (s .phase)), table-at-most (s .table) (s .live))
+pub head-at-most : (h : Head) → length (headLines h) ≤ 128
+head-at-most h = omega (arith, head-length h, number-at-most (text "stopped=") (h .stopped), table-at-most (h .table) (h .count))
 
 -- an address: one number in family 4, else four
 pub four-address : (r : Record) → familyOf r ≡ 4 → addressOf r ≡ digits 16 8 (r .w0)
@@ -170,11 +171,11 @@ never-outside s i found h p q =
     let z : _≡_ {A = ℕ} 0 1 = cc in
     omega arith
 
-pub listing-of-none : (s : Session) → listing s [] ≡ headLines s
+pub listing-of-none : (s : Session) → listing s [] ≡ headLines (headOf s)
 unfolding allLines
-listing-of-none s = append-nil (headLines s)
+listing-of-none s = append-nil (headLines (headOf s))
 
 pub listing-next : (s : Session) (t : List Record) (r : Record) → listing s (t ++ r ∷ []) ≡ listing s t ++ recordLines r
 listing-next s t r =
-    ap (λ (b : List ℕ). headLines s ++ b) (all-append t (r ∷ []) ∙ ap (λ (b : List ℕ). allLines t ++ b) (all-one r))
-    ∙ sym (append-assoc (headLines s) (allLines t) (recordLines r))
+    ap (λ (b : List ℕ). headLines (headOf s) ++ b) (all-append t (r ∷ []) ∙ ap (λ (b : List ℕ). allLines t ++ b) (all-one r))
+    ∙ sym (append-assoc (headLines (headOf s)) (allLines t) (recordLines r))

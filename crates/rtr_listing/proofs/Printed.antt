@@ -27,7 +27,7 @@ printed l = tableLines (l .info) (length (l .records)) ++ allLines (l .records)
 
 -- the listing of what lies in memory
 abbrev pub listed : Memory → List ℕ
-listed m = listing (m .session) (records (m .session .live) (m .live))
+listed m = listing (m .session) (records (m .session .live .records) (m .live))
 
 -- the line of the stop in memory
 abbrev pub stopLine : Memory → List ℕ
@@ -36,8 +36,8 @@ stopLine m = line "stopped=" (decimal (stoppedAs (m .session .phase)))
 in-memory : (m : Memory) → listed m ≡ stopLine m ++ printed (liveIn m)
 unfolding headLines
 in-memory m =
-    append-assoc (stopLine m) (tableLines (m .session .table) (m .session .live)) (allLines (records (m .session .live) (m .live)))
-    ∙ ap (λ (n : ℕ). stopLine m ++ (tableLines (m .session .table) n ++ allLines (records (m .session .live) (m .live)))) (sym (records-length (m .session .live) (m .live)))
+    append-assoc (stopLine m) (tableLines (m .session .table) (m .session .live .records)) (allLines (records (m .session .live .records) (m .live)))
+    ∙ ap (λ (n : ℕ). stopLine m ++ (tableLines (m .session .table) n ++ allLines (records (m .session .live .records) (m .live)))) (sym (records-length (m .session .live .records) (m .live)))
 
 pub listed-is-history : (limit H : ℕ) (v : RtrProtocolVersion) (calls : List Call) (m : Memory) → Run limit v H calls m
     → listed m ≡ stopLine m ++ printed (tableOf limit (finished limit H v (historyOf calls)))
@@ -52,11 +52,11 @@ listed-without-update limit H v calls m run none =
     let s = m .session in
     let shape = shape-kept limit H v calls m run in
     let table : s .table ≡ LiveTable.NoTable = no-table limit H v calls m run .1 none in
-    let empty : s .live ≡ 0 = no-records limit s (m .live) (m .working) (m .hold) shape table in
+    let empty : s .live .records ≡ 0 = no-records limit s (m .live) (m .working) (m .hold) shape table in
     ap (λ (n : ℕ). listing s (records n (m .live))) empty
     ∙ ap (λ (t : List Record). listing s t) (records-none (m .live))
     ∙ listing-of-none s
-    ∙ ap (λ (b : List ℕ). stopLine m ++ b) (no-table-lines (s .table) (s .live) table)
+    ∙ ap (λ (b : List ℕ). stopLine m ++ b) (no-table-lines (s .table) (s .live .records) table)
 
 -- the history of document 01's example: a full ask with 8 bytes for its query, as rtr-table makes it, and the input up to the End of Data's bytes that are given
 abbrev exampleWith : List ℕ → List Event

@@ -3,6 +3,7 @@ use mathlib.Core.List.{[], _∷_}
 use mathlib.Core.Path.{_≡_, refl}
 use Rattle.rtr_models.specs.declared.RtrProtocolVersion.the-variants.{V1}
 use Rattle.rtr_room.specs.Table.{ipv4Record}
+use Rattle.rtr_receiver.specs.Promises.{recordLimit}
 use Rattle.rtr_receiver.specs.declared.Phase.the-variants.{Idle}
 use Rattle.rtr_receiver.specs.declared.LiveTable.{LiveTable}
 use Rattle.rtr_receiver.specs.declared.LiveTable.the-variants.{NoTable, Known}
@@ -11,8 +12,18 @@ use Rattle.rtr_receiver.specs.declared.Session.{Session}
 use Prim.Native.Nat.{ℕ}
 use Rattle.rtr_listing.specs.Listing.{text, digits, places, lineOf, tableLines, headLines, addressOf, recordLines, allLines, listing}
 
+-- an idle session with a table and so many records
 abbrev session : LiveTable → ℕ → Session
-session table count = record { version = V1; phase = Idle; table = table; note = NoNote; live = count; working = 0; held = 0 }
+session table count =
+    record {
+      life = record { version = V1; limit = recordLimit };
+      phase = Idle;
+      table = table;
+      note = NoNote;
+      live = record { records = count };
+      working = record { records = 0 };
+      held = 0;
+    }
 
 -- the example: 192.0.2.0/24 of AS 64496
 pub example : listing (session (Known (record { session = 4660; serial = 7; refresh = 3600; retry = 600; expire = 7200 })) 1) (ipv4Record 24 24 0xc0000200 64496 ∷ [])

@@ -15,6 +15,7 @@ use Rattle.rtr_listing.specs.declared.ListError.the-variants.{NotAReceiv
 use Rattle.rtr_listing.specs.declared.ListAnswer.{ListAnswer}
 use Rattle.rtr_listing.specs.declared.ListAnswer.the-variants.{Written, Refused}
 use Rattle.rtr_listing.proofs.ListError.number.Reads as list-error-number
+use Rattle.rtr_listing.proofs.head_of.Reads as head-of
 use Rattle.rtr_listing.proofs.head_lines.Reads as head-lines
 use Rattle.rtr_listing.proofs.record_lines.Reads as record-lines
 use Rattle.rtr_listing.proofs.listing.Reads as listing
@@ -38,6 +39,9 @@ one-leaving r r′ o o′ given p q = (
 
 pub list-error-number-unique : (κs : _) (a : _) (r r′ : _) (s s′ : _) → list-error-number.Post κs a r s → list-error-number.Post κs a r′ s′ → r ≡ r′
 list-error-number-unique κs a r r′ s s′ p q = only-this r r′ _ p q
+
+pub head-of-unique : (κs : _) (a : _) (r r′ : _) (s s′ : _) → head-of.Post κs a r s → head-of.Post κs a r′ s′ → r ≡ r′
+head-of-unique κs a r r′ s s′ p q = only-this r r′ _ p q
 
 pub head-lines-unique : (κs : _) (a : _) (r r′ : _) (s s′ : _) → head-lines.Post κs a r s → head-lines.Post κs a r′ s′ → (r ≡ r′) × (now (s .1 .0) ≡ now (s′ .1 .0))
 head-lines-unique κs a r r′ s s′ p q = one-leaving r r′ (now (s .1 .0)) (now (s′ .1 .0)) _ p q

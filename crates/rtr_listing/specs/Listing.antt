@@ -12,6 +12,7 @@ use Rattle.rtr_receiver.specs.Promises.{stopSaid}
 use Rattle.rtr_receiver.specs.declared.Phase.{Phase}
 use Rattle.rtr_receiver.specs.declared.LiveTable.{LiveTable}
 use Rattle.rtr_receiver.specs.declared.Session.{Session}
+use Rattle.rtr_listing.specs.declared.Head.{Head}
 
 -- ---- texts and numbers
 
@@ -65,7 +66,11 @@ stoppedAs Phase.AskedChange = 0
 stoppedAs (Phase.Loading kind session) = 0
 stoppedAs (Phase.Stopped stop) = numberOf (stopSaid stop)
 
--- the table's numbers and its count of records, "but count has four digits"; or that there is none
+-- "count has four digits"
+abbrev pub countDigits : ℕ
+countDigits = 4
+
+-- the table's numbers and its count of records; or that there is none
 unfoldable pub tableLines : LiveTable → ℕ → List ℕ
 tableLines LiveTable.NoTable count = line "count=" (text "none")
 tableLines (LiveTable.Known t) count =
@@ -74,11 +79,15 @@ tableLines (LiveTable.Known t) count =
     ++ line "refresh=" (decimal (t .refresh))
     ++ line "retry=" (decimal (t .retry))
     ++ line "expire=" (decimal (t .expire))
-    ++ line "count=" (digits 10 4 count)
+    ++ line "count=" (digits 10 countDigits count)
 
 -- the lines before the records
-unfoldable pub headLines : Session → List ℕ
-headLines s = line "stopped=" (decimal (stoppedAs (s .phase))) ++ tableLines (s .table) (s .live)
+unfoldable pub headLines : Head → List ℕ
+headLines head = line "stopped=" (decimal (head .stopped)) ++ tableLines (head .table) (head .count)
+
+-- what the listing of a session says before its records
+abbrev pub headOf : Session → Head
+headOf s = record { stopped = stoppedAs (s .phase); table = s .table; count = s .live .records }
 
 -- ---- the records: "The five record lines repeat"
 
@@ -104,4 +113,4 @@ allLines (r ∷ t) = recordLines r ++ allLines t
 
 -- the whole listing
 abbrev pub listing : Session → List Record → List ℕ
-listing s table = headLines s ++ allLines table
+listing s table = headLines (headOf s) ++ allLines table

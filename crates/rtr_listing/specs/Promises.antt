@@ -1,5 +1,5 @@
 -- What a call of the listing says and leaves, with document 01's numbers: "The listing" and "Refusal numbers". What it says, and the output that it
--- leaves, are those of encoding (Writing and Encoded of rtr_encode). Over any record limit; 1,024 is a constant of the code.
+-- leaves, are those of encoding (Writing and Encoded of rtr_encode). Over any record limit; a call promises it of the limit that the session record holds.
 use Prim.Native.Nat.{ℕ}
 use mathlib.Core.Bool.{Bool, cond, _&&_, _||_}
 use mathlib.Core.List.{List, [], _∷_}
@@ -9,6 +9,7 @@ use Rattle.rtr_encode.specs.Encode.{Writing, Encoded, unless, outAfter}
 use Rattle.rtr_encode.specs.Encode.Writing.{written, refused}
 use Rattle.rtr_room.specs.Room.{records, isRoom}
 use Rattle.rtr_receiver.specs.History.{hasTable}
+use Rattle.rtr_receiver.specs.Promises.{hasLimit}
 use Rattle.rtr_receiver.specs.declared.Session.{Session}
 use Rattle.rtr_listing.specs.Listing.{listing}
 use Rattle.rtr_listing.specs.declared.ListError.{ListError}
@@ -38,11 +39,11 @@ putSays bytes room = unless (leb (length bytes) room) 9 (length bytes ∷ []) (w
 unfoldable pub puts : List ℕ → List ℕ → Encoded
 puts bytes out = record { says = putSays bytes (length out); out = outAfter (putSays bytes (length out)) bytes out }
 
--- the room and the session can be listed: the live room keeps the room rules, and no record stands without a table
+-- the room and the session can be listed: the limit is the session's and a receiver may have it, the live room keeps the room rules, and no record stands without a table
 abbrev pub isListed : ℕ → Session → List ℕ → Bool
-isListed limit s live = isRoom limit (s .live) live && (hasTable (s .table) || eqb (s .live) 0)
+isListed limit s live = hasLimit limit s && (isRoom limit (s .live .records) live && (hasTable (s .table) || eqb (s .live .records) 0))
 
 -- the listing of a session and its live room: 22, then 9, then all of it
 unfoldable pub listingSays : ℕ → Session → List ℕ → List ℕ → Encoded
 listingSays limit s live out =
-    cond (isListed limit s live) (puts (listing s (records (s .live) live)) out) (record { says = refused 22 []; out = out })
+    cond (isListed limit s live) (puts (listing s (records (s .live .records) live)) out) (record { says = refused 22 []; out = out })

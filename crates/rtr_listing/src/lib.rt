@@ -2,9 +2,9 @@
 // every input; a refusal writes nothing, and bytes after what is written stay.
 use rtr_receiver::LiveTable;
 use rtr_receiver::Phase;
-use rtr_receiver::RECORD_LIMIT;
 use rtr_receiver::Session;
 use rtr_receiver::Table;
+use rtr_receiver::is_limit;
 use rtr_room::Record;
 use rtr_room::RecordFound;
 use rtr_room::get;
@@ -14,7 +14,8 @@ ghost use Prim.Native.Nat.{_+_, _*_, _≤_, _<_};
 ghost use lib.ListN.{length};
 ghost use Rattle.rtr_encode.specs.Answers.{numberOf};
 ghost use Rattle.rtr_room.specs.Room.{records};
-ghost use Rattle.rtr_listing.specs.Listing.{glyph, digits, places, decimal, lineOf, stoppedAs, tableLines, headLines, addressOf, recordLines, allLines};
+ghost use Rattle.rtr_receiver.specs.Promises.{recordLimit};
+ghost use Rattle.rtr_listing.specs.Listing.{glyph, digits, places, decimal, lineOf, stoppedAs, tableLines, headLines, headOf, addressOf, recordLines, allLines};
 ghost use Rattle.rtr_listing.specs.Promises.{listRefusal, leaves, puts, isListed, listingSays};
 ghost use Rattle.rtr_listing.specs.Private.{Fits, Put};
 
@@ -42,8 +43,18 @@ pub enum ListAnswer {
     Refused(ListError),
 }
 
+// What a listing says before its records: the stop's number, 0 without one; the table's session, serial and intervals if there is one; and how many records it has.
+pub struct Head {
+    pub stopped: usize,
+    pub table: LiveTable,
+    pub count: usize,
+}
+
 // No head and no record has more bytes.
 const LINES: usize = 128;
+
+// "count has four digits".
+const COUNT_DIGITS: usize = 4;
 
 // ---- Texts and numbers: each writes from a place on and gives the next place
 
@@ -149,6 +160,20 @@ fn stopped_as(phase: Phase) -> usize
     }
 }
 
+// The head of a session's listing.
+pub fn head_of(s: Session) -> Head
+    ensures { λ r. ⌜ r ≡ headOf s ⌝ }
+{
+    let phase = s.phase;
+    let table = s.table;
+    let in_live = s.live;
+    Head {
+        stopped: stopped_as(phase),
+        table,
+        count: in_live.records,
+    }
+}
+
 fn put_table(out: &mut [u8], at: usize, t: Table, count: usize) -> usize
     requires { ⌜ Fits (now out) at (tableLines (LiveTable.Known t) count) ⌝ }
     ensures { λ r. ⌜ Put (now (out .entry)) at (tableLines (LiveTable.Known t) count) r (now (out .exit)) ⌝ }
@@ -158,19 +183,18 @@ fn put_table(out: &mut [u8], at: usize, t: Table, count: usize) -> usize
     let retry = put_number(out, refresh, b"refresh=", t.refresh as usize);
     let expire = put_number(out, retry, b"retry=", t.retry as usize);
     let last = put_number(out, expire, b"expire=", t.expire as usize);
-    put_counted(out, last, b"count=", 4, count)
+    put_counted(out, last, b"count=", COUNT_DIGITS, count)
 }
 
-fn put_head(out: &mut [u8], at: usize, s: Session) -> usize
-    requires { ⌜ Fits (now out) at (headLines s) ⌝ }
-    ensures { λ r. ⌜ Put (now (out .entry)) at (headLines s) r (now (out .exit)) ⌝ }
+fn put_head(out: &mut [u8], at: usize, head: Head) -> usize
+    requires { ⌜ Fits (now out) at (headLines head) ⌝ }
+    ensures { λ r. ⌜ Put (now (out .entry)) at (headLines head) r (now (out .exit)) ⌝ }
 {
-    let phase = s.phase;
-    let table = s.table;
-    let next = put_number(out, at, b"stopped=", stopped_as(phase));
+    let table = head.table;
+    let next = put_number(out, at, b"stopped=", head.stopped);
     match table {
         LiveTable::NoTable => put_text(out, next, b"count=none\n"),
-        LiveTable::Known(t) => put_table(out, next, t, s.live),
+        LiveTable::Known(t) => put_table(out, next, t, head.count),
     }
 }
 
@@ -217,11 +241,11 @@ fn put_record(out: &mut [u8], at: usize, r: Record) -> usize
 
 // ---- Lengths, by writing aside
 
-fn head_length(s: Session) -> usize
-    ensures { λ n. ⌜ (n ≡ length (headLines s)) × (n ≤ 128) ⌝ }
+fn head_length(head: Head) -> usize
+    ensures { λ n. ⌜ (n ≡ length (headLines head)) × (n ≤ 128) ⌝ }
 {
     let mut lines = [0u8; LINES];
-    put_head(&mut lines, 0, s)
+    put_head(&mut lines, 0, head)
 }
 
 fn record_length(r: Record) -> usize
@@ -233,7 +257,7 @@ fn record_length(r: Record) -> usize
 
 // The lines of the first so many records.
 fn records_length(live: &[u32], count: usize) -> usize
-    requires { ⌜ (6 * count ≤ length (now live)) × (count ≤ 1024) ⌝ }
+    requires { ⌜ (6 * count ≤ length (now live)) × (count ≤ recordLimit) ⌝ }
     ensures { λ n. ⌜ (n ≡ length (allLines (records count (now (live .entry))))) × (n ≤ 128 * count) ⌝ }
 {
     let mut sum = 0;
@@ -283,13 +307,14 @@ fn short(needed: usize) -> ListAnswer
 
 // The lines before the records.
 pub fn head_lines(s: Session, out: &mut [u8]) -> ListAnswer
-    ensures { λ r. ⌜ leaves r (now (out .exit)) ≡ puts (headLines s) (now (out .entry)) ⌝ }
+    ensures { λ r. ⌜ leaves r (now (out .exit)) ≡ puts (headLines (headOf s)) (now (out .entry)) ⌝ }
 {
-    let needed = head_length(s);
+    let head = head_of(s);
+    let needed = head_length(head);
     if out.len() < needed {
         return short(needed);
     }
-    put_head(out, 0, s);
+    put_head(out, 0, head);
     ListAnswer::Written(needed)
 }
 
@@ -305,16 +330,21 @@ pub fn record_lines(r: Record, out: &mut [u8]) -> ListAnswer
     ListAnswer::Written(needed)
 }
 
-// No record stands without a table, and the live room keeps the room rules.
+// A receiver may have the limit, no record stands without a table, and the live room keeps the room rules.
 fn is_listed(s: Session, live: &[u32]) -> bool
-    ensures { λ r. ⌜ r ≡ isListed 1024 s (now (live .entry)) ⌝ }
+    ensures { λ r. ⌜ r ≡ isListed (s .life .limit) s (now (live .entry)) ⌝ }
 {
+    let life = s.life;
     let table = s.table;
+    let in_live = s.live;
+    if !is_limit(life.limit) {
+        return false;
+    }
     match table {
-        LiveTable::Known(_) => rules(live, RECORD_LIMIT, s.live),
+        LiveTable::Known(_) => rules(live, life.limit, in_live.records),
         LiveTable::NoTable => {
-            if s.live == 0 {
-                return rules(live, RECORD_LIMIT, s.live);
+            if in_live.records == 0 {
+                return rules(live, life.limit, in_live.records);
             }
             false
         }
@@ -323,16 +353,17 @@ fn is_listed(s: Session, live: &[u32]) -> bool
 
 // The whole listing of a session and its live room: lengths first, so that nothing is written where it does not fit.
 pub fn listing(s: Session, live: &[u32], out: &mut [u8]) -> ListAnswer
-    ensures { λ r. ⌜ leaves r (now (out .exit)) ≡ listingSays 1024 s (now (live .entry)) (now (out .entry)) ⌝ }
+    ensures { λ r. ⌜ leaves r (now (out .exit)) ≡ listingSays (s .life .limit) s (now (live .entry)) (now (out .entry)) ⌝ }
 {
     if !is_listed(s, live) {
         return ListAnswer::Refused(ListError::NotAReceiver);
     }
-    let needed = head_length(s) + records_length(live, s.live);
+    let head = head_of(s);
+    let needed = head_length(head) + records_length(live, head.count);
     if out.len() < needed {
         return short(needed);
     }
-    let next = put_head(out, 0, s);
-    put_records(out, next, live, s.live);
+    let next = put_head(out, 0, head);
+    put_records(out, next, live, head.count);
     ListAnswer::Written(needed)
 }

@@ -10,21 +10,25 @@ use borrow.Author.Tests.{eq-eqb}
 use lib.Dec.{eqb}
 use lib.ListN.{length, getD}
 use Rattle.rtr_receiver.specs.declared.Session.{Session}
-use Rattle.rtr_numbers.specs.Numbers.{tableNumber, tableOr, numbersOf, sessionNumbers}
+use Rattle.rtr_numbers.specs.Numbers.{tableNumber, tableOr, sessionSize, numbersOf, sessionNumbers}
 use Rattle.rtr_numbers.specs.Back.{alike, looseSession, sessionIf, sessionOf}
 use Rattle.rtr_numbers.specs.Ranges.{SessionFits}
 use Rattle.rtr_numbers.specs.declared.SessionFound.{SessionFound}
 use Rattle.rtr_numbers.proofs.Lists.{alike-refl, alike-same}
 use Rattle.rtr_numbers.proofs.Sessions.{session-back, session-fits}
 
--- there are 18 numbers, and the last counts the bytes held
-pub session-length : (s : Session) → length (sessionNumbers s) ≡ 18
+-- how many numbers there are; number 17 counts the bytes held, number 18 is the limit
+pub session-length : (s : Session) → length (sessionNumbers s) ≡ sessionSize
 unfolding numbersOf
 session-length s = refl
 
 pub session-held : (s : Session) → getD (sessionNumbers s) 17 0 ≡ s .held
 unfolding numbersOf
 session-held s = refl
+
+pub session-limit : (s : Session) → getD (sessionNumbers s) 18 0 ≡ s .life .limit
+unfolding numbersOf
+session-limit s = refl
 
 -- number 6 is whether there is a table, 7 to 11 are its session, serial and intervals, and 15 counts the live room's records
 pub session-table : (s : Session) →
@@ -34,7 +38,7 @@ pub session-table : (s : Session) →
     × (getD (sessionNumbers s) 9 0 ≡ tableOr (s .table) .refresh)
     × (getD (sessionNumbers s) 10 0 ≡ tableOr (s .table) .retry)
     × (getD (sessionNumbers s) 11 0 ≡ tableOr (s .table) .expire)
-    × (getD (sessionNumbers s) 15 0 ≡ s .live)
+    × (getD (sessionNumbers s) 15 0 ≡ s .live .records)
 unfolding numbersOf
 session-table s = (refl, refl, refl, refl, refl, refl, refl)
 
@@ -45,10 +49,10 @@ session-of-numbers s h =
     ap (λ (x : Session). sessionIf x (sessionNumbers s)) (session-back s h)
     ∙ ap (λ (b : Bool). cond b (SessionFound.Known s) SessionFound.Unknown) (alike-refl (sessionNumbers s))
 
--- so 18 numbers that were set to a session's read back as it
-pub set-reads-back : (s : Session) (n x : List ℕ) → SessionFits s → x ≡ cond (eqb (length n) 18) (sessionNumbers s) n → length n ≡ 18 → sessionOf x ≡ SessionFound.Known s
+-- so numbers that were set to a session's read back as it
+pub set-reads-back : (s : Session) (n x : List ℕ) → SessionFits s → x ≡ cond (eqb (length n) sessionSize) (sessionNumbers s) n → length n ≡ sessionSize → sessionOf x ≡ SessionFound.Known s
 set-reads-back s n x h put long =
-    ap sessionOf (put ∙ ap (λ (b : Bool). cond b (sessionNumbers s) n) (eq-eqb (length n) 18 long)) ∙ session-of-numbers s h
+    ap sessionOf (put ∙ ap (λ (b : Bool). cond b (sessionNumbers s) n) (eq-eqb (length n) sessionSize long)) ∙ session-of-numbers s h
 
 -- numbers that give a session are its numbers, and it fits its types
 pub numbers-of-session : (n : List ℕ) (s : Session) → sessionOf n ≡ SessionFound.Known s → n ≡ sessionNumbers s
@@ -78,6 +82,6 @@ session-found-fits n s e = go (alike (sessionNumbers (looseSession n)) n) e
 pub session-exactly : (n : List ℕ) (s : Session) → (sessionOf n ≡ SessionFound.Known s) ↔ (SessionFits s × (n ≡ sessionNumbers s))
 session-exactly n s = (λ e. (session-found-fits n s e, numbers-of-session n s e), λ h. ap sessionOf (h .1) ∙ session-of-numbers s (h .0))
 
--- numbers that are not 18 are no session's
-pub session-of-length : (n : List ℕ) (s : Session) → sessionOf n ≡ SessionFound.Known s → length n ≡ 18
+-- numbers of another count are no session's
+pub session-of-length : (n : List ℕ) (s : Session) → sessionOf n ≡ SessionFound.Known s → length n ≡ sessionSize
 session-of-length n s e = ap length (numbers-of-session n s e) ∙ session-length s

@@ -5,7 +5,6 @@ use mathlib.Core.Path.{_≡_, refl, ap}
 use native.Mathlib.Omega.{arith}
 use lib.Dec.{eqb}
 use lib.ListN.{getD}
-use Rattle.rtr_models.specs.declared.RtrProtocolVersion.{RtrProtocolVersion}
 use Rattle.rtr_models.specs.declared.RtrErrorCode.{RtrErrorCode}
 use Rattle.rtr_codec.specs.declared.RtrError.the-variants.{IncompletePdu, InvalidProtocolVersion, InvalidPduType, InvalidLength, RouterKeyInV0, InvalidPrefixLength, InvalidErrorCode, InvalidUtf8}
 use Rattle.rtr_stream.specs.declared.StreamError.{StreamError}
@@ -15,6 +14,8 @@ use Rattle.rtr_receiver.specs.declared.Stop.{Stop}
 use Rattle.rtr_receiver.specs.declared.Phase.{Phase}
 use Rattle.rtr_receiver.specs.declared.LiveTable.{LiveTable}
 use Rattle.rtr_receiver.specs.declared.Note.{Note}
+use Rattle.rtr_receiver.specs.declared.Life.{Life}
+use Rattle.rtr_receiver.specs.declared.Counts.{Counts}
 use Rattle.rtr_receiver.specs.declared.Session.{Session}
 use Rattle.rtr_numbers.specs.Numbers.{numbersOf, sessionNumbers}
 use Rattle.rtr_numbers.specs.Back.{looseError, looseStop, loosePhase, looseTable, looseNote, looseSession}
@@ -23,8 +24,8 @@ use Rattle.rtr_numbers.specs.Ranges.{ErrorFits, StopFits, PhaseFits, Tab
 
 -- ---- Back from numbers
 
-module _ (v : RtrProtocolVersion) (t : LiveTable) (note : Note) (live working held : ℕ) where
-  stop-back : (s : Stop) → StopFits s → loosePhase (numbersOf v (stageOf (Phase.Stopped s)) t note live working held) ≡ Phase.Stopped s
+module _ (life : Life) (t : LiveTable) (note : Note) (live working : Counts) (held : ℕ) where
+  stop-back : (s : Stop) → StopFits s → loosePhase (numbersOf life (stageOf (Phase.Stopped s)) t note live working held) ≡ Phase.Stopped s
   unfolding numbersOf loosePhase looseStop looseError
   stop-back (Stop.Stream (StreamError.Read (IncompletePdu a n))) h = refl
   stop-back (Stop.Stream (StreamError.Read (InvalidPduType k))) h = let e : k % 256 ≡ k = omega arith in cc
@@ -51,7 +52,7 @@ module _ (v : RtrProtocolVersion) (t : LiveTable) (note : Note) (live working he
   stop-back Stop.RoomFull h = refl
   stop-back (Stop.ErrorReport c) h = ap (λ (x : RtrErrorCode). Phase.Stopped (Stop.ErrorReport x)) (code-back c)
 
-  phase-back : (p : Phase) → PhaseFits p → loosePhase (numbersOf v (stageOf p) t note live working held) ≡ p
+  phase-back : (p : Phase) → PhaseFits p → loosePhase (numbersOf life (stageOf p) t note live working held) ≡ p
   unfolding numbersOf loosePhase
   phase-back Phase.Idle h = refl
   phase-back Phase.MustReset h = refl
@@ -61,8 +62,8 @@ module _ (v : RtrProtocolVersion) (t : LiveTable) (note : Note) (live working he
   phase-back (Phase.Loading LoadKind.Change id) h = let e : id % 65536 ≡ id = omega arith in cc
   phase-back (Phase.Stopped stop) h = stop-back stop h
 
-module _ (v : RtrProtocolVersion) (p : Phase) (live working held : ℕ) where
-  table-back : (t : LiveTable) (note : Note) → TableFits t → looseTable (numbersOf v (stageOf p) t note live working held) ≡ t
+module _ (life : Life) (p : Phase) (live working : Counts) (held : ℕ) where
+  table-back : (t : LiveTable) (note : Note) → TableFits t → looseTable (numbersOf life (stageOf p) t note live working held) ≡ t
   unfolding numbersOf looseTable
   table-back LiveTable.NoTable note h = refl
   table-back (LiveTable.Known t) note h =
@@ -73,7 +74,7 @@ module _ (v : RtrProtocolVersion) (p : Phase) (live working held : ℕ) where
       let e : t .expire % 4294967296 ≡ t .expire = omega arith in
       λ i. LiveTable.Known (record { session = a i; serial = b i; refresh = c i; retry = d i; expire = e i })
 
-  note-back : (t : LiveTable) (note : Note) → NoteFits note → looseNote (numbersOf v (stageOf p) t note live working held) ≡ note
+  note-back : (t : LiveTable) (note : Note) → NoteFits note → looseNote (numbersOf life (stageOf p) t note live working held) ≡ note
   unfolding numbersOf looseNote
   note-back t Note.NoNote h = refl
   note-back t (Note.Noted session serial) h =
@@ -84,11 +85,11 @@ module _ (v : RtrProtocolVersion) (p : Phase) (live working held : ℕ) where
 pub session-back : (s : Session) → SessionFits s → looseSession (sessionNumbers s) ≡ s
 unfolding looseSession numbersOf
 session-back s h =
-    let version = version-back (s .version) in
-    let phase = phase-back (s .version) (s .table) (s .note) (s .live) (s .working) (s .held) (s .phase) (h .phase) in
-    let table = table-back (s .version) (s .phase) (s .live) (s .working) (s .held) (s .table) (s .note) (h .table) in
-    let note = note-back (s .version) (s .phase) (s .live) (s .working) (s .held) (s .table) (s .note) (h .note) in
-    λ i. record { version = version i; phase = phase i; table = table i; note = note i; live = s .live; working = s .working; held = s .held }
+    let version = version-back (s .life .version) in
+    let phase = phase-back (s .life) (s .table) (s .note) (s .live) (s .working) (s .held) (s .phase) (h .phase) in
+    let table = table-back (s .life) (s .phase) (s .live) (s .working) (s .held) (s .table) (s .note) (h .table) in
+    let note = note-back (s .life) (s .phase) (s .live) (s .working) (s .held) (s .table) (s .note) (h .note) in
+    λ i. record { life = record { version = version i; limit = s .life .limit }; phase = phase i; table = table i; note = note i; live = s .live; working = s .working; held = s .held }
 
 -- ---- A guess fits
 

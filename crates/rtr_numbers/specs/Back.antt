@@ -116,12 +116,12 @@ looseNote n = cond (eqb (getD n 12 0) 0) Note.NoNote (Note.Noted (low16 (getD n 
 unfoldable pub looseSession : List ℕ → Session
 looseSession n =
     record {
-      version = looseVersion (getD n 0 0);
+      life = record { version = looseVersion (getD n 0 0); limit = getD n 18 0 };
       phase = loosePhase n;
       table = looseTable n;
       note = looseNote n;
-      live = getD n 15 0;
-      working = getD n 16 0;
+      live = record { records = getD n 15 0 };
+      working = record { records = getD n 16 0 };
       held = getD n 17 0;
     }
 

@@ -4,7 +4,6 @@ use Prim.Native.Nat.{ℕ}
 use mathlib.Core.List.{List, [], _∷_}
 use lib.ListN.{getD}
 use Rattle.rtr_models.specs.Codes.{versionNumber}
-use Rattle.rtr_models.specs.declared.RtrProtocolVersion.{RtrProtocolVersion}
 use Rattle.rtr_codec.specs.Read.{Verdict}
 use Rattle.rtr_receiver.specs.Receiver.{Stage}
 use Rattle.rtr_receiver.specs.Receiver.Stage.{idle, mustReset, askedFull, askedChange, loading, stopped}
@@ -13,6 +12,8 @@ use Rattle.rtr_receiver.specs.declared.LoadKind.{LoadKind}
 use Rattle.rtr_receiver.specs.declared.Table.{Table}
 use Rattle.rtr_receiver.specs.declared.LiveTable.{LiveTable}
 use Rattle.rtr_receiver.specs.declared.Note.{Note}
+use Rattle.rtr_receiver.specs.declared.Life.{Life}
+use Rattle.rtr_receiver.specs.declared.Counts.{Counts}
 use Rattle.rtr_receiver.specs.declared.Session.{Session}
 
 -- number 1: the phase; a load by its kind
@@ -68,10 +69,14 @@ abbrev pub noteSerial : Note → ℕ
 noteSerial Note.NoNote = 0
 noteSerial (Note.Noted session serial) = serial
 
--- the 18 numbers of what a call leaves of a session
-unfoldable pub numbersOf : RtrProtocolVersion → Stage → LiveTable → Note → ℕ → ℕ → ℕ → List ℕ
-numbersOf version stage table note live working held =
-    versionNumber version
+-- how many numbers a session is
+abbrev pub sessionSize : ℕ
+sessionSize = 24
+
+-- the 24 numbers of what a call leaves of a session; the last five are kept for what is to come, and are zeros
+unfoldable pub numbersOf : Life → Stage → LiveTable → Note → Counts → Counts → ℕ → List ℕ
+numbersOf life stage table note live working held =
+    versionNumber (life .version)
     ∷ stageNumber stage
     ∷ stageDetail stage
     ∷ stageValue 0 stage
@@ -86,18 +91,24 @@ numbersOf version stage table note live working held =
     ∷ noteNumber note
     ∷ noteSession note
     ∷ noteSerial note
-    ∷ live
-    ∷ working
+    ∷ live .records
+    ∷ working .records
     ∷ held
+    ∷ life .limit
+    ∷ 0
+    ∷ 0
+    ∷ 0
+    ∷ 0
+    ∷ 0
     ∷ []
 
 -- the numbers of a session record
 abbrev pub sessionNumbers : Session → List ℕ
-sessionNumbers s = numbersOf (s .version) (stageOf (s .phase)) (s .table) (s .note) (s .live) (s .working) (s .held)
+sessionNumbers s = numbersOf (s .life) (stageOf (s .phase)) (s .table) (s .note) (s .live) (s .working) (s .held)
 
 -- the same of what a receiver's call leaves: `sessionNumbers s` is `leftNumbers` of what s leaves
 abbrev pub leftNumbers : Left → List ℕ
-leftNumbers l = numbersOf (l .version) (l .stage) (l .table) (l .note) (l .liveCount) (l .workingCount) (l .heldCount)
+leftNumbers l = numbersOf (l .life) (l .stage) (l .table) (l .note) (l .liveCount) (l .workingCount) (l .heldCount)
 
 -- value i of a refusal, 0 where it has none
 abbrev pub valueOf : ℕ → Verdict → ℕ

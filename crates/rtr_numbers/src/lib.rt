@@ -1,7 +1,9 @@
-// Session records as plain numbers, both ways, for a host that has no Rattle types: 18 numbers are a session. What is read back is written
+// Session records as plain numbers, both ways, for a host that has no Rattle types: 24 numbers are a session. What is read back is written
 // again and compared, so numbers that are nobody's are told from every other. PDUs: rtr_pdu_numbers.
 use rtr_codec::RtrError;
 use rtr_models::*;
+use rtr_receiver::Counts;
+use rtr_receiver::Life;
 use rtr_receiver::LiveTable;
 use rtr_receiver::LoadKind;
 use rtr_receiver::Note;
@@ -18,12 +20,12 @@ ghost use lib.ListN.{length, getD};
 ghost use Rattle.rtr_codec.specs.Answers.{refusal};
 ghost use Rattle.rtr_stream.specs.Search.{streamRefusal};
 ghost use Rattle.rtr_receiver.specs.Promises.{stopSaid, stoppedBy, stageOf};
-ghost use Rattle.rtr_numbers.specs.Numbers.{tableOr, tableNumber, noteNumber, noteSession, noteSerial, sessionNumbers, valueOf};
+ghost use Rattle.rtr_numbers.specs.Numbers.{tableOr, tableNumber, noteNumber, noteSession, noteSerial, sessionSize, sessionNumbers, valueOf};
 ghost use Rattle.rtr_numbers.specs.Back.{alike, looseVersion, looseCode, looseError, looseStop, loosePhase, looseTable, looseNote, looseSession, sessionOf};
 ghost use Rattle.rtr_numbers.specs.Private.{phaseNumbers};
 
 // How many numbers a session is.
-pub const SESSION_NUMBERS: usize = 18;
+pub const SESSION_NUMBERS: usize = 24;
 
 // The session that has these numbers, if one has.
 pub enum SessionFound {
@@ -296,10 +298,13 @@ fn note_serial(note: Note) -> u64
 fn session_numbers(s: Session) -> [u64; SESSION_NUMBERS]
     ensures { λ r. ⌜ r ≡ sessionNumbers s ⌝ }
 {
-    let version = s.version;
+    let life = s.life;
+    let version = life.version;
     let phase = s.phase;
     let table = s.table;
     let note = s.note;
+    let live = s.live;
+    let working = s.working;
     let p = phase_numbers(phase);
     let t = table_or(table);
     [
@@ -318,16 +323,22 @@ fn session_numbers(s: Session) -> [u64; SESSION_NUMBERS]
         note_number(note),
         note_session(note),
         note_serial(note),
-        wide(s.live),
-        wide(s.working),
+        wide(live.records),
+        wide(working.records),
         wide(s.held),
+        wide(life.limit),
+        0,
+        0,
+        0,
+        0,
+        0,
     ]
 }
 
-// Sets the 18 numbers to the session's; where not 18 are lent, nothing is set. What is set reads back as this session.
+// Sets the numbers to the session's; where not as many are lent, nothing is set. What is set reads back as this session.
 pub fn put_session(s: Session, numbers: &mut [u64]) -> bool
-    ensures { λ r. ⌜ (r ≡ eqb (length (now (numbers .entry))) 18) × (now (numbers .exit) ≡ cond (eqb (length (now (numbers .entry))) 18) (sessionNumbers s) (now (numbers .entry))) ⌝ }
-    ensures { λ r. ⌜ (length (now (numbers .entry)) ≡ 18 → sessionOf (now (numbers .exit)) ≡ SessionFound.Known s) ⌝ }
+    ensures { λ r. ⌜ (r ≡ eqb (length (now (numbers .entry))) sessionSize) × (now (numbers .exit) ≡ cond (eqb (length (now (numbers .entry))) sessionSize) (sessionNumbers s) (now (numbers .entry))) ⌝ }
+    ensures { λ r. ⌜ (length (now (numbers .entry)) ≡ sessionSize → sessionOf (now (numbers .exit)) ≡ SessionFound.Known s) ⌝ }
 {
     let said = session_numbers(s);
     put_numbers(numbers, &said)
@@ -444,12 +455,19 @@ fn loose_session(n: &[u64]) -> Session
     ensures { λ r. ⌜ r ≡ looseSession (now (n .entry)) ⌝ }
 {
     Session {
-        version: loose_version(at(n, 0)),
+        life: Life {
+            version: loose_version(at(n, 0)),
+            limit: size(at(n, 18)),
+        },
         phase: loose_phase(n),
         table: loose_table(n),
         note: loose_note(n),
-        live: size(at(n, 15)),
-        working: size(at(n, 16)),
+        live: Counts {
+            records: size(at(n, 15)),
+        },
+        working: Counts {
+            records: size(at(n, 16)),
+        },
         held: size(at(n, 17)),
     }
 }

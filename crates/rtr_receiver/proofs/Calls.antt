@@ -17,9 +17,10 @@ use Rattle.rtr_encode.specs.Answers.{writing}
 use Rattle.rtr_encode.specs.declared.EncodeError.{EncodeError}
 use Rattle.rtr_encode.specs.declared.EncodeAnswer.{EncodeAnswer}
 use Rattle.rtr_room.proofs.Laws.{empty-is}
+use Rattle.rtr_receiver.specs.Contents.{Rooms}
 use Rattle.rtr_receiver.specs.Receiver.{Stage, Receiver, Query, Notified, fullQuery, changeQuery, askedBy, ask, reconnected, notified, compared, fresh}
 use Rattle.rtr_receiver.specs.History.{hasTable}
-use Rattle.rtr_receiver.specs.Promises.{Left, StartSays, NotifySays, changeUnderWay, isLoading, isStopped, stageOf, receiverOf, isReceiver, leaves, inMemory, startSays, askedTo, askSays, askSaid, reconnectSays, notifySays}
+use Rattle.rtr_receiver.specs.Promises.{Left, StartSays, NotifySays, changeUnderWay, isLoading, isStopped, stageOf, receiverOf, isLimit, isReceiver, leaves, inMemory, startSays, askedTo, askSays, askSaid, reconnectSays, notifySays}
 use Rattle.rtr_receiver.specs.Private.{tabled, askedFor}
 use Rattle.rtr_receiver.specs.declared.Stop.{Stop}
 use Rattle.rtr_receiver.specs.declared.Phase.{Phase}
@@ -31,7 +32,7 @@ use Rattle.rtr_receiver.specs.declared.AskError.{AskError}
 use Rattle.rtr_receiver.specs.declared.AskAnswer.{AskAnswer}
 use Rattle.rtr_receiver.specs.declared.AskedSession.{AskedSession}
 use Rattle.rtr_receiver.proofs.Phase as phase
-use Rattle.rtr_receiver.proofs.Memory.{left-alike, room-stands, room-size, shape-of, standing, stopped-is}
+use Rattle.rtr_receiver.proofs.Memory.{with-limit, with-records, left-alike, limit-is, room-stands, room-size, shape-of, standing, stopped-is}
 
 -- ---- The phases that a `_` stands for
 
@@ -65,15 +66,15 @@ pub stopped-full : (p : Phase) (w h : ℕ) (stop : Stop) → p ≡ Phase.Stopped
 stopped-full p w h stop e q = stopped-cleared p w h stop e ∙ ap (λ (b : Bool). b && eqb h 0) (ne-eqb w 0 q) ∙ sym (ne-eqb w 0 q)
 
 -- without a table there is no record, and no change
-pub tableless : (s : Session) → s .table ≡ LiveTable.NoTable → s .live ≡ 0 → tabled s ≡ not (changeUnderWay (s .phase))
+pub tableless : (s : Session) → s .table ≡ LiveTable.NoTable → s .live .records ≡ 0 → tabled s ≡ not (changeUnderWay (s .phase))
 tableless s e q =
-    ap (λ (t : LiveTable). hasTable t || (eqb (s .live) 0 && not (changeUnderWay (s .phase)))) e
-    ∙ ap (λ (b : Bool). b && not (changeUnderWay (s .phase))) (eq-eqb (s .live) 0 q)
+    ap (λ (t : LiveTable). hasTable t || (eqb (s .live .records) 0 && not (changeUnderWay (s .phase)))) e
+    ∙ ap (λ (b : Bool). b && not (changeUnderWay (s .phase))) (eq-eqb (s .live .records) 0 q)
 
-pub tableless-records : (s : Session) → s .table ≡ LiveTable.NoTable → (s .live ≡ 0 → ⊥) → tabled s ≡ false
+pub tableless-records : (s : Session) → s .table ≡ LiveTable.NoTable → (s .live .records ≡ 0 → ⊥) → tabled s ≡ false
 tableless-records s e q =
-    ap (λ (t : LiveTable). hasTable t || (eqb (s .live) 0 && not (changeUnderWay (s .phase)))) e
-    ∙ ap (λ (b : Bool). b && not (changeUnderWay (s .phase))) (ne-eqb (s .live) 0 q)
+    ap (λ (t : LiveTable). hasTable t || (eqb (s .live .records) 0 && not (changeUnderWay (s .phase)))) e
+    ∙ ap (λ (b : Bool). b && not (changeUnderWay (s .phase))) (ne-eqb (s .live .records) 0 q)
 
 -- a full ask in another phase than Idle and MustReset
 pub full-else : (p : Phase) (r : Receiver) → OneOf (2 ∷ 3 ∷ 4 ∷ 5 ∷ []) (tag p) → fullQuery (stageOf p) r ≡ Query.refused 20
@@ -98,7 +99,7 @@ change-else (Phase.Stopped stop) r h = ap (λ (t : Stage). changeQuery t r) (sto
 pub asked-written
     : (s t : Session) (answer : EncodeAnswer) (phase : Phase) (n : ℕ) →
     answer ≡ EncodeAnswer.Written n →
-    t ≡ record { version = s .version; phase = phase; table = s .table; note = s .note; live = s .live; working = s .working; held = s .held } →
+    t ≡ record { life = s .life; phase = phase; table = s .table; note = s .note; live = s .live; working = s .working; held = s .held } →
     _≡_ {A = AskedSession} (record { session = t; answer = AskAnswer.Written n }) (askedFor s answer phase)
 asked-written s t answer phase n e f =
     ap {B = AskedSession} (λ (x : Session). record { session = x; answer = AskAnswer.Written n }) f ∙ sym (ap (λ (x : EncodeAnswer). askedFor s x phase) e)
@@ -113,7 +114,7 @@ asked-refused s answer phase error e = sym (ap (λ (x : EncodeAnswer). askedFor 
 abbrev inStageLeft : Stage → Left → Left
 inStageLeft stage l =
     record {
-      version = l .version;
+      life = l .life;
       stage = stage;
       table = l .table;
       note = l .note;
@@ -125,7 +126,7 @@ inStageLeft stage l =
       held = l .held;
     }
 
-module _ (limit : ℕ) (s : Session) (live working hold : List ℕ) where
+module _ (limit : ℕ) (s : Session) (live working : Rooms) (hold : List ℕ) where
   module _ (queryOf : Receiver → Query) (out : List ℕ) where
     -- 22
     pub ask-shapeless
@@ -211,17 +212,17 @@ module _ (limit : ℕ) (s : Session) (live working hold : List ℕ) where
       working′ ≡ replicate (length working) 0 →
       record {
         number = 0;
-        left = leaves (record { version = s .version; phase = Phase.Idle; table = s .table; note = Note.NoNote; live = s .live; working = 0; held = 0 }) live working′ hold;
+        left = leaves (record { life = s .life; phase = Phase.Idle; table = s .table; note = Note.NoNote; live = s .live; working = record { records = 0 }; held = 0 }) live working′ hold;
       }
       ≡ reconnectSays limit s live working hold
   unfolding reconnectSays
   reconnect-is working′ e f =
       let shape = shape-of limit s live working hold e in
-      let a = room-stands limit (s .live) live (shape .0) in
+      let a = room-stands limit (s .live .records) live (shape .0) in
       simp e
       (ap (λ (l : Left). record { number = 0; left = l })
-      (left-alike {b = inMemory limit (reconnected (receiverOf s live working hold))} refl refl refl refl (sym (a .1)) refl refl (a .0)
-      (f ∙ ap (λ (n : ℕ). replicate n 0) (room-size limit (s .working) working (shape .1) .0) ∙ empty-is limit .0)
+      (left-alike {b = inMemory limit (reconnected (receiverOf s live working hold))} (with-limit (limit-is limit s live working hold (shape .4))) refl refl refl (with-records (sym (a .1))) refl refl (a .0)
+      (f ∙ ap (λ (n : ℕ). replicate n 0) (room-size limit (s .working .records) working (shape .1) .0) ∙ empty-is limit .0)
       refl))
 
   -- ---- The notify comparison
@@ -291,18 +292,18 @@ module _ (n t a : ℕ) (small-n : n < 4294967296) (small-t : t < 4294967296) (sm
 
 -- ---- Start
 
-module _ (limit : ℕ) (version : RtrProtocolVersion) (live working hold : List ℕ) where
+module _ (limit : ℕ) (known : isLimit limit ≡ true) (version : RtrProtocolVersion) (live working hold : List ℕ) where
   pub start-live : (length live ≡ 6 * limit → ⊥) → StartSays.refusedStart 22 live working ≡ startSays limit version live working hold
   unfolding startSays
-  start-live h = simp (ne-eqb (length live) (6 * limit) h)
+  start-live h = simp (known, ne-eqb (length live) (6 * limit) h)
 
   pub start-working : length live ≡ 6 * limit → (length working ≡ 6 * limit → ⊥) → StartSays.refusedStart 22 live working ≡ startSays limit version live working hold
   unfolding startSays
-  start-working l h = simp (eq-eqb (length live) (6 * limit) l, ne-eqb (length working) (6 * limit) h)
+  start-working l h = simp (known, eq-eqb (length live) (6 * limit) l, ne-eqb (length working) (6 * limit) h)
 
   pub start-hold : length live ≡ 6 * limit → length working ≡ 6 * limit → length hold < 8 → StartSays.refusedStart 22 live working ≡ startSays limit version live working hold
   unfolding startSays
-  start-hold l w h = simp (eq-eqb (length live) (6 * limit) l, eq-eqb (length working) (6 * limit) w, lt-leb 8 (length hold) h)
+  start-hold l w h = simp (known, eq-eqb (length live) (6 * limit) l, eq-eqb (length working) (6 * limit) w, lt-leb 8 (length hold) h)
 
   pub start-is
       : (live′ working′ : List ℕ) →
@@ -312,11 +313,11 @@ module _ (limit : ℕ) (version : RtrProtocolVersion) (live working hold : List 
       live′ ≡ replicate (length live) 0 →
       working′ ≡ replicate (length working) 0 →
       StartSays.started
-      (leaves (record { version = version; phase = Phase.Idle; table = LiveTable.NoTable; note = Note.NoNote; live = 0; working = 0; held = 0 }) live′ working′ hold)
+      (leaves (record { life = record { version = version; limit = limit }; phase = Phase.Idle; table = LiveTable.NoTable; note = Note.NoNote; live = record { records = 0 }; working = record { records = 0 }; held = 0 }) live′ working′ hold)
       ≡ startSays limit version live working hold
   unfolding startSays
   start-is live′ working′ l w h e f =
-      simp (eq-eqb (length live) (6 * limit) l, eq-eqb (length working) (6 * limit) w, le-leb 8 (length hold) h)
+      simp (known, eq-eqb (length live) (6 * limit) l, eq-eqb (length working) (6 * limit) w, le-leb 8 (length hold) h)
       (ap StartSays.started
       (left-alike {b = inMemory limit (fresh version)} refl refl refl refl refl refl refl
       (e ∙ ap (λ (n : ℕ). replicate n 0) l ∙ empty-is limit .0)

@@ -20,6 +20,7 @@ use Rattle.rtr_room.specs.declared.Record.{Record}
 use Rattle.rtr_room.specs.declared.EnterAnswer.{EnterAnswer}
 use Rattle.rtr_room.specs.declared.LeaveAnswer.{LeaveAnswer}
 use Rattle.rtr_room.proofs.Laws.{room-length, empty-is, copy-is, enter-is, leave-is, enter-refuses, leave-refuses, changed-is, refused-is}
+use Rattle.rtr_receiver.specs.Contents.{Rooms}
 use Rattle.rtr_receiver.specs.Receiver.{Stage, Receiver, Deed, stop, startLoad, onChangeResponse, changedTo, finish, noUpdate}
 use Rattle.rtr_receiver.specs.Receiver.Stage.{idle, mustReset, askedFull, askedChange, loading, stopped}
 use Rattle.rtr_receiver.specs.Promises.{stopSaid, stoppedBy, stageOf, receiverOf, leaves, inMemory}
@@ -29,10 +30,11 @@ use Rattle.rtr_receiver.specs.declared.Stop.{Stop}
 use Rattle.rtr_receiver.specs.declared.Phase.{Phase}
 use Rattle.rtr_receiver.specs.declared.Table.{Table}
 use Rattle.rtr_receiver.specs.declared.LiveTable.{LiveTable}
+use Rattle.rtr_receiver.specs.declared.Counts.{Counts}
 use Rattle.rtr_receiver.specs.declared.Session.{Session}
 use Rattle.rtr_receiver.specs.declared.DeedDone.{DeedDone}
 use Rattle.rtr_receiver.proofs.Phase as phase-enum
-use Rattle.rtr_receiver.proofs.Memory.{room-stands, room-size, left-alike}
+use Rattle.rtr_receiver.proofs.Memory.{room-stands, room-size, with-limit, with-records, left-alike}
 
 -- ---- rooms
 
@@ -46,36 +48,37 @@ nothing-held : (n : ℕ) → n ≡ 0 → n ≡ length (take {A = ℕ} n [])
 nothing-held n e = e ∙ ap (λ (k : ℕ). length (take {A = ℕ} k [])) (sym e)
 
 -- rooms of tables, with their counts, and nothing held
-pub rooms-stand : (limit : ℕ) (s : Session) (live working : List ℕ) (l w : List Record) → s .live ≡ length l → s .working ≡ length w → s .held ≡ 0 → live ≡ room limit l → working ≡ room limit w →
-    Stands limit s live working (record { version = s .version; stage = stageOf (s .phase); table = s .table; note = s .note; live = l; working = w; held = take (s .held) [] })
-rooms-stand limit s live working l w lc wc h le we = left-alike refl refl refl refl lc wc (nothing-held (s .held) h) le we refl
+pub rooms-stand : (limit : ℕ) (s : Session) (live working : Rooms) (l w : List Record) → s .life .limit ≡ limit → s .live .records ≡ length l → s .working .records ≡ length w → s .held ≡ 0 → live ≡ room limit l → working ≡ room limit w →
+    Stands limit s live working (record { version = s .life .version; stage = stageOf (s .phase); table = s .table; note = s .note; live = l; working = w; held = take (s .held) [] })
+rooms-stand limit s live working l w k lc wc h le we =
+    left-alike (with-limit k) refl refl refl (with-records lc) (with-records wc) (nothing-held (s .held) h) le we refl
 
 -- a stop, whatever is held
-stop-stands : (limit : ℕ) (s : Session) (live working hold : List ℕ) → isRoom limit (s .live) live ≡ true →
+stop-stands : (limit : ℕ) (s : Session) (live working : Rooms) (hold : List ℕ) → s .life .limit ≡ limit → isRoom limit (s .live .records) live ≡ true →
     (why : Stop) (number : ℕ) (values : List ℕ) → stopSaid why ≡ Verdict.refused number values →
     (w w′ : List ℕ) → length w ≡ 6 * limit → w′ ≡ replicate (length w) 0 → (r : Session) → r ≡ stoppedSession s why →
     leaves r live w′ hold ≡ inMemory limit (stop number values (receiverOf s live working hold))
-stop-stands limit s live working hold b why number values e w w′ n z r q =
-    let l = room-stands limit (s .live) live b in
+stop-stands limit s live working hold k b why number values e w w′ n z r q =
+    let l = room-stands limit (s .live .records) live b in
     ap (λ (t : Session). leaves t live w′ hold) q
-    ∙ left-alike refl (ap stoppedBy e) refl refl (sym (l .1)) refl refl (l .0) (zeros-stand limit w w′ n z) refl
+    ∙ left-alike (with-limit k) (ap stoppedBy e) refl refl (with-records (sym (l .1))) refl refl (l .0) (zeros-stand limit w w′ n z) refl
 
 -- a stop that the code made of a session and the working room as they were
-pub stops : (limit : ℕ) (s : Session) (live working : List ℕ) → BothRooms limit s live working →
+pub stops : (limit : ℕ) (s : Session) (live working : Rooms) → BothRooms limit s live working →
     (why : Stop) (number : ℕ) (values : List ℕ) → stopSaid why ≡ Verdict.refused number values →
     (r : Session) (w′ : List ℕ) → (r ≡ stoppedSession s why) × (w′ ≡ replicate (length working) 0) →
     (to : Receiver) → to ≡ stop number values (receiverOf s live working []) → Stands limit r live w′ to
 stops limit s live working b why number values e r w′ q to t =
-    stop-stands limit s live working [] (b .0) why number values e working w′ (room-size limit (s .working) working (b .1) .0) (q .1) r (q .0)
+    stop-stands limit s live working [] (b .4) (b .0) why number values e working w′ (room-size limit (s .working .records) working (b .1) .0) (q .1) r (q .0)
     ∙ ap (inMemory limit) (sym t)
 
 -- both rooms as they were, in another phase, with another table and note
-pub kept-stands : (limit : ℕ) (s : Session) (live working : List ℕ) → BothRooms limit s live working → (r : Session) → r .live ≡ s .live → r .working ≡ s .working → r .held ≡ s .held →
-    Stands limit r live working (record { version = r .version; stage = stageOf (r .phase); table = r .table; note = r .note; live = records (s .live) live; working = records (s .working) working; held = take (r .held) [] })
-kept-stands limit s live working b r lc wc hc =
-    let l = room-stands limit (s .live) live (b .0) in
-    let w = room-stands limit (s .working) working (b .1) in
-    rooms-stand limit r live working _ _ (lc ∙ sym (l .1)) (wc ∙ sym (w .1)) (hc ∙ b .2) (l .0) (w .0)
+pub kept-stands : (limit : ℕ) (s : Session) (live working : Rooms) → BothRooms limit s live working → (r : Session) → r .life .limit ≡ s .life .limit → r .live ≡ s .live → r .working ≡ s .working → r .held ≡ s .held →
+    Stands limit r live working (record { version = r .life .version; stage = stageOf (r .phase); table = r .table; note = r .note; live = records (s .live .records) live; working = records (s .working .records) working; held = take (r .held) [] })
+kept-stands limit s live working b r k lc wc hc =
+    let l = room-stands limit (s .live .records) live (b .0) in
+    let w = room-stands limit (s .working .records) working (b .1) in
+    rooms-stand limit r live working _ _ (k ∙ b .4) (ap (λ (n : Counts). n .records) lc ∙ sym (l .1)) (ap (λ (n : Counts). n .records) wc ∙ sym (w .1)) (hc ∙ b .2) (l .0) (w .0)
 
 -- ---- phases by their place in the enum
 
@@ -141,69 +144,69 @@ Came limit t said left c = _≡_ {A = Outcome} (record { says = said; left = lef
 
 -- the session with another count in the working room
 abbrev withWorking : Session → ℕ → Session
-withWorking s n = record { version = s .version; phase = s .phase; table = s .table; note = s .note; live = s .live; working = n; held = s .held }
+withWorking s n = record { life = s .life; phase = s .phase; table = s .table; note = s .note; live = s .live; working = record { records = n }; held = s .held }
 
-module _ (limit : ℕ) (s : Session) (live working : List ℕ) (b : BothRooms limit s live working) where
-  pub changed-stands : (c : Change) (n : ℕ) (w : List ℕ) → Came limit (records (s .working) working) (counted n) w c → (r : Session) → r ≡ withWorking s n → Stands limit r live w (changedTo c (receiverOf s live working []))
+module _ (limit : ℕ) (s : Session) (live working : Rooms) (b : BothRooms limit s live working) where
+  pub changed-stands : (c : Change) (n : ℕ) (w : List ℕ) → Came limit (records (s .working .records) working) (counted n) w c → (r : Session) → r ≡ withWorking s n → Stands limit r live w (changedTo c (receiverOf s live working []))
   changed-stands (Change.changed t) n w e r q =
-      let o : _≡_ {A = Outcome} (record { says = counted n; left = w }) (record { says = counted (length t); left = room limit t }) = e ∙ changed-is limit (records (s .working) working) t in
-      let l = room-stands limit (s .live) live (b .0) in
+      let o : _≡_ {A = Outcome} (record { says = counted n; left = w }) (record { says = counted (length t); left = room limit t }) = e ∙ changed-is limit (records (s .working .records) working) t in
+      let l = room-stands limit (s .live .records) live (b .0) in
       let said : counted n ≡ counted (length t) = ap (λ (x : Outcome). x .says) o in
       let count : n ≡ length t = cc in
       ap (λ (x : Session). leaves x live w []) q
-      ∙ rooms-stand limit (withWorking s n) live w _ t (sym (l .1)) count (b .2) (l .0) (ap (λ (x : Outcome). x .left) o)
+      ∙ rooms-stand limit (withWorking s n) live w _ t (b .4) (sym (l .1)) count (b .2) (l .0) (ap (λ (x : Outcome). x .left) o)
   changed-stands (Change.refused m) n w e r q =
-      let said : counted n ≡ refusedBy m = ap (λ (x : Outcome). x .says) (e ∙ refused-is limit m (records (s .working) working)) in
+      let said : counted n ≡ refusedBy m = ap (λ (x : Outcome). x .says) (e ∙ refused-is limit m (records (s .working .records) working)) in
       let z : _≡_ {A = ℕ} 0 1 = cc in absurd (omega arith)
 
   -- a refusal by a number is a change's refusal by that number, and leaves the room
-  refused-came : (c : Change) (n : ℕ) (w : List ℕ) → Came limit (records (s .working) working) (refusedBy n) w c → (c ≡ Change.refused n) × (w ≡ room limit (records (s .working) working))
+  refused-came : (c : Change) (n : ℕ) (w : List ℕ) → Came limit (records (s .working .records) working) (refusedBy n) w c → (c ≡ Change.refused n) × (w ≡ room limit (records (s .working .records) working))
   refused-came (Change.changed t) n w e =
-      let said : refusedBy n ≡ counted (length t) = ap (λ (x : Outcome). x .says) (e ∙ changed-is limit (records (s .working) working) t) in
+      let said : refusedBy n ≡ counted (length t) = ap (λ (x : Outcome). x .says) (e ∙ changed-is limit (records (s .working .records) working) t) in
       let z : _≡_ {A = ℕ} 0 1 = cc in absurd (omega arith)
   refused-came (Change.refused m) n w e =
-      let o : _≡_ {A = Outcome} (record { says = refusedBy n; left = w }) (keeps m (room limit (records (s .working) working))) = e ∙ refused-is limit m (records (s .working) working) in
+      let o : _≡_ {A = Outcome} (record { says = refusedBy n; left = w }) (keeps m (room limit (records (s .working .records) working))) = e ∙ refused-is limit m (records (s .working .records) working) in
       let said : refusedBy n ≡ refusedBy m = ap (λ (x : Outcome). x .says) o in
       let same : n ≡ m = cc in
       (ap Change.refused (sym same), ap (λ (x : Outcome). x .left) o)
 
-  pub refused-stands : (c : Change) (n : ℕ) (w : List ℕ) → Came limit (records (s .working) working) (refusedBy n) w c → (why : Stop) → stopSaid why ≡ Verdict.refused n [] → (r : Session) (w′ : List ℕ) → (r ≡ stoppedSession s why) × (w′ ≡ replicate (length w) 0) → Stands limit r live w′ (changedTo c (receiverOf s live working []))
+  pub refused-stands : (c : Change) (n : ℕ) (w : List ℕ) → Came limit (records (s .working .records) working) (refusedBy n) w c → (why : Stop) → stopSaid why ≡ Verdict.refused n [] → (r : Session) (w′ : List ℕ) → (r ≡ stoppedSession s why) × (w′ ≡ replicate (length w) 0) → Stands limit r live w′ (changedTo c (receiverOf s live working []))
   refused-stands c n w e why k r w′ q =
-      let m = room-stands limit (s .working) working (b .1) in
+      let m = room-stands limit (s .working .records) working (b .1) in
       let f = refused-came c n w e in
-      stop-stands limit s live working [] (b .0) why n [] k w w′ (ap length (f .1) ∙ room-length limit _ (omega (arith, m .1, m .2))) (q .1) r (q .0)
+      stop-stands limit s live working [] (b .4) (b .0) why n [] k w w′ (ap length (f .1) ∙ room-length limit _ (omega (arith, m .1, m .2))) (q .1) r (q .0)
       ∙ ap (λ (x : Change). inMemory limit (changedTo x (receiverOf s live working []))) (sym (f .0))
 
   -- entering, by what the call answered
-  pub enter-came : (r : Record) (a : EnterAnswer) (w : List ℕ) → record { says = enterSaid a; left = w } ≡ entered working (s .working) r → (a′ : EnterAnswer) → a ≡ a′ → Came limit (records (s .working) working) (enterSaid a′) w (enter limit r (records (s .working) working))
-  enter-came r a w e a′ g = ap (λ (x : EnterAnswer). record { says = enterSaid x; left = w }) (sym g) ∙ e ∙ enter-on limit (s .working) working r (b .1)
+  pub enter-came : (r : Record) (a : EnterAnswer) (w : List ℕ) → record { says = enterSaid a; left = w } ≡ entered working (s .working .records) r → (a′ : EnterAnswer) → a ≡ a′ → Came limit (records (s .working .records) working) (enterSaid a′) w (enter limit r (records (s .working .records) working))
+  enter-came r a w e a′ g = ap (λ (x : EnterAnswer). record { says = enterSaid x; left = w }) (sym g) ∙ e ∙ enter-on limit (s .working .records) working r (b .1)
 
   -- the working room is a room
-  pub enters-a-room : (r : Record) (a : EnterAnswer) (w : List ℕ) → record { says = enterSaid a; left = w } ≡ entered working (s .working) r → a ≡ EnterAnswer.NotARoom → ⊥
+  pub enters-a-room : (r : Record) (a : EnterAnswer) (w : List ℕ) → record { says = enterSaid a; left = w } ≡ entered working (s .working .records) r → a ≡ EnterAnswer.NotARoom → ⊥
   enters-a-room r a w e g = ⊎-elim (λ p. omega arith) (λ p. omega arith) (enter-refuses limit 22 r _ (refused-came _ 22 w (enter-came r a w e _ g) .0))
 
   -- leaving
-  pub leave-came : (r : Record) (a : LeaveAnswer) (w : List ℕ) → record { says = leaveSaid a; left = w } ≡ gone working (s .working) r → (a′ : LeaveAnswer) → a ≡ a′ → Came limit (records (s .working) working) (leaveSaid a′) w (leave r (records (s .working) working))
-  leave-came r a w e a′ g = ap (λ (x : LeaveAnswer). record { says = leaveSaid x; left = w }) (sym g) ∙ e ∙ leave-on limit (s .working) working r (b .1)
+  pub leave-came : (r : Record) (a : LeaveAnswer) (w : List ℕ) → record { says = leaveSaid a; left = w } ≡ gone working (s .working .records) r → (a′ : LeaveAnswer) → a ≡ a′ → Came limit (records (s .working .records) working) (leaveSaid a′) w (leave r (records (s .working .records) working))
+  leave-came r a w e a′ g = ap (λ (x : LeaveAnswer). record { says = leaveSaid x; left = w }) (sym g) ∙ e ∙ leave-on limit (s .working .records) working r (b .1)
 
-  pub leaves-a-room : (r : Record) (a : LeaveAnswer) (w : List ℕ) → record { says = leaveSaid a; left = w } ≡ gone working (s .working) r → a ≡ LeaveAnswer.NotARoom → ⊥
+  pub leaves-a-room : (r : Record) (a : LeaveAnswer) (w : List ℕ) → record { says = leaveSaid a; left = w } ≡ gone working (s .working .records) r → a ≡ LeaveAnswer.NotARoom → ⊥
   leaves-a-room r a w e g = let p : _≡_ {A = ℕ} 22 16 = leave-refuses 22 r _ (refused-came _ 22 w (leave-came r a w e _ g) .0) in omega arith
 
   -- ---- loads
 
   -- a load begins, with this table in the working room
   load-stands : (kind : LoadKind) (id n : ℕ) (w : List ℕ) (t : List Record) → n ≡ length t → w ≡ room limit t →
-      (q : Session) → q ≡ record { version = s .version; phase = Phase.Loading kind id; table = s .table; note = s .note; live = s .live; working = n; held = s .held } →
+      (q : Session) → q ≡ record { life = s .life; phase = Phase.Loading kind id; table = s .table; note = s .note; live = s .live; working = record { records = n }; held = s .held } →
       Stands limit q live w (startLoad kind id t (receiverOf s live working []))
   load-stands kind id n w t c e q f =
-      let l = room-stands limit (s .live) live (b .0) in
-      ap (λ (x : Session). leaves x live w []) f ∙ rooms-stand limit (record { version = s .version; phase = Phase.Loading kind id; table = s .table; note = s .note; live = s .live; working = n; held = s .held }) live w _ t (sym (l .1)) c (b .2) (l .0) e
+      let l = room-stands limit (s .live .records) live (b .0) in
+      ap (λ (x : Session). leaves x live w []) f ∙ rooms-stand limit (record { life = s .life; phase = Phase.Loading kind id; table = s .table; note = s .note; live = s .live; working = record { records = n }; held = s .held }) live w _ t (b .4) (sym (l .1)) c (b .2) (l .0) e
 
   -- the live room copied over the working one
-  copied-stands : (w : List ℕ) → w ≡ copied live working → w ≡ room limit (records (s .live) live)
+  copied-stands : (w : List ℕ) → w ≡ copied live working → w ≡ room limit (records (s .live .records) live)
   copied-stands w e =
-      let l = room-stands limit (s .live) live (b .0) in
-      let m = room-stands limit (s .working) working (b .1) in
+      let l = room-stands limit (s .live .records) live (b .0) in
+      let m = room-stands limit (s .working .records) working (b .1) in
       e ∙ ap₂ copied (l .0) (m .0) ∙ copy-is limit _ _ (omega (arith, l .1, l .2)) (omega (arith, m .1, m .2)) .0
 
   -- the working room copied over the live one, and emptied
@@ -211,54 +214,54 @@ module _ (limit : ℕ) (s : Session) (live working : List ℕ) (b : BothRooms li
       (l w : List ℕ) → l ≡ copied working live → w ≡ replicate (length working) 0 →
       Stands limit
       (record {
-        version = s .version;
+        life = s .life;
         phase = Phase.Idle;
         table = LiveTable.Known (record { session = p .«session_id»; serial = p .«serial_number»; refresh = refresh; retry = retry; expire = expire });
         note = s .note;
         live = s .working;
-        working = 0;
+        working = record { records = 0 };
         held = s .held;
       })
       l w (finish p (receiverOf s live working []))
   finish-stands p refresh retry expire h₁ h₂ h₃ l w le we =
-      let k = room-stands limit (s .live) live (b .0) in
-      let m = room-stands limit (s .working) working (b .1) in
+      let k = room-stands limit (s .live .records) live (b .0) in
+      let m = room-stands limit (s .working .records) working (b .1) in
       let table : LiveTable.Known (record { session = p .«session_id»; serial = p .«serial_number»; refresh = refresh; retry = retry; expire = expire })
       ≡ LiveTable.Known (record { session = p .«session_id»; serial = p .«serial_number»; refresh = secondsOr 3600 (p .«refresh_interval»); retry = secondsOr 600 (p .«retry_interval»); expire = secondsOr 7200 (p .«expire_interval») }) =
       λ i. LiveTable.Known (record { session = p .«session_id»; serial = p .«serial_number»; refresh = h₁ i; retry = h₂ i; expire = h₃ i }) in
-      left-alike refl refl table refl (sym (m .1)) refl (nothing-held (s .held) (b .2))
+      left-alike (with-limit (b .4)) refl table refl (with-records (sym (m .1))) refl (nothing-held (s .held) (b .2))
       (le ∙ ap₂ copied (m .0) (k .0) ∙ copy-is limit _ _ (omega (arith, m .1, m .2)) (omega (arith, k .1, k .2)) .0)
-      (zeros-stand limit working w (room-size limit (s .working) working (b .1) .0) we)
+      (zeros-stand limit working w (room-size limit (s .working .records) working (b .1) .0) we)
       refl
 
   -- the live room copied: the load of a change of the table's session
   pub change-stands : (id : ℕ) (t : Table) → s .table ≡ LiveTable.Known t → id ≡ t .session → (w : List ℕ) → w ≡ copied live working →
-      (q : Session) → q ≡ record { version = s .version; phase = Phase.Loading LoadKind.Change id; table = s .table; note = s .note; live = s .live; working = s .live; held = s .held } →
+      (q : Session) → q ≡ record { life = s .life; phase = Phase.Loading LoadKind.Change id; table = s .table; note = s .note; live = s .live; working = s .live; held = s .held } →
       Stands limit q live w (onChangeResponse (s .table) id (receiverOf s live working []))
   change-stands id t e h w c q f =
-      load-stands LoadKind.Change id (s .live) w (records (s .live) live) (sym (room-stands limit (s .live) live (b .0) .1)) (copied-stands w c) q f
-      ∙ ap (λ (x : Bool). inMemory limit (cond x (startLoad LoadKind.Change id (records (s .live) live) (receiverOf s live working [])) (stop 15 [] (receiverOf s live working [])))) (sym (eq-eqb id (t .session) h))
+      load-stands LoadKind.Change id (s .live .records) w (records (s .live .records) live) (sym (room-stands limit (s .live .records) live (b .0) .1)) (copied-stands w c) q f
+      ∙ ap (λ (x : Bool). inMemory limit (cond x (startLoad LoadKind.Change id (records (s .live .records) live) (receiverOf s live working [])) (stop 15 [] (receiverOf s live working [])))) (sym (eq-eqb id (t .session) h))
       ∙ ap (λ (x : LiveTable). inMemory limit (onChangeResponse x id (receiverOf s live working []))) (sym e)
 
   -- the working room emptied: the load of a whole table
   pub full-load-stands : (id : ℕ) → s .phase ≡ Phase.AskedFull → (w : List ℕ) → w ≡ replicate (length working) 0 →
-      (q : Session) → q ≡ record { version = s .version; phase = Phase.Loading LoadKind.Full id; table = s .table; note = s .note; live = s .live; working = 0; held = s .held } →
+      (q : Session) → q ≡ record { life = s .life; phase = Phase.Loading LoadKind.Full id; table = s .table; note = s .note; live = s .live; working = record { records = 0 }; held = s .held } →
       Stands limit q live w (responseIn (stageOf (s .phase)) id (receiverOf s live working []))
   full-load-stands id e w z q f =
-      load-stands LoadKind.Full id 0 w [] refl (zeros-stand limit working w (room-size limit (s .working) working (b .1) .0) z) q f
+      load-stands LoadKind.Full id 0 w [] refl (zeros-stand limit working w (room-size limit (s .working .records) working (b .1) .0) z) q f
       ∙ ap (λ (p : Phase). inMemory limit (responseIn (stageOf p) id (receiverOf s live working []))) (sym e)
 
   -- ---- what is passed over, and a Cache Reset
 
   pub passed-stands : (kind : LoadKind) (id : ℕ) → s .phase ≡ Phase.Loading kind id → Stands limit s live working (keyIn (stageOf (s .phase)) (receiverOf s live working []))
   passed-stands kind id e =
-      kept-stands limit s live working b s refl refl refl
+      kept-stands limit s live working b s refl refl refl refl
       ∙ ap (λ (p : Phase). inMemory limit (keyIn (stageOf p) (receiverOf s live working []))) (sym e)
 
-  pub reset-stands : s .phase ≡ Phase.AskedChange → (q : Session) → q ≡ record { version = s .version; phase = Phase.MustReset; table = s .table; note = s .note; live = s .live; working = s .working; held = s .held } → Stands limit q live working (resetIn (stageOf (s .phase)) (receiverOf s live working []))
+  pub reset-stands : s .phase ≡ Phase.AskedChange → (q : Session) → q ≡ record { life = s .life; phase = Phase.MustReset; table = s .table; note = s .note; live = s .live; working = s .working; held = s .held } → Stands limit q live working (resetIn (stageOf (s .phase)) (receiverOf s live working []))
   reset-stands e q f =
       ap (λ (x : Session). leaves x live working []) f
-      ∙ kept-stands limit s live working b (record { version = s .version; phase = Phase.MustReset; table = s .table; note = s .note; live = s .live; working = s .working; held = s .held }) refl refl refl
+      ∙ kept-stands limit s live working b (record { life = s .life; phase = Phase.MustReset; table = s .table; note = s .note; live = s .live; working = s .working; held = s .held }) refl refl refl refl
       ∙ ap (λ (p : Phase). inMemory limit (resetIn (stageOf p) (receiverOf s live working []))) (sym e)
 
 -- ---- another session

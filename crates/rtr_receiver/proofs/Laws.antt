@@ -4,7 +4,7 @@ use Prim.Native.Nat.{ℕ, suc, _*_, _≤_, _<_}
 use mathlib.Core.Bool.{Bool, true, false, cond, _&&_}
 use mathlib.Core.List.{List, [], _∷_, _++_, append-nil}
 use mathlib.Core.Logic.{_↔_}
-use mathlib.Core.Path.{_≡_, refl, sym, ap, _∙_}
+use mathlib.Core.Path.{_≡_, refl, sym, ap, _∙_, subst}
 use native.Mathlib.Omega.{arith}
 use borrow.Author.Tests.{leb-true, le-leb, eqb-true, eq-eqb}
 use lib.Dec.{eqb, leb}
@@ -14,15 +14,17 @@ use Rattle.rtr_encode.specs.Encode.{Writing, encode}
 use Rattle.rtr_encode.proofs.Laws.{refused-keeps-output}
 use Rattle.rtr_codec.specs.Reading.{inUse}
 use Rattle.rtr_stream.proofs.Laws.{stream-has}
+use Rattle.rtr_room.proofs.Laws.Tests.{second-of}
+use Rattle.rtr_receiver.specs.Contents.{Rooms}
 use Rattle.rtr_receiver.specs.Receiver.{Stage, Receiver, Feed, Query, fresh, feed, fullQuery, changeQuery, listens, onPiece, askedBy, ask, reconnected}
 use Rattle.rtr_receiver.specs.Receiver.Stage.{idle, mustReset, askedFull, askedChange, loading, stopped}
-use Rattle.rtr_receiver.specs.Promises.{Left, Ending, FeedSays, StartSays, AskSays, ReconnectSays, isReceiver, receiverOf, stageOf, leaves, inMemory, endingOf, fedTo, feedSays, startSays, askedTo, askSays, fullAskSays, changeAskSays, reconnectSays}
+use Rattle.rtr_receiver.specs.Promises.{Left, Ending, FeedSays, StartSays, AskSays, ReconnectSays, isLimit, isReceiver, receiverOf, stageOf, leaves, inMemory, endingOf, fedTo, feedSays, startSays, askedTo, askSays, fullAskSays, changeAskSays, reconnectSays}
 use Rattle.rtr_receiver.specs.History.{Event, Update, finished}
 use Rattle.rtr_receiver.specs.Runs.{Call, Memory, Step, Run, bytes, historyOf}
 use Rattle.rtr_receiver.specs.declared.LoadKind.{LoadKind}
 use Rattle.rtr_receiver.specs.declared.Session.{Session}
 use Rattle.rtr_receiver.proofs.Feeds.{from, stopped-takes-none}
-use Rattle.rtr_receiver.proofs.Memory.{standing}
+use Rattle.rtr_receiver.proofs.Memory.{limit-is, limit-of, standing}
 use Rattle.rtr_receiver.proofs.Steps.{shape-of, good-of}
 use Rattle.rtr_receiver.proofs.Kept.{toCome, stopsRightly, isStop, Cleared, piece-keeps, Through, through}
 use Rattle.rtr_receiver.proofs.Histories.{piece-follows, onward-by, all-between}
@@ -31,36 +33,37 @@ use Rattle.rtr_receiver.proofs.Runs.{Stands, after, run-along, in-shape
 -- ---- A refused call changes nothing
 
 -- 22: a feed takes and counts 0 and leaves everything, the whole hold too
-pub refused-keeps-feed : (limit : ℕ) (s : Session) (live working hold piece : List ℕ) → isReceiver limit s live working hold ≡ false → feedSays limit s live working hold piece ≡ FeedSays.refusedFeed 22 0 0 (leaves s live working hold) hold
+pub refused-keeps-feed : (limit : ℕ) (s : Session) (live working : Rooms) (hold piece : List ℕ) → isReceiver limit s live working hold ≡ false → feedSays limit s live working hold piece ≡ FeedSays.refusedFeed 22 0 0 (leaves s live working hold) hold
 unfolding feedSays
 refused-keeps-feed limit s live working hold piece e = simp e
 
 -- a start that is refused leaves both rooms, and is refused by 22
 pub refused-keeps-start : (limit : ℕ) (v : RtrProtocolVersion) (live working hold live′ working′ : List ℕ) (k : ℕ) → startSays limit v live working hold ≡ StartSays.refusedStart k live′ working′ → (live′ ≡ live) × (working′ ≡ working) × (k ≡ 22)
 unfolding startSays
-refused-keeps-start limit v live working hold live′ working′ k e = go (eqb (length live) (6 * limit) && (eqb (length working) (6 * limit) && leb 8 (length hold))) e
+refused-keeps-start limit v live working hold live′ working′ k e = go (isLimit limit && (eqb (length live) (6 * limit) && (eqb (length working) (6 * limit) && leb 8 (length hold)))) e
   where
     go : (b : Bool) → cond b (StartSays.started (inMemory limit (fresh v))) (StartSays.refusedStart 22 live working) ≡ StartSays.refusedStart k live′ working′ → (live′ ≡ live) × (working′ ≡ working) × (k ≡ 22)
     go true q = absurd (let z : _≡_ {A = ℕ} 0 1 = cc in omega arith)
     go false q = let a : live′ ≡ live = cc in let b : working′ ≡ working = cc in let c : k ≡ 22 = cc in (a, b, c)
 
--- a start begins, and a fresh receiver, exactly where both rooms are rooms of the limit and the hold has 8 bytes or more
+-- a start begins, and a fresh receiver, exactly where a receiver may have the limit, both rooms are rooms of the limit and the hold has 8 bytes or more
 pub start-exactly : (limit : ℕ) (v : RtrProtocolVersion) (live working hold : List ℕ) (left : Left) →
-    (startSays limit v live working hold ≡ StartSays.started left) ↔ ((left ≡ inMemory limit (fresh v)) × (length live ≡ 6 * limit) × (length working ≡ 6 * limit) × (8 ≤ length hold))
+    (startSays limit v live working hold ≡ StartSays.started left) ↔ ((left ≡ inMemory limit (fresh v)) × (length live ≡ 6 * limit) × (length working ≡ 6 * limit) × (8 ≤ length hold) × (isLimit limit ≡ true))
 unfolding startSays
-start-exactly limit v live working hold left = (go (eqb (length live) (6 * limit)) (eqb (length working) (6 * limit)) (leb 8 (length hold)) refl refl refl, back)
+start-exactly limit v live working hold left = (go (isLimit limit) (eqb (length live) (6 * limit)) (eqb (length working) (6 * limit)) (leb 8 (length hold)) refl refl refl refl, back)
   where
-    go : (a b c : Bool) → eqb (length live) (6 * limit) ≡ a → eqb (length working) (6 * limit) ≡ b → leb 8 (length hold) ≡ c →
-        cond (a && (b && c)) (StartSays.started (inMemory limit (fresh v))) (StartSays.refusedStart 22 live working) ≡ StartSays.started left →
-        (left ≡ inMemory limit (fresh v)) × (length live ≡ 6 * limit) × (length working ≡ 6 * limit) × (8 ≤ length hold)
-    go true true true x y z q = let same : left ≡ inMemory limit (fresh v) = cc in (same, eqb-true _ _ x, eqb-true _ _ y, leb-true _ _ z)
-    go true true false x y z q = absurd (let o : _≡_ {A = ℕ} 0 1 = cc in omega arith)
-    go true false c x y z q = absurd (let o : _≡_ {A = ℕ} 0 1 = cc in omega arith)
-    go false b c x y z q = absurd (let o : _≡_ {A = ℕ} 0 1 = cc in omega arith)
+    go : (k a b c : Bool) → isLimit limit ≡ k → eqb (length live) (6 * limit) ≡ a → eqb (length working) (6 * limit) ≡ b → leb 8 (length hold) ≡ c →
+        cond (k && (a && (b && c))) (StartSays.started (inMemory limit (fresh v))) (StartSays.refusedStart 22 live working) ≡ StartSays.started left →
+        (left ≡ inMemory limit (fresh v)) × (length live ≡ 6 * limit) × (length working ≡ 6 * limit) × (8 ≤ length hold) × (isLimit limit ≡ true)
+    go true true true true w x y z q = let same : left ≡ inMemory limit (fresh v) = cc in (same, eqb-true _ _ x, eqb-true _ _ y, leb-true _ _ z, w)
+    go true true true false w x y z q = absurd (let o : _≡_ {A = ℕ} 0 1 = cc in omega arith)
+    go true true false c w x y z q = absurd (let o : _≡_ {A = ℕ} 0 1 = cc in omega arith)
+    go true false b c w x y z q = absurd (let o : _≡_ {A = ℕ} 0 1 = cc in omega arith)
+    go false a b c w x y z q = absurd (let o : _≡_ {A = ℕ} 0 1 = cc in omega arith)
 
-    back : (left ≡ inMemory limit (fresh v)) × (length live ≡ 6 * limit) × (length working ≡ 6 * limit) × (8 ≤ length hold) → startSays limit v live working hold ≡ StartSays.started left
+    back : (left ≡ inMemory limit (fresh v)) × (length live ≡ 6 * limit) × (length working ≡ 6 * limit) × (8 ≤ length hold) × (isLimit limit ≡ true) → startSays limit v live working hold ≡ StartSays.started left
     back h =
-        (λ i. cond (eq-eqb (length live) (6 * limit) (h .1) i && (eq-eqb (length working) (6 * limit) (h .2) i && le-leb 8 (length hold) (h .3) i)) (StartSays.started (inMemory limit (fresh v))) (StartSays.refusedStart 22 live working))
+        (λ i. cond (h .4 i && (eq-eqb (length live) (6 * limit) (h .1) i && (eq-eqb (length working) (6 * limit) (h .2) i && le-leb 8 (length hold) (h .3) i))) (StartSays.started (inMemory limit (fresh v))) (StartSays.refusedStart 22 live working))
         ∙ ap StartSays.started (sym (h .0))
 
 -- a refused ask changes neither receiver nor output
@@ -75,7 +78,7 @@ refused-query (Query.query pdu stage) r out k x e = go (encode inUse pdu [] out 
     go (Writing.written n) q e = absurd (let z : _≡_ {A = ℕ} 0 1 = cc in omega arith)
     go (Writing.refused k′ x′) q e = (refl, refused-keeps-output inUse pdu [] out k′ x′ q)
 
-module _ (limit : ℕ) (s : Session) (live working hold : List ℕ) where
+module _ (limit : ℕ) (s : Session) (live working : Rooms) (hold : List ℕ) where
   abbrev Keeps : AskSays → List ℕ → Type 0
   Keeps a out = (a .out ≡ out) × (a .left ≡ leaves s live working hold)
 
@@ -185,11 +188,17 @@ module _ (limit : ℕ) (s : Session) (live working hold : List ℕ) where
       omega (arith, k .spends, few (stageOf (s .phase)), m .updates-is)
 
   -- "A receiver has one version .. for its life"
-  pub version-stays : (piece : List ℕ) (taken updates : ℕ) (ending : Ending) (left : Left) → feedSays limit s live working hold piece ≡ FeedSays.fed taken updates ending left → left .version ≡ s .version
+  pub version-stays : (piece : List ℕ) (taken updates : ℕ) (ending : Ending) (left : Left) → feedSays limit s live working hold piece ≡ FeedSays.fed taken updates ending left → left .life .version ≡ s .life .version
   unfolding feed
   version-stays piece taken updates ending left e =
       let m = fed-means piece taken updates ending left e in
-      sym (ap (λ (l : Left). l .version) (m .left-is)) ∙ piece-keeps limit (length hold) piece (from (receiverOf s live working hold) 0 0) .version
+      sym (ap (λ (l : Left). l .life .version) (m .left-is)) ∙ piece-keeps limit (length hold) piece (from (receiverOf s live working hold) 0 0) .version
+
+  -- and one record limit
+  pub limit-stays : (piece : List ℕ) (taken updates : ℕ) (ending : Ending) (left : Left) → feedSays limit s live working hold piece ≡ FeedSays.fed taken updates ending left → left .life .limit ≡ s .life .limit
+  limit-stays piece taken updates ending left e =
+      let m = fed-means piece taken updates ending left e in
+      sym (ap (λ (l : Left). l .life .limit) (m .left-is)) ∙ sym (limit-is limit s live working hold (shape-of limit s live working hold (m .shape) .limited))
 
   -- ---- Stops
 
@@ -243,6 +252,10 @@ stop-clears limit H r piece on off = go (through limit H piece (from r 0 0) on)
     go (Through.whole t n) = absurd (let z : true ≡ false = sym t ∙ off in let o : _≡_ {A = ℕ} 0 1 = cc in omega arith)
     go (Through.stops k less before same n gone clear) = (k, less, n ∙ omega arith, before, same, clear)
 
+-- receiver shape speaks of the limit that the session holds
+pub limit-of-shape : (limit : ℕ) (s : Session) (live working : Rooms) (hold : List ℕ) → isReceiver limit s live working hold ≡ true → s .life .limit ≡ limit
+limit-of-shape = limit-of
+
 -- ---- Every call keeps receiver shape
 
 -- from any memory that has it
@@ -252,6 +265,7 @@ keeps-shape limit call m m′ e step =
     let stream = stream-has (m .hold) (m .session .held) (shape .stream) in
     let st : Stands limit (length (m .hold)) m (receiverOf (m .session) (m .live) (m .working) (m .hold)) =
     record {
+      known = second-of (eqb (m .session .life .limit) limit) (isLimit limit) (shape .limited);
       size = refl;
       least = stream .0;
       left = standing limit (m .session) (m .live) (m .working) (m .hold) e;
@@ -282,14 +296,22 @@ after-version limit H (Call.ask LoadKind.Change out) r = asked-version (changeQu
 after-version limit H Call.reconnect r = refl
 
 -- along a run it is the one that was started
-pub version-for-life : (limit H : ℕ) (v : RtrProtocolVersion) (calls : List Call) (m : Memory) → Run limit v H calls m → m .session .version ≡ v
-version-for-life limit H v calls m (Run.started m₀ live working size e) = ap (λ (l : Left). l .version) (start-exactly limit v live working (m₀ .hold) _ .0 (sym e) .0)
+pub version-for-life : (limit H : ℕ) (v : RtrProtocolVersion) (calls : List Call) (m : Memory) → Run limit v H calls m → m .session .life .version ≡ v
+version-for-life limit H v calls m (Run.started m₀ live working size e) = ap (λ (l : Left). l .life .version) (start-exactly limit v live working (m₀ .hold) _ .0 (sym e) .0)
 version-for-life limit H v calls m (Run.next {calls = before} {call = call} {m = m₀} run step) =
     let along = run-along limit H v before m₀ run in
-    ap (λ (l : Left). l .version) (step-stands limit H call m₀ m (along .receiver) (along .stands) step .left)
+    ap (λ (l : Left). l .life .version) (step-stands limit H call m₀ m (along .receiver) (along .stands) step .left)
     ∙ after-version limit H call (along .receiver)
-    ∙ sym (ap (λ (l : Left). l .version) (along .stands .left))
+    ∙ sym (ap (λ (l : Left). l .life .version) (along .stands .left))
     ∙ version-for-life limit H v before m₀ run
+
+-- and one record limit
+pub limit-for-life : (limit H : ℕ) (v : RtrProtocolVersion) (calls : List Call) (m : Memory) → Run limit v H calls m → m .session .life .limit ≡ limit
+limit-for-life limit H v calls m run = ap (λ (l : Left). l .life .limit) (run-along limit H v calls m run .stands .left)
+
+-- so a call that meets its promise, at the limit that the session holds, is the next step of the run
+pub next-step : (limit H : ℕ) (v : RtrProtocolVersion) (calls : List Call) (call : Call) (m m′ : Memory) → Run limit v H calls m → Step (m .session .life .limit) m call m′ → Run limit v H (calls ++ call ∷ []) m′
+next-step limit H v calls call m m′ run step = Run.next run (subst (λ (n : ℕ). Step n m call m′) (limit-for-life limit H v calls m run) step)
 
 -- ---- What a feed counts is what the history's page counts: the updates that have finished grow at their end by as many
 

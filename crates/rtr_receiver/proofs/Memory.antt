@@ -1,10 +1,11 @@
 -- A session record and lent memory of receiver shape are a receiver in memory: each room is the room of the records read from it, and as many are
--- read as the count says. Receiver shape is its four tests. A stop is always a refusal. Assumes nothing.
+-- read as the count says. Receiver shape is its five tests. A stop is always a refusal. Assumes nothing.
 use Prim.Native.Nat.{ℕ, _*_, _≤_}
 use mathlib.Core.Bool.{Bool, true, false, not, _&&_}
 use mathlib.Core.List.{List}
 use mathlib.Core.Path.{_≡_, refl, sym, ap, _∙_}
-use borrow.Author.Tests.{not-true, not-false}
+use borrow.Author.Tests.{not-true, not-false, eqb-true, eq-eqb}
+use lib.Dec.{eqb}
 use lib.ListN.{length}
 use lib.Seq.{length-take-le}
 use Rattle.rtr_codec.specs.Read.{Verdict}
@@ -18,10 +19,13 @@ use Rattle.rtr_room.specs.Table.{allInRule, ordered, isTable}
 use Rattle.rtr_room.specs.Room.{room, records, isRoom}
 use Rattle.rtr_room.proofs.Laws.{rules-exactly, records-of-room, room-length}
 use Rattle.rtr_room.proofs.Laws.Tests.{first-of, second-of, both, not-both, unless}
+use Rattle.rtr_receiver.specs.Contents.{Rooms}
 use Rattle.rtr_receiver.specs.Receiver.{Stage}
-use Rattle.rtr_receiver.specs.Promises.{Left, stopSaid, stageOf, receiverOf, inOrder, isReceiver, leaves, inMemory}
+use Rattle.rtr_receiver.specs.Promises.{Left, stopSaid, stageOf, receiverOf, inOrder, isLimit, hasLimit, isReceiver, leaves, inMemory}
 use Rattle.rtr_receiver.specs.declared.Stop.{Stop}
 use Rattle.rtr_receiver.specs.declared.Phase.{Phase}
+use Rattle.rtr_receiver.specs.declared.Life.{Life}
+use Rattle.rtr_receiver.specs.declared.Counts.{Counts}
 use Rattle.rtr_receiver.specs.declared.Session.{Session}
 
 -- ---- A test of the code, taken with `!`
@@ -57,10 +61,17 @@ room-size limit count s e =
 
 -- ---- What is left
 
+-- a life and counts are their fields
+pub with-limit : {a : Life} {n : ℕ} → a .limit ≡ n → a ≡ record { version = a .version; limit = n }
+with-limit {a} e = λ i. record { version = a .version; limit = e i }
+
+pub with-records : {a : Counts} {n : ℕ} → a .records ≡ n → a ≡ record { records = n }
+with-records e = λ i. record { records = e i }
+
 -- what is left is its ten fields
 pub left-alike
     : {a b : Left} →
-    a .version ≡ b .version →
+    a .life ≡ b .life →
     a .stage ≡ b .stage →
     a .table ≡ b .table →
     a .note ≡ b .note →
@@ -73,7 +84,7 @@ pub left-alike
     a ≡ b
 left-alike p0 p1 p2 p3 p4 p5 p6 p7 p8 p9 = λ i.
     record {
-      version = p0 i;
+      life = p0 i;
       stage = p1 i;
       table = p2 i;
       note = p3 i;
@@ -87,45 +98,59 @@ left-alike p0 p1 p2 p3 p4 p5 p6 p7 p8 p9 = λ i.
 
 -- ---- Receiver shape
 
-module _ (limit : ℕ) (s : Session) (live working hold : List ℕ) where
+module _ (limit : ℕ) (s : Session) (live working : Rooms) (hold : List ℕ) where
   -- rooms that keep the rules and no more held than the hold has: what is left is the receiver's memory
   pub rooms-stand
-      : isRoom limit (s .live) live ≡ true →
-      isRoom limit (s .working) working ≡ true →
+      : s .life .limit ≡ limit →
+      isRoom limit (s .live .records) live ≡ true →
+      isRoom limit (s .working .records) working ≡ true →
       s .held ≤ length hold →
       leaves s live working hold ≡ inMemory limit (receiverOf s live working hold)
-  rooms-stand l w h =
-      let a = room-stands limit (s .live) live l in
-      let b = room-stands limit (s .working) working w in
-      left-alike refl refl refl refl (sym (a .1)) (sym (b .1)) (sym (length-take-le (s .held) hold h)) (a .0) (b .0) refl
+  rooms-stand k l w h =
+      let a = room-stands limit (s .live .records) live l in
+      let b = room-stands limit (s .working .records) working w in
+      left-alike (with-limit k) refl refl refl (with-records (sym (a .1))) (with-records (sym (b .1))) (sym (length-take-le (s .held) hold h)) (a .0) (b .0) refl
+
+  -- the session's limit is the one that is spoken of
+  pub limit-is : hasLimit limit s ≡ true → s .life .limit ≡ limit
+  limit-is e = eqb-true (s .life .limit) limit (first-of (eqb (s .life .limit) limit) _ e)
 
   pub shape-of
       : isReceiver limit s live working hold ≡ true →
-      (isRoom limit (s .live) live ≡ true) × (isRoom limit (s .working) working ≡ true) × (isStream hold (s .held) ≡ true) × (inOrder s ≡ true)
+      (isRoom limit (s .live .records) live ≡ true) × (isRoom limit (s .working .records) working ≡ true) × (isStream hold (s .held) ≡ true) × (inOrder s ≡ true) × (hasLimit limit s ≡ true)
   unfolding isReceiver
   shape-of e =
-      let rest = second-of (isRoom limit (s .live) live) (isRoom limit (s .working) working && (isStream hold (s .held) && inOrder s)) e in
-      let last = second-of (isRoom limit (s .working) working) (isStream hold (s .held) && inOrder s) rest in (
-        first-of (isRoom limit (s .live) live) _ e,
-        first-of (isRoom limit (s .working) working) _ rest,
+      let all = second-of (hasLimit limit s) (isRoom limit (s .live .records) live && (isRoom limit (s .working .records) working && (isStream hold (s .held) && inOrder s))) e in
+      let rest = second-of (isRoom limit (s .live .records) live) (isRoom limit (s .working .records) working && (isStream hold (s .held) && inOrder s)) all in
+      let last = second-of (isRoom limit (s .working .records) working) (isStream hold (s .held) && inOrder s) rest in (
+        first-of (isRoom limit (s .live .records) live) _ all,
+        first-of (isRoom limit (s .working .records) working) _ rest,
         first-of (isStream hold (s .held)) (inOrder s) last,
         second-of (isStream hold (s .held)) (inOrder s) last,
+        first-of (hasLimit limit s) _ e,
       )
 
+  pub limit-of : isReceiver limit s live working hold ≡ true → s .life .limit ≡ limit
+  limit-of e = limit-is (shape-of e .4)
+
   pub shape-is
-      : isRoom limit (s .live) live ≡ true →
-      isRoom limit (s .working) working ≡ true →
+      : isRoom limit (s .live .records) live ≡ true →
+      isRoom limit (s .working .records) working ≡ true →
       isStream hold (s .held) ≡ true →
       inOrder s ≡ true →
+      hasLimit limit s ≡ true →
       isReceiver limit s live working hold ≡ true
   unfolding isReceiver
-  shape-is l w h o = both _ _ l (both _ _ w (both _ _ h o))
+  shape-is l w h o k = both _ _ k (both _ _ l (both _ _ w (both _ _ h o)))
 
-  -- where one of the four fails
-  pub not-shape-live : isRoom limit (s .live) live ≡ false → isReceiver limit s live working hold ≡ false
+  -- where one of the five fails
+  pub not-shape-limit : hasLimit limit s ≡ false → isReceiver limit s live working hold ≡ false
+  not-shape-limit e = unless _ (λ t. not-both _ (shape-of t .4) e)
+
+  pub not-shape-live : isRoom limit (s .live .records) live ≡ false → isReceiver limit s live working hold ≡ false
   not-shape-live e = unless _ (λ t. not-both _ (shape-of t .0) e)
 
-  pub not-shape-working : isRoom limit (s .working) working ≡ false → isReceiver limit s live working hold ≡ false
+  pub not-shape-working : isRoom limit (s .working .records) working ≡ false → isReceiver limit s live working hold ≡ false
   not-shape-working e = unless _ (λ t. not-both _ (shape-of t .1) e)
 
   pub not-shape-hold : isStream hold (s .held) ≡ false → isReceiver limit s live working hold ≡ false
@@ -134,22 +159,30 @@ module _ (limit : ℕ) (s : Session) (live working hold : List ℕ) where
   pub not-shape-order : inOrder s ≡ false → isReceiver limit s live working hold ≡ false
   not-shape-order e = unless _ (λ t. not-both _ (shape-of t .3) e)
 
-  -- with the other three the working room decides
+  -- with the other four the working room decides
   pub shape-by-working
-      : isRoom limit (s .live) live ≡ true →
+      : isRoom limit (s .live .records) live ≡ true →
       isStream hold (s .held) ≡ true →
       inOrder s ≡ true →
-      isReceiver limit s live working hold ≡ isRoom limit (s .working) working
-  shape-by-working l h o = go (isRoom limit (s .working) working) refl
+      hasLimit limit s ≡ true →
+      isReceiver limit s live working hold ≡ isRoom limit (s .working .records) working
+  shape-by-working l h o k = go (isRoom limit (s .working .records) working) refl
     where
-      go : (b : Bool) → isRoom limit (s .working) working ≡ b → isReceiver limit s live working hold ≡ b
-      go true e = shape-is l e h o
+      go : (b : Bool) → isRoom limit (s .working .records) working ≡ b → isReceiver limit s live working hold ≡ b
+      go true e = shape-is l e h o k
       go false e = not-shape-working e
 
   pub standing : isReceiver limit s live working hold ≡ true → leaves s live working hold ≡ inMemory limit (receiverOf s live working hold)
   standing e =
       let shape = shape-of e in
-      rooms-stand (shape .0) (shape .1) (stream-has hold (s .held) (shape .2) .1)
+      rooms-stand (limit-is (shape .4)) (shape .0) (shape .1) (stream-has hold (s .held) (shape .2) .1)
+
+-- a session's own limit
+pub own-limit : (s : Session) → isLimit (s .life .limit) ≡ true → hasLimit (s .life .limit) s ≡ true
+own-limit s e = both _ _ (eq-eqb (s .life .limit) (s .life .limit) refl) e
+
+pub own-limit-fails : (s : Session) → isLimit (s .life .limit) ≡ false → hasLimit (s .life .limit) s ≡ false
+own-limit-fails s e = unless _ (λ t. not-both _ (second-of (eqb (s .life .limit) (s .life .limit)) _ t) e)
 
 -- ---- Stops
 

@@ -23,6 +23,7 @@ use Rattle.rtr_models.specs.declared.RtrProtocolVersion.{RtrProtocolVersion}
 use Rattle.rtr_models.proofs.RtrPdu as pdu-enum
 use Rattle.rtr_room.specs.declared.Record.{Record}
 use Rattle.rtr_room.specs.Table.{ipv4Record, ipv6Record}
+use Rattle.rtr_receiver.specs.Contents.{Rooms}
 use Rattle.rtr_receiver.specs.Receiver.{Receiver, Deed, isDue, stop, onSerialNotify, onRecord, noUpdate, deedOf, onKind, ofVersion, onPdu, listens}
 use Rattle.rtr_receiver.specs.Promises.{receiverOf, leaves}
 use Rattle.rtr_receiver.specs.Private.{BothRooms, Stands, responseIn, recordIn, keyIn, resetIn, endIn, carriedBy, goesOnIn, afterPdu}
@@ -37,12 +38,12 @@ use Rattle.rtr_receiver.proofs.Deeds.{kept-stands}
 use Rattle.rtr_receiver.proofs.Turns.{notify-due, never-due, prefixes-alike}
 
 -- a Serial Notify changes the note alone
-pub notify-stands : (limit : ℕ) (s : Session) (live working : List ℕ) → BothRooms limit s live working → (id serial : ℕ) →
-    (q : Session) → q ≡ record { version = s .version; phase = s .phase; table = s .table; note = Note.Noted id serial; live = s .live; working = s .working; held = s .held } →
+pub notify-stands : (limit : ℕ) (s : Session) (live working : Rooms) → BothRooms limit s live working → (id serial : ℕ) →
+    (q : Session) → q ≡ record { life = s .life; phase = s .phase; table = s .table; note = Note.Noted id serial; live = s .live; working = s .working; held = s .held } →
     Stands limit q live working (onSerialNotify id serial (receiverOf s live working []))
 notify-stands limit s live working b id serial q f =
     ap (λ (x : Session). leaves x live working []) f
-    ∙ kept-stands limit s live working b (record { version = s .version; phase = s .phase; table = s .table; note = Note.Noted id serial; live = s .live; working = s .working; held = s .held }) refl refl refl
+    ∙ kept-stands limit s live working b (record { life = s .life; phase = s .phase; table = s .table; note = Note.Noted id serial; live = s .live; working = s .working; held = s .held }) refl refl refl refl
 
 -- no update either way
 no-update-either : (b : Bool) (x y : Receiver) → cond b (noUpdate x) (noUpdate y) ≡ noUpdate (cond b x y)

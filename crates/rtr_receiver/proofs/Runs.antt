@@ -19,7 +19,7 @@ use Rattle.rtr_stream.proofs.Laws.{nothing-waits, whole-is-read, stream-exactly
 use Rattle.rtr_room.proofs.Laws.{empty-table}
 use Rattle.rtr_receiver.specs.Receiver.{Stage, Receiver, Feed, fresh, holding, inStage, heard, listens, onByte, onPiece, feed, fullQuery, changeQuery, serialQuery, askedBy, ask, reconnected}
 use Rattle.rtr_receiver.specs.History.{Event, Update, Live, Place, noTable, withUpdates, tableOf, updated, finished, hasTable}
-use Rattle.rtr_receiver.specs.Promises.{Left, StartSays, AskSays, ReconnectSays, receiverOf, isReceiver, leaves, inMemory, fedTo, feedSays, fedSaidBy, startSays, startSaid, askedTo, fullAskSays, changeAskSays, reconnectSays}
+use Rattle.rtr_receiver.specs.Promises.{Left, StartSays, AskSays, ReconnectSays, receiverOf, isLimit, isReceiver, leaves, inMemory, fedTo, feedSays, fedSaidBy, startSays, startSaid, askedTo, fullAskSays, changeAskSays, reconnectSays}
 use Rattle.rtr_receiver.specs.Runs.{Call, Memory, Step, Run, bytes, historyOf, liveIn}
 use Rattle.rtr_receiver.specs.declared.LoadKind.{LoadKind}
 use Rattle.rtr_receiver.specs.declared.LiveTable.{LiveTable}
@@ -178,6 +178,7 @@ module _ (limit H : ℕ) where
 
   -- memory stands for a sound receiver at a place
   pub record Stands (m : Memory) (r : Receiver) : Type 0 where
+    pub known : isLimit limit ≡ true
     pub size : length (m .hold) ≡ H
     pub least : 8 ≤ H
     pub left : leaves (m .session) (m .live) (m .working) (m .hold) ≡ inMemory limit r
@@ -190,7 +191,7 @@ module _ (limit H : ℕ) where
       let count : m .session .held ≡ length (r .held) = ap (λ (x : Left). x .heldCount) (s .left) in
       let held : take (m .session .held) (m .hold) ≡ r .held = ap (λ (x : Left). x .held) (s .left) in
       shape-is limit (m .session) (m .live) (m .working) (m .hold)
-      (shape-of-good limit (m .session) (m .live) (m .working) (m .hold) r (s .sound .good) (s .left)
+      (shape-of-good limit (m .session) (m .live) (m .working) (m .hold) (s .known) r (s .sound .good) (s .left)
       (stream-exactly (m .hold) (m .session .held) (omega (arith, s .size, s .least)) (omega (arith, s .size))
       (ap (judge inUse (length (m .hold))) held ∙ ap (λ (h : ℕ). judge inUse h (r .held)) (s .size) ∙ s .sound .waits)))
 
@@ -237,6 +238,7 @@ module _ (limit H : ℕ) where
       let said = e ∙ feed-said m piece (in-shape st) in
       let left = fed-left done (leaves s live working hold) hold (feed limit (length (m .hold)) (receiverOf (m .session) (m .live) (m .working) (m .hold)) piece) said in
       record {
+        known = st .known;
         size = size ∙ st .size;
         least = st .least;
         left =
@@ -248,6 +250,7 @@ module _ (limit H : ℕ) where
   step-stands (Call.ask LoadKind.Full out) m m′ r st (Step.askedFull s answer out′ e) =
       let said = e ∙ full-said m out (in-shape st) in
       record {
+        known = st .known;
         size = st .size;
         least = st .least;
         left = ap (λ (x : AskSays). x .left) said ∙ ap (λ (x : Receiver). inMemory limit (ask (fullQuery (x .stage) x) x out .receiver)) (is-receiver st);
@@ -256,6 +259,7 @@ module _ (limit H : ℕ) where
   step-stands (Call.ask LoadKind.Change out) m m′ r st (Step.askedChange s answer out′ e) =
       let said = e ∙ change-said m out (in-shape st) in
       record {
+        known = st .known;
         size = st .size;
         least = st .least;
         left = ap (λ (x : AskSays). x .left) said ∙ ap (λ (x : Receiver). inMemory limit (ask (changeQuery (x .stage) x) x out .receiver)) (is-receiver st);
@@ -264,6 +268,7 @@ module _ (limit H : ℕ) where
   step-stands Call.reconnect m m′ r st (Step.connected s answer working e) =
       let said = e ∙ reconnect-said m (in-shape st) in
       record {
+        known = st .known;
         size = st .size;
         least = st .least;
         left = ap (λ (x : ReconnectSays). x .left) said ∙ ap (λ (x : Receiver). inMemory limit (reconnected x)) (is-receiver st);
@@ -293,17 +298,19 @@ module _ (limit H : ℕ) where
 
   start-along : (v : RtrProtocolVersion) (m : Memory) (live working : List ℕ) → length (m .hold) ≡ H → startSaid (StartAnswer.Started (m .session)) (m .live) (m .working) (m .hold) ≡ startSays limit v live working (m .hold) → Along v [] m
   unfolding startSays historyOf withUpdates
-  start-along v m live working size e = go (eqb (length live) (6 * limit)) (eqb (length working) (6 * limit)) (leb 8 (length (m .hold))) refl e
+  start-along v m live working size e = go (isLimit limit) (eqb (length live) (6 * limit)) (eqb (length working) (6 * limit)) (leb 8 (length (m .hold))) refl refl e
     where
-      go : (a b c : Bool) →
+      go : (k a b c : Bool) →
+          isLimit limit ≡ k →
           leb 8 (length (m .hold)) ≡ c →
-          StartSays.started (leaves (m .session) (m .live) (m .working) (m .hold)) ≡ cond (a && (b && c)) (StartSays.started (inMemory limit (fresh v))) (StartSays.refusedStart 22 live working) →
+          StartSays.started (leaves (m .session) (m .live) (m .working) (m .hold)) ≡ cond (k && (a && (b && c))) (StartSays.started (inMemory limit (fresh v))) (StartSays.refusedStart 22 live working) →
           Along v [] m
-      go true true true t q =
+      go true true true true w t q =
           record {
             receiver = fresh v;
             stands =
                 record {
+                  known = w;
                   size = size;
                   least = omega (arith, size, leb-true 8 (length (m .hold)) t);
                   left = cc;
@@ -311,9 +318,10 @@ module _ (limit H : ℕ) where
                 };
             way = record { place = Place.idle; at = At.at-idle refl; between = []; table = refl; to-come = λ es. refl };
           }
-      go true true false t q = absurd (let z : _≡_ {A = ℕ} 0 1 = cc in omega arith)
-      go true false c t q = absurd (let z : _≡_ {A = ℕ} 0 1 = cc in omega arith)
-      go false b c t q = absurd (let z : _≡_ {A = ℕ} 0 1 = cc in omega arith)
+      go true true true false w t q = absurd (let z : _≡_ {A = ℕ} 0 1 = cc in omega arith)
+      go true true false c w t q = absurd (let z : _≡_ {A = ℕ} 0 1 = cc in omega arith)
+      go true false b c w t q = absurd (let z : _≡_ {A = ℕ} 0 1 = cc in omega arith)
+      go false a b c w t q = absurd (let z : _≡_ {A = ℕ} 0 1 = cc in omega arith)
 
   -- one call more
   step-along : (v : RtrProtocolVersion) (calls : List Call) (call : Call) (m m′ : Memory) → Along v calls m → Step limit m call m′ → Along v (calls ++ call ∷ []) m′

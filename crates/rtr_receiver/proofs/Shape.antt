@@ -15,12 +15,13 @@ use Rattle.rtr_stream.proofs.Laws.{stream-has, stream-exactly}
 use Rattle.rtr_room.specs.Room.{isRoom}
 use Rattle.rtr_room.proofs.Laws.{rules-exactly}
 use Rattle.rtr_room.proofs.Laws.Tests.{first-of, second-of, not-both, unless}
+use Rattle.rtr_receiver.specs.Contents.{Rooms}
 use Rattle.rtr_receiver.specs.History.{hasTable}
-use Rattle.rtr_receiver.specs.Promises.{changeUnderWay, isLoading, isStopped, inOrder, isReceiver, BreaksRules, Reason}
-use Rattle.rtr_receiver.specs.Promises.Reason.{liveSize, workingSize, holdSize, liveOver, workingOver, heldOver, liveRules, workingRules, recordsWithoutTable, changeWithoutTable, workingOutsideLoading, heldInStopped, heldPdu, heldRefusal}
+use Rattle.rtr_receiver.specs.Promises.{changeUnderWay, isLoading, isStopped, inOrder, hasLimit, isReceiver, BreaksRules, Reason}
+use Rattle.rtr_receiver.specs.Promises.Reason.{liveSize, workingSize, holdSize, liveOver, workingOver, heldOver, liveRules, workingRules, recordsWithoutTable, changeWithoutTable, workingOutsideLoading, heldInStopped, heldPdu, heldRefusal, otherLimit}
 use Rattle.rtr_receiver.specs.declared.LiveTable.{LiveTable}
 use Rattle.rtr_receiver.specs.declared.Session.{Session}
-use Rattle.rtr_receiver.proofs.Memory.{room-size, shape-is, not-shape-live, not-shape-working, not-shape-hold, not-shape-order}
+use Rattle.rtr_receiver.proofs.Memory.{room-size, shape-is, not-shape-limit, not-shape-live, not-shape-working, not-shape-hold, not-shape-order}
 
 -- ---- Tests
 
@@ -63,35 +64,35 @@ room-keeps limit count s e breaks = let r = rules-exactly limit count s .0 e in 
 
 -- what a session in order has
 record InOrder (s : Session) : Type 0 where
-  pub records : s .table ≡ LiveTable.NoTable → s .live ≡ 0
+  pub records : s .table ≡ LiveTable.NoTable → s .live .records ≡ 0
   pub change : s .table ≡ LiveTable.NoTable → changeUnderWay (s .phase) ≡ false
-  pub working : isLoading (s .phase) ≡ false → s .working ≡ 0
+  pub working : isLoading (s .phase) ≡ false → s .working .records ≡ 0
   pub held : isStopped (s .phase) ≡ true → s .held ≡ 0
 
 order-has : (s : Session) → inOrder s ≡ true → InOrder s
 order-has s e =
-    let table = first-of (hasTable (s .table) || (eqb (s .live) 0 && not (changeUnderWay (s .phase)))) _ e in
-    let rest = second-of (hasTable (s .table) || (eqb (s .live) 0 && not (changeUnderWay (s .phase)))) _ e in
+    let table = first-of (hasTable (s .table) || (eqb (s .live .records) 0 && not (changeUnderWay (s .phase)))) _ e in
+    let rest = second-of (hasTable (s .table) || (eqb (s .live .records) 0 && not (changeUnderWay (s .phase)))) _ e in
     record {
-      records = λ t. eqb-true (s .live) 0 (first-of _ _ (or-other (hasTable (s .table)) _ table (ap hasTable t)));
-      change = λ t. not-true _ (second-of (eqb (s .live) 0) _ (or-other (hasTable (s .table)) _ table (ap hasTable t)));
-      working = λ l. eqb-true (s .working) 0 (or-other (isLoading (s .phase)) _ (first-of (isLoading (s .phase) || eqb (s .working) 0) _ rest) l);
-      held = λ l. eqb-true (s .held) 0 (or-other (not (isStopped (s .phase))) _ (second-of (isLoading (s .phase) || eqb (s .working) 0) _ rest) (ap not l));
+      records = λ t. eqb-true (s .live .records) 0 (first-of _ _ (or-other (hasTable (s .table)) _ table (ap hasTable t)));
+      change = λ t. not-true _ (second-of (eqb (s .live .records) 0) _ (or-other (hasTable (s .table)) _ table (ap hasTable t)));
+      working = λ l. eqb-true (s .working .records) 0 (or-other (isLoading (s .phase)) _ (first-of (isLoading (s .phase) || eqb (s .working .records) 0) _ rest) l);
+      held = λ l. eqb-true (s .held) 0 (or-other (not (isStopped (s .phase))) _ (second-of (isLoading (s .phase) || eqb (s .working .records) 0) _ rest) (ap not l));
     }
 
-module _ (limit : ℕ) (s : Session) (live working hold : List ℕ) where
-  by-live : isRoom limit (s .live) live ≡ false → Reason limit s live working hold
-  by-live e = go (room-fails limit (s .live) live e)
+module _ (limit : ℕ) (s : Session) (live working : Rooms) (hold : List ℕ) where
+  by-live : isRoom limit (s .live .records) live ≡ false → Reason limit s live working hold
+  by-live e = go (room-fails limit (s .live .records) live e)
     where
-      go : (length live ≡ 6 * limit → ⊥) ⊎ ((limit < s .live) ⊎ BreaksRules limit (s .live) live) → Reason limit s live working hold
+      go : (length live ≡ 6 * limit → ⊥) ⊎ ((limit < s .live .records) ⊎ BreaksRules limit (s .live .records) live) → Reason limit s live working hold
       go (inl h) = liveSize h
       go (inr (inl h)) = liveOver h
       go (inr (inr h)) = liveRules h
 
-  by-working : isRoom limit (s .working) working ≡ false → Reason limit s live working hold
-  by-working e = go (room-fails limit (s .working) working e)
+  by-working : isRoom limit (s .working .records) working ≡ false → Reason limit s live working hold
+  by-working e = go (room-fails limit (s .working .records) working e)
     where
-      go : (length working ≡ 6 * limit → ⊥) ⊎ ((limit < s .working) ⊎ BreaksRules limit (s .working) working) → Reason limit s live working hold
+      go : (length working ≡ 6 * limit → ⊥) ⊎ ((limit < s .working .records) ⊎ BreaksRules limit (s .working .records) working) → Reason limit s live working hold
       go (inl h) = workingSize h
       go (inr (inl h)) = workingOver h
       go (inr (inr h)) = workingRules h
@@ -113,45 +114,49 @@ module _ (limit : ℕ) (s : Session) (live working hold : List ℕ) where
       bySize true q = byCount (leb-true 8 (length hold) q) (leb (s .held) (length hold)) refl
 
   by-order : inOrder s ≡ false → Reason limit s live working hold
-  by-order e = go (and-fails (hasTable (s .table) || (eqb (s .live) 0 && not (changeUnderWay (s .phase)))) _ e)
+  by-order e = go (and-fails (hasTable (s .table) || (eqb (s .live .records) 0 && not (changeUnderWay (s .phase)))) _ e)
     where
-      table : s .table ≡ LiveTable.NoTable → (eqb (s .live) 0 ≡ false) ⊎ (not (changeUnderWay (s .phase)) ≡ false) → Reason limit s live working hold
-      table t (inl q) = recordsWithoutTable t (above-zero (s .live) q)
+      table : s .table ≡ LiveTable.NoTable → (eqb (s .live .records) 0 ≡ false) ⊎ (not (changeUnderWay (s .phase)) ≡ false) → Reason limit s live working hold
+      table t (inl q) = recordsWithoutTable t (above-zero (s .live .records) q)
       table t (inr q) = changeWithoutTable t (not-false _ q)
 
-      rest : ((isLoading (s .phase) || eqb (s .working) 0) ≡ false) ⊎ ((not (isStopped (s .phase)) || eqb (s .held) 0) ≡ false) → Reason limit s live working hold
-      rest (inl q) = let r = or-fails (isLoading (s .phase)) _ q in workingOutsideLoading (r .0) (above-zero (s .working) (r .1))
+      rest : ((isLoading (s .phase) || eqb (s .working .records) 0) ≡ false) ⊎ ((not (isStopped (s .phase)) || eqb (s .held) 0) ≡ false) → Reason limit s live working hold
+      rest (inl q) = let r = or-fails (isLoading (s .phase)) _ q in workingOutsideLoading (r .0) (above-zero (s .working .records) (r .1))
       rest (inr q) = let r = or-fails (not (isStopped (s .phase))) _ q in heldInStopped (not-false _ (r .0)) (above-zero (s .held) (r .1))
 
-      go : ((hasTable (s .table) || (eqb (s .live) 0 && not (changeUnderWay (s .phase)))) ≡ false)
-          ⊎ (((isLoading (s .phase) || eqb (s .working) 0) && (not (isStopped (s .phase)) || eqb (s .held) 0)) ≡ false) →
+      go : ((hasTable (s .table) || (eqb (s .live .records) 0 && not (changeUnderWay (s .phase)))) ≡ false)
+          ⊎ (((isLoading (s .phase) || eqb (s .working .records) 0) && (not (isStopped (s .phase)) || eqb (s .held) 0)) ≡ false) →
           Reason limit s live working hold
-      go (inl q) = let r = or-fails (hasTable (s .table)) _ q in table (no-table (s .table) (r .0)) (and-fails (eqb (s .live) 0) _ (r .1))
-      go (inr q) = rest (and-fails (isLoading (s .phase) || eqb (s .working) 0) _ q)
+      go (inl q) = let r = or-fails (hasTable (s .table)) _ q in table (no-table (s .table) (r .0)) (and-fails (eqb (s .live .records) 0) _ (r .1))
+      go (inr q) = rest (and-fails (isLoading (s .phase) || eqb (s .working .records) 0) _ q)
 
   reason-of : isReceiver limit s live working hold ≡ false → Reason limit s live working hold
-  reason-of e = live-test (isRoom limit (s .live) live) refl
+  reason-of e = limit-test (hasLimit limit s) refl
     where
-      order-test : isRoom limit (s .live) live ≡ true → isRoom limit (s .working) working ≡ true → isStream hold (s .held) ≡ true → (b : Bool) → inOrder s ≡ b → Reason limit s live working hold
-      order-test l w h false o = by-order o
-      order-test l w h true o = absurd (not-both _ (shape-is limit s live working hold l w h o) e)
+      order-test : hasLimit limit s ≡ true → isRoom limit (s .live .records) live ≡ true → isRoom limit (s .working .records) working ≡ true → isStream hold (s .held) ≡ true → (b : Bool) → inOrder s ≡ b → Reason limit s live working hold
+      order-test k l w h false o = by-order o
+      order-test k l w h true o = absurd (not-both _ (shape-is limit s live working hold l w h o k) e)
 
-      hold-test : isRoom limit (s .live) live ≡ true → isRoom limit (s .working) working ≡ true → (b : Bool) → isStream hold (s .held) ≡ b → Reason limit s live working hold
-      hold-test l w false h = by-hold h
-      hold-test l w true h = order-test l w h (inOrder s) refl
+      hold-test : hasLimit limit s ≡ true → isRoom limit (s .live .records) live ≡ true → isRoom limit (s .working .records) working ≡ true → (b : Bool) → isStream hold (s .held) ≡ b → Reason limit s live working hold
+      hold-test k l w false h = by-hold h
+      hold-test k l w true h = order-test k l w h (inOrder s) refl
 
-      working-test : isRoom limit (s .live) live ≡ true → (b : Bool) → isRoom limit (s .working) working ≡ b → Reason limit s live working hold
-      working-test l false w = by-working w
-      working-test l true w = hold-test l w (isStream hold (s .held)) refl
+      working-test : hasLimit limit s ≡ true → isRoom limit (s .live .records) live ≡ true → (b : Bool) → isRoom limit (s .working .records) working ≡ b → Reason limit s live working hold
+      working-test k l false w = by-working w
+      working-test k l true w = hold-test k l w (isStream hold (s .held)) refl
 
-      live-test : (b : Bool) → isRoom limit (s .live) live ≡ b → Reason limit s live working hold
-      live-test false l = by-live l
-      live-test true l = working-test l (isRoom limit (s .working) working) refl
+      live-test : hasLimit limit s ≡ true → (b : Bool) → isRoom limit (s .live .records) live ≡ b → Reason limit s live working hold
+      live-test k false l = by-live l
+      live-test k true l = working-test k l (isRoom limit (s .working .records) working) refl
 
-  not-live : (isRoom limit (s .live) live ≡ true → ⊥) → isReceiver limit s live working hold ≡ false
+      limit-test : (b : Bool) → hasLimit limit s ≡ b → Reason limit s live working hold
+      limit-test false k = otherLimit k
+      limit-test true k = live-test k (isRoom limit (s .live .records) live) refl
+
+  not-live : (isRoom limit (s .live .records) live ≡ true → ⊥) → isReceiver limit s live working hold ≡ false
   not-live h = not-shape-live limit s live working hold (unless _ h)
 
-  not-working : (isRoom limit (s .working) working ≡ true → ⊥) → isReceiver limit s live working hold ≡ false
+  not-working : (isRoom limit (s .working .records) working ≡ true → ⊥) → isReceiver limit s live working hold ≡ false
   not-working h = not-shape-working limit s live working hold (unless _ h)
 
   not-hold : (isStream hold (s .held) ≡ true → ⊥) → isReceiver limit s live working hold ≡ false
@@ -165,14 +170,15 @@ module _ (limit : ℕ) (s : Session) (live working hold : List ℕ) where
   judged-other h differs e = not-hold (λ t. differs (sym (stream-has hold (s .held) t .2) ∙ e))
 
   by-reason : Reason limit s live working hold → isReceiver limit s live working hold ≡ false
-  by-reason (liveSize h) = not-live (λ t. h (room-size limit (s .live) live t .0))
-  by-reason (workingSize h) = not-working (λ t. h (room-size limit (s .working) working t .0))
+  by-reason (otherLimit h) = not-shape-limit limit s live working hold h
+  by-reason (liveSize h) = not-live (λ t. h (room-size limit (s .live .records) live t .0))
+  by-reason (workingSize h) = not-working (λ t. h (room-size limit (s .working .records) working t .0))
   by-reason (holdSize h) = not-hold (λ t. omega (arith, stream-has hold (s .held) t .0))
-  by-reason (liveOver h) = not-live (λ t. omega (arith, room-size limit (s .live) live t .1))
-  by-reason (workingOver h) = not-working (λ t. omega (arith, room-size limit (s .working) working t .1))
+  by-reason (liveOver h) = not-live (λ t. omega (arith, room-size limit (s .live .records) live t .1))
+  by-reason (workingOver h) = not-working (λ t. omega (arith, room-size limit (s .working .records) working t .1))
   by-reason (heldOver h) = not-hold (λ t. omega (arith, stream-has hold (s .held) t .1))
-  by-reason (liveRules h) = not-live (λ t. room-keeps limit (s .live) live t h)
-  by-reason (workingRules h) = not-working (λ t. room-keeps limit (s .working) working t h)
+  by-reason (liveRules h) = not-live (λ t. room-keeps limit (s .live .records) live t h)
+  by-reason (workingRules h) = not-working (λ t. room-keeps limit (s .working .records) working t h)
   by-reason (recordsWithoutTable t h) = not-order (λ o. omega (arith, o .records t))
   by-reason (changeWithoutTable t h) = not-order (λ o. not-both _ h (o .change t))
   by-reason (workingOutsideLoading l h) = not-order (λ o. omega (arith, o .working l))

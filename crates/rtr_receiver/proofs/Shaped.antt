@@ -16,9 +16,10 @@ use Rattle.rtr_encode.proofs.Laws.{reset-query-says, serial-query-says}
 use Rattle.rtr_stream.specs.declared.StreamError.{StreamError}
 use Rattle.rtr_stream.proofs.Laws.{stream-alike}
 use Rattle.rtr_room.specs.Room.{records, isRoom}
+use Rattle.rtr_receiver.specs.Contents.{Rooms}
 use Rattle.rtr_receiver.specs.Receiver.{Stage, Receiver, Query, feed, fullQuery, serialQuery, changeQuery, askedBy, ask, reconnected, notified}
 use Rattle.rtr_receiver.specs.Receiver.Stage.{idle, mustReset, askedFull, askedChange, loading, stopped}
-use Rattle.rtr_receiver.specs.Promises.{Left, Ending, FeedSays, AskSays, NotifySays, stageOf, inOrder, isReceiver, receiverOf, leaves, inMemory, fedTo, feedSays, askedTo, askSays, fullAskSays, changeAskSays, reconnectSays, notifySays}
+use Rattle.rtr_receiver.specs.Promises.{Left, Ending, FeedSays, AskSays, NotifySays, stageOf, inOrder, hasLimit, isReceiver, receiverOf, leaves, inMemory, fedTo, feedSays, askedTo, askSays, fullAskSays, changeAskSays, reconnectSays, notifySays}
 use Rattle.rtr_receiver.specs.declared.Stop.{Stop}
 use Rattle.rtr_receiver.specs.declared.Phase.{Phase}
 use Rattle.rtr_receiver.specs.declared.LiveTable.{LiveTable}
@@ -28,7 +29,7 @@ use Rattle.rtr_receiver.proofs.Laws.{fed-means, stops-are, stop-repeats
 
 -- ---- Without receiver shape: 22, and everything is kept
 
-module _ (limit : ℕ) (s : Session) (live working hold : List ℕ) (e : isReceiver limit s live working hold ≡ false) where
+module _ (limit : ℕ) (s : Session) (live working : Rooms) (hold : List ℕ) (e : isReceiver limit s live working hold ≡ false) where
   -- an ask's refusal by 22, with the output and the memory as they were
   abbrev refusedAsk : List ℕ → AskSays
   refusedAsk out = record { says = Writing.refused 22 []; out = out; left = leaves s live working hold }
@@ -55,7 +56,7 @@ module _ (limit : ℕ) (s : Session) (live working hold : List ℕ) (e : isRecei
 
 -- ---- With it: the receiver's step
 
-module _ (limit : ℕ) (s : Session) (live working hold : List ℕ) (e : isReceiver limit s live working hold ≡ true) where
+module _ (limit : ℕ) (s : Session) (live working : Rooms) (hold : List ℕ) (e : isReceiver limit s live working hold ≡ true) where
   -- the receiver that asks
   abbrev here : Receiver
   here = receiverOf s live working hold
@@ -143,7 +144,7 @@ module _ (r : Receiver) (out : List ℕ) where
   change-never-22 (loading kind session) q = omega arith
   change-never-22 (stopped k x) q = omega arith
 
-module _ (limit : ℕ) (s : Session) (live working hold : List ℕ) where
+module _ (limit : ℕ) (s : Session) (live working : Rooms) (hold : List ℕ) where
   -- no feed stops by 22
   pub stops-not-22 : (piece : List ℕ) (taken updates k : ℕ) (x : List ℕ) (left : Left) → feedSays limit s live working hold piece ≡ FeedSays.fed taken updates (Ending.stops k x) left → k ≡ 22 → ⊥
   stops-not-22 piece taken updates k x left e q = go (phase-stops (s .phase))
@@ -180,11 +181,11 @@ module _ (limit : ℕ) (s : Session) (live working hold hold′ : List ℕ) (siz
   -- shape goes by the stream's test
   pub shape-alike : isReceiver limit s live working hold ≡ isReceiver limit s live working hold′
   unfolding isReceiver
-  shape-alike = ap (λ (b : Bool). isRoom limit (s .live) live && (isRoom limit (s .working) working && (b && inOrder s))) (stream-alike hold hold′ (s .held) size same)
+  shape-alike = ap (λ (b : Bool). hasLimit limit s && (isRoom limit (s .live .records) live && (isRoom limit (s .working .records) working && (b && inOrder s)))) (stream-alike hold hold′ (s .held) size same)
 
   -- where there is receiver shape: a refused feed leaves the whole hold
   pub feed-alike : (piece : List ℕ) → isReceiver limit s live working hold ≡ true → feedSays limit s live working hold piece ≡ feedSays limit s live working hold′ piece
   feed-alike piece e =
       shaped-feed limit s live working hold e piece
-      ∙ (λ i. fedTo limit (feed limit (size i) (record { version = s .version; stage = stageOf (s .phase); table = s .table; note = s .note; live = records (s .live) live; working = records (s .working) working; held = same i }) piece))
+      ∙ (λ i. fedTo limit (feed limit (size i) (record { version = s .life .version; stage = stageOf (s .phase); table = s .table; note = s .note; live = records (s .live .records) live; working = records (s .working .records) working; held = same i }) piece))
       ∙ sym (shaped-feed limit s live working hold′ (sym shape-alike ∙ e) piece)

@@ -7,6 +7,7 @@ use mathlib.Core.Path.{_≡_, refl, sym, ap, _∙_}
 use native.Mathlib.Omega.{arith}
 use denote.Enum.Declared.{tagOf}
 use types.Run.{OneOf, miss}
+use lib.Dec.{eqb}
 use lib.ListN.{length, take, drop, replicate, length-drop}
 use lib.Seq.{take-nil, drop-drop}
 use Rattle.rtr_models.specs.declared.RtrPdu.{RtrPdu}
@@ -22,9 +23,10 @@ use Rattle.rtr_stream.proofs.Told.{more-told, stop-told, pdu-told, never-told}
 use Rattle.rtr_stream.proofs.Laws.{stream-has, stream-exactly, search-is, search-takes, search-moves, found-is-read, nothing-waits}
 use Rattle.rtr_room.specs.Room.{room, records}
 use Rattle.rtr_room.proofs.Laws.{empty-is}
+use Rattle.rtr_receiver.specs.Contents.{Rooms}
 use Rattle.rtr_receiver.specs.Receiver.{Stage, Receiver, Deed, holding, stop, listens, onPdu, onPiece, feed}
 use Rattle.rtr_receiver.specs.Receiver.Stage.{idle, mustReset, askedFull, askedChange, loading, stopped}
-use Rattle.rtr_receiver.specs.Promises.{Ending, FeedSays, stopSaid, stoppedBy, stageOf, receiverOf, isReceiver, endingOf, Left, leaves, inMemory, fedTo, feedSays, fedSaidBy}
+use Rattle.rtr_receiver.specs.Promises.{Ending, FeedSays, stopSaid, stoppedBy, stageOf, receiverOf, isLimit, isReceiver, endingOf, Left, leaves, inMemory, fedTo, feedSays, fedSaidBy}
 use Rattle.rtr_receiver.specs.Private.{Did, feedHere, SteppedTo, stoppedSession, goesOnIn}
 use Rattle.rtr_receiver.specs.declared.Stop.{Stop}
 use Rattle.rtr_receiver.specs.declared.Phase.{Phase}
@@ -34,8 +36,9 @@ use Rattle.rtr_receiver.specs.declared.DeedDone.{DeedDone}
 use Rattle.rtr_receiver.proofs.Phase as phase-enum
 use Rattle.rtr_receiver.proofs.Feeds.{from, stopped-takes-none, fed-more, fed-pdu, fed-stop}
 use Rattle.rtr_receiver.proofs.Good.{Good, pdu-good}
+use Rattle.rtr_room.proofs.Laws.Tests.{second-of}
 use Rattle.rtr_receiver.proofs.Steps.{Shape, shape-is, good-of, shape-of-good, stands-for, stopped-stage}
-use Rattle.rtr_receiver.proofs.Memory.{room-stands, room-size, left-alike, standing, stop-says}
+use Rattle.rtr_receiver.proofs.Memory.{room-stands, room-size, with-limit, with-records, left-alike, limit-is, standing, stop-says}
 
 -- a receiver that listens has no stop to tell
 goes-on : (stage : Stage) → listens stage ≡ true → endingOf stage ≡ Ending.goesOn
@@ -46,7 +49,7 @@ goes-on askedChange e = refl
 goes-on (loading kind session) e = refl
 goes-on (stopped k x) e = absurd (let z : _≡_ {A = ℕ} 0 1 = cc in omega arith)
 
-module _ (limit : ℕ) (s : Session) (live working hold piece : List ℕ) (at updates : ℕ) (shape : Shape limit s live working hold) (on : listens (stageOf (s .phase)) ≡ true) where
+module _ (limit : ℕ) (s : Session) (live working : Rooms) (hold piece : List ℕ) (at updates : ℕ) (shape : Shape limit s live working hold) (on : listens (stageOf (s .phase)) ≡ true) where
   abbrev here : Receiver
   here = receiverOf s live working hold
 
@@ -69,27 +72,30 @@ module _ (limit : ℕ) (s : Session) (live working hold piece : List ℕ) (at up
     held-is : take (r .stream .held) hold′ ≡ ended .held
     held-is = ap (λ (o : Outcome). o .held) outcome
 
-    live-is : live ≡ room limit (records (s .live) live)
-    live-is = room-stands limit (s .live) live (shape .live-room) .0
+    limited : s .life ≡ record { version = s .life .version; limit = limit }
+    limited = with-limit (limit-is limit s live working hold (shape .limited))
 
-    live-long : s .live ≡ length (records (s .live) live)
-    live-long = sym (room-stands limit (s .live) live (shape .live-room) .1)
+    live-is : live ≡ room limit (records (s .live .records) live)
+    live-is = room-stands limit (s .live .records) live (shape .live-room) .0
 
-    working-is : working ≡ room limit (records (s .working) working)
-    working-is = room-stands limit (s .working) working (shape .working-room) .0
+    live-long : s .live .records ≡ length (records (s .live .records) live)
+    live-long = sym (room-stands limit (s .live .records) live (shape .live-room) .1)
 
-    working-long : s .working ≡ length (records (s .working) working)
-    working-long = sym (room-stands limit (s .working) working (shape .working-room) .1)
+    working-is : working ≡ room limit (records (s .working .records) working)
+    working-is = room-stands limit (s .working .records) working (shape .working-room) .0
+
+    working-long : s .working .records ≡ length (records (s .working .records) working)
+    working-long = sym (room-stands limit (s .working .records) working (shape .working-room) .1)
 
     -- zeros all over are the empty working table
     zeros : replicate (length working) 0 ≡ room limit []
     zeros =
-        ap (λ (n : ℕ). replicate n 0) (room-size limit (s .working) working (shape .working-room) .0) ∙ empty-is limit .0
+        ap (λ (n : ℕ). replicate n 0) (room-size limit (s .working .records) working (shape .working-room) .0) ∙ empty-is limit .0
 
     pub step-more
         : r .answer ≡ StreamAnswer.More →
         fedSaidBy FeedAnswer.GoesOn (r .next) updates
-        (leaves (record { version = s .version; phase = s .phase; table = s .table; note = s .note; live = s .live; working = s .working; held = r .stream .held }) live working hold′)
+        (leaves (record { life = s .life; phase = s .phase; table = s .table; note = s .note; live = s .live; working = s .working; held = r .stream .held }) live working hold′)
         hold′
         ≡ fedTo limit (feedHere limit s live working hold piece at updates)
     step-more a =
@@ -97,7 +103,7 @@ module _ (limit : ℕ) (s : Session) (live working hold piece : List ℕ) (at up
         let fed : feedHere limit s live working hold piece at updates ≡ from (holding (ended .held) here) (ended .next) updates =
         fed-more limit (length hold) here updates on (drop at piece) at (take (s .held) hold) end in
         let on-goes : Ending.goesOn ≡ endingOf (stageOf (s .phase)) = sym (goes-on (stageOf (s .phase)) on) in
-        let left = left-alike {b = inMemory limit (holding (ended .held) here)} refl refl refl refl live-long working-long count-is live-is working-is held-is in
+        let left = left-alike {b = inMemory limit (holding (ended .held) here)} limited refl refl refl (with-records live-long) (with-records working-long) count-is live-is working-is held-is in
         (λ i. FeedSays.fed (next-is i) updates (on-goes i) (left i)) ∙ sym (ap (fedTo limit) fed)
 
     pub step-never : r .answer ≡ StreamAnswer.NotAStream → ⊥
@@ -119,7 +125,7 @@ module _ (limit : ℕ) (s : Session) (live working hold piece : List ℕ) (at up
         let fed : feedHere limit s live working hold piece at updates ≡ from (stop k x here) (ended .next) updates =
         fed-stop limit (length hold) here updates on (drop at piece) at (take (s .held) hold) k x end in
         let stage : stoppedBy (streamRefusal error) ≡ stopped k x = ap stoppedBy (told .2) in
-        let left = left-alike {a = leaves (stoppedSession s (Stop.Stream error)) live working′ hold′} {b = inMemory limit (stop k x here)} refl stage refl refl live-long refl refl live-is (emptied ∙ zeros) refl in
+        let left = left-alike {a = leaves (stoppedSession s (Stop.Stream error)) live working′ hold′} {b = inMemory limit (stop k x here)} limited stage refl refl (with-records live-long) refl refl live-is (emptied ∙ zeros) refl in
         ap (λ (y : Session). fedSaidBy (FeedAnswer.Stopped (Stop.Stream error)) (r .next) updates (leaves y live working′ hold′) hold′) stopping
         ∙ (λ i. FeedSays.fed (next-is i) updates (endingOf (stage i)) (left i))
         ∙ sym (ap (fedTo limit) fed)
@@ -191,7 +197,7 @@ module _ (limit : ℕ) (s : Session) (live working hold piece : List ℕ) (at up
 
           left : leaves (d .session) live′ working′ hold′ ≡ inMemory limit (deed .then)
           left =
-              left-alike (ap (λ (x : Left). x .version) (did .0)) (ap (λ (x : Left). x .stage) (did .0)) (ap (λ (x : Left). x .table) (did .0)) (ap (λ (x : Left). x .note) (did .0))
+              left-alike (ap (λ (x : Left). x .life) (did .0)) (ap (λ (x : Left). x .stage) (did .0)) (ap (λ (x : Left). x .table) (did .0)) (ap (λ (x : Left). x .note) (did .0))
               (ap (λ (x : Left). x .liveCount) (did .0)) (ap (λ (x : Left). x .workingCount) (did .0)) (ap (λ (x : Left). x .heldCount) (did .0))
               (ap (λ (x : Left). x .live) (did .0)) (ap (λ (x : Left). x .working) (did .0)) (ap (λ (n : ℕ). take n hold′) held-zero ∙ sym held-none)
 
@@ -227,7 +233,7 @@ module _ (limit : ℕ) (s : Session) (live working hold piece : List ℕ) (at up
               let stream : isStream hold′ (d .session .held) ≡ true =
               stream-exactly hold′ (d .session .held) (omega (arith, has .0)) (omega (arith, held-zero))
               (ap (λ (x : List ℕ). judge inUse (length hold′) x) waits-now ∙ nothing-waits inUse (length hold′)) in (
-                shape-is limit (d .session) live′ working′ hold′ (shape-of-good limit (d .session) live′ working′ hold′ (deed .then) (good .0) left stream),
+                shape-is limit (d .session) live′ working′ hold′ (shape-of-good limit (d .session) live′ working′ hold′ (second-of (eqb (s .life .limit) limit) (isLimit limit) (shape .limited)) (deed .then) (good .0) left stream),
                 listening,
                 omega (arith, next-is),
                 omega (arith, next-is, takes .1, length-drop at piece),
@@ -248,7 +254,7 @@ module _ (limit : ℕ) (s : Session) (live working hold piece : List ℕ) (at up
 
 -- ---- the whole feed
 
-module _ (limit : ℕ) (s : Session) (live working hold piece : List ℕ) where
+module _ (limit : ℕ) (s : Session) (live working : Rooms) (hold piece : List ℕ) where
   pub feed-refused : isReceiver limit s live working hold ≡ false → FeedSays.refusedFeed 22 0 0 (leaves s live working hold) hold ≡ feedSays limit s live working hold piece
   unfolding feedSays
   feed-refused e = simp e

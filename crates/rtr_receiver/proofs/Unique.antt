@@ -19,6 +19,7 @@ use Rattle.rtr_stream.specs.Search.{Says}
 use Rattle.rtr_stream.specs.declared.StreamError.{StreamError}
 use Rattle.rtr_stream.specs.declared.StreamAnswer.{StreamAnswer}
 use Rattle.rtr_stream.proofs.Unique.{saying, answer-told}
+use Rattle.rtr_receiver.specs.Contents.{Rooms}
 use Rattle.rtr_receiver.specs.Receiver.{Stage, Notified}
 use Rattle.rtr_receiver.specs.Promises.{Left, Ending, FeedSays, StartSays, AskSays, ReconnectSays, NotifySays, stopSaid, stoppedBy, stageOf, endingOf, leaves, fedSaidBy, fedSaid, startSaid, askWriting, askSaid, reconnectNumber, reconnectSaid, notifySaid}
 use Rattle.rtr_receiver.specs.declared.Stop.{Stop}
@@ -42,6 +43,7 @@ use Rattle.rtr_receiver.proofs.feed.Reads as feed-reads
 use Rattle.rtr_receiver.proofs.reconnect.Reads as reconnect-reads
 use Rattle.rtr_receiver.proofs.notify.Reads as notify-reads
 use Rattle.rtr_receiver.proofs.Stop.number.Reads as number-reads
+use Rattle.rtr_receiver.proofs.is_limit.Reads as limit-reads
 
 -- the stop that has a number and values
 errorIn : StreamAnswer → StreamError
@@ -114,11 +116,11 @@ phase-back (Phase.Stopped Stop.RoomFull) = refl
 phase-back (Phase.Stopped (Stop.ErrorReport c)) = ap (λ (x : RtrErrorCode). Phase.Stopped (Stop.ErrorReport x)) (report-back c)
 
 sessionOf : Left → Session
-sessionOf l = record { version = l .version; phase = phaseOf (l .stage); table = l .table; note = l .note; live = l .liveCount; working = l .workingCount; held = l .heldCount }
+sessionOf l = record { life = l .life; phase = phaseOf (l .stage); table = l .table; note = l .note; live = l .liveCount; working = l .workingCount; held = l .heldCount }
 
-session-back : (s : Session) (live working hold : List ℕ) → sessionOf (leaves s live working hold) ≡ s
+session-back : (s : Session) (live working : Rooms) (hold : List ℕ) → sessionOf (leaves s live working hold) ≡ s
 unfolding sessionOf
-session-back s live working hold = λ i. record { version = s .version; phase = phase-back (s .phase) i; table = s .table; note = s .note; live = s .live; working = s .working; held = s .held }
+session-back s live working hold = λ i. record { life = s .life; phase = phase-back (s .phase) i; table = s .table; note = s .note; live = s .live; working = s .working; held = s .held }
 
 -- what two sessions and memories leave alike is alike
 one-left : (s s′ : Session) (live live′ working working′ hold hold′ : List ℕ) → leaves s live working hold ≡ leaves s′ live′ working′ hold′ → (s ≡ s′) × (live ≡ live′) × (working ≡ working′) × (take (s .held) hold ≡ take (s′ .held) hold′)
@@ -159,7 +161,7 @@ answer-back : (stop : Stop) → answerIn (endingOf (stoppedBy (stopSaid stop))) 
 unfolding answerIn
 answer-back stop = ap (λ (s : Stage). answerIn (endingOf s)) (stopped-stage stop) ∙ ap FeedAnswer.Stopped (stop-back stop)
 
-fed-by : (a : FeedAnswer) (taken updates : ℕ) (s : Session) (live working hold : List ℕ) → fedOf (fedSaidBy a taken updates (leaves s live working hold) hold) ≡ record { session = s; done = record { taken = taken; updates = updates; answer = a } }
+fed-by : (a : FeedAnswer) (taken updates : ℕ) (s : Session) (live working : Rooms) (hold : List ℕ) → fedOf (fedSaidBy a taken updates (leaves s live working hold) hold) ≡ record { session = s; done = record { taken = taken; updates = updates; answer = a } }
 unfolding fedOf answerIn
 fed-by FeedAnswer.GoesOn taken updates s live working hold = λ i. record { session = session-back s live working hold i; done = record { taken = taken; updates = updates; answer = FeedAnswer.GoesOn } }
 fed-by (FeedAnswer.Stopped stop) taken updates s live working hold = λ i. record { session = session-back s live working hold i; done = record { taken = taken; updates = updates; answer = answer-back stop i } }
@@ -306,3 +308,6 @@ notify-unique κs a r r′ s s′ p q = only-one notifySaid notifyOf notify-back
 
 pub stop-number-unique : (κs : _) (a : _) (r r′ : _) (s s′ : _) → number-reads.Post κs a r s → number-reads.Post κs a r′ s′ → r ≡ r′
 stop-number-unique κs a r r′ s s′ p q = only-this r r′ _ p q
+
+pub is-limit-unique : (κs : _) (a : _) (r r′ : _) (s s′ : _) → limit-reads.Post κs a r s → limit-reads.Post κs a r′ s′ → r ≡ r′
+is-limit-unique κs a r r′ s s′ p q = only-this r r′ _ p q

@@ -29,8 +29,8 @@ use Rattle.rtr_models.specs.declared.RtrPdu.{RtrPdu}
 use Rattle.rtr_models.specs.declared.RtrPdu.the-variants.{SerialNotify, SerialQuery, ResetQuery, CacheResponse, IPv4Prefix, IPv6Prefix, EndOfData, CacheReset, RouterKey, ErrorReport}
 use Rattle.rtr_codec.specs.Reading.{inUse}
 use Rattle.rtr_stream.specs.Stream.{Heard, judge}
-use Rattle.rtr_room.specs.Table.{Change, ipv4Record, ipv6Record, enter, leave}
-use Rattle.rtr_room.specs.declared.Record.{Record}
+use Rattle.rtr_room.specs.Table.{Change, ipv4Record, ipv6Record}
+use Rattle.rtr_receiver.specs.Contents.{Contents, Entry, nothing, enterIn, leaveIn}
 use Rattle.rtr_receiver.specs.declared.LoadKind.{LoadKind}
 use Rattle.rtr_receiver.specs.declared.Table.{Table}
 use Rattle.rtr_receiver.specs.declared.LiveTable.{LiveTable}
@@ -46,7 +46,7 @@ pub data Event : Type 0 where
 -- a record announced or withdrawn
 pub record Changed : Type 0 where
   pub announced : Bool
-  pub what : Record
+  pub what : Entry
 
 -- a finished update: what it was asked as, its records in order, and what its End of Data said
 pub record Update : Type 0 where
@@ -57,30 +57,30 @@ pub record Update : Type 0 where
 -- the live table: its session, serial and intervals, if there is one, and its records
 pub record Live : Type 0 where
   pub info : LiveTable
-  pub records : List Record
+  pub records : Contents
 
 -- before an update has finished
 abbrev pub noTable : Live
-noTable = record { info = LiveTable.NoTable; records = [] }
+noTable = record { info = LiveTable.NoTable; records = nothing }
 
 -- what one record comes to; `Change` says 16, 17 or 18 where it does not apply
-abbrev pub applied : ℕ → List Record → Bool → Record → Change
-applied limit t true r = enter limit r t
-applied limit t false r = leave r t
+abbrev pub applied : ℕ → Contents → Bool → Entry → Change
+applied limit t true r = enterIn limit r t
+applied limit t false r = leaveIn r t
 
 -- a record that does not apply leaves the table; no finished update has one
-abbrev pub kept : List Record → Change → List Record
+abbrev pub kept : Contents → Change → Contents
 kept t (Change.changed t′) = t′
 kept t (Change.refused number) = t
 
 -- a load's table so far: what it began from with its records, in order
-unfoldable pub withAll : ℕ → List Record → List Changed → List Record
+unfoldable pub withAll : ℕ → Contents → List Changed → Contents
 withAll limit t [] = t
 withAll limit t (c ∷ cs) = withAll limit (kept t (applied limit t (c .announced) (c .what))) cs
 
 -- a full load starts from nothing, a change from the table before it
-abbrev pub base : LoadKind → List Record → List Record
-base LoadKind.Full t = []
+abbrev pub base : LoadKind → Contents → Contents
+base LoadKind.Full t = nothing
 base LoadKind.Change t = t
 
 -- the table after one more update: what its End of Data said, and its records
@@ -183,12 +183,12 @@ onResponse info LoadKind.Full session = loading LoadKind.Full session []
 onResponse info LoadKind.Change session = cond (ofSession info session) (loading LoadKind.Change session []) lost
 
 -- a prefix: one record more, where it applies
-abbrev pub takenIn : LoadKind → ℕ → List Changed → Bool → Record → Change → Place
+abbrev pub takenIn : LoadKind → ℕ → List Changed → Bool → Entry → Change → Place
 takenIn kind session cs announced r (Change.changed t) = loading kind session (cs ++ record { announced = announced; what = r } ∷ [])
 takenIn kind session cs announced r (Change.refused number) = lost
 
 -- it applies to the load's table so far: 16, 17 and 18 lose the connection
-abbrev pub onPrefix : ℕ → List Record → Place → Bool → Record → Place
+abbrev pub onPrefix : ℕ → Contents → Place → Bool → Entry → Place
 onPrefix limit t place announced r =
     takenIn (kindAt place) (sessionAt place) (recordsAt place) announced r
     (applied limit (withAll limit (base (kindAt place) t) (recordsAt place)) announced r)

@@ -10,7 +10,7 @@ use Rattle.rtr_models.specs.declared.RtrEndOfData.{RtrEndOfData}
 use Rattle.rtr_models.specs.declared.RtrPduType.{RtrPduType}
 use Rattle.rtr_models.specs.declared.RtrPdu.{RtrPdu}
 use Rattle.rtr_models.specs.declared.RtrPdu.the-variants.{SerialNotify, SerialQuery, ResetQuery, CacheResponse, IPv4Prefix, IPv6Prefix, EndOfData, CacheReset, RouterKey, ErrorReport}
-use Rattle.rtr_room.specs.Room.{isRoom}
+use Rattle.rtr_receiver.specs.Contents.{Rooms, areRooms}
 use Rattle.rtr_room.specs.Table.{ipv4Record, ipv6Record}
 use Rattle.rtr_room.specs.declared.Record.{Record}
 use Rattle.rtr_receiver.specs.Receiver.{Stage, Receiver, Deed, Feed, isDue, kindIn, sessionIn, inStage, stop, onCacheResponse, onRecord, noUpdate, onEndOfData, listens, onPiece}
@@ -32,24 +32,26 @@ use Rattle.rtr_receiver.specs.declared.Step.{Step}
 
 -- the two halves of `inOrder`
 abbrev pub tabled : Session → Bool
-tabled s = hasTable (s .table) || (eqb (s .live) 0 && not (changeUnderWay (s .phase)))
+tabled s = hasTable (s .table) || (eqb (s .live .records) 0 && not (changeUnderWay (s .phase)))
 
 abbrev pub cleared : Session → Bool
-cleared s = (isLoading (s .phase) || eqb (s .working) 0) && (not (isStopped (s .phase)) || eqb (s .held) 0)
+cleared s = (isLoading (s .phase) || eqb (s .working .records) 0) && (not (isStopped (s .phase)) || eqb (s .held) 0)
 
--- both rooms keep the rules, nothing is held (a whole PDU has just been taken out of the hold), and the receiver has not stopped
-abbrev pub BothRooms : ℕ → Session → List ℕ → List ℕ → Type 0
+-- both rooms keep the rules, nothing is held (a whole PDU has just been taken out of the hold), the receiver has not stopped, and the
+-- limit is the session's
+abbrev pub BothRooms : ℕ → Session → Rooms → Rooms → Type 0
 BothRooms limit s live working =
-    (isRoom limit (s .live) live ≡ true)
-    × (isRoom limit (s .working) working ≡ true)
+    (areRooms limit (s .live) live ≡ true)
+    × (areRooms limit (s .working) working ≡ true)
     × (s .held ≡ 0)
     × (listens (stageOf (s .phase)) ≡ true)
+    × (s .life .limit ≡ limit)
 
 -- the session record and the rooms are this receiver's, nothing held
-abbrev pub Stands : ℕ → Session → List ℕ → List ℕ → Receiver → Type 0
+abbrev pub Stands : ℕ → Session → Rooms → Rooms → Receiver → Type 0
 Stands limit s live working r = leaves s live working [] ≡ inMemory limit r
 
-abbrev pub Did : ℕ → DeedDone → List ℕ → List ℕ → Deed → Type 0
+abbrev pub Did : ℕ → DeedDone → Rooms → Rooms → Deed → Type 0
 Did limit d live working deed = Stands limit (d .session) live working (deed .then) × (d .updates ≡ deed .updates)
 
 -- what comes of a PDU of a type in a phase: this where it is due, else 13
@@ -87,12 +89,12 @@ carriedBy (RouterKey p) = Carried.Nothing
 carriedBy (ErrorReport p) = Carried.Nothing
 
 -- the feed from here: what the piece from a place on makes of it
-abbrev pub feedHere : ℕ → Session → List ℕ → List ℕ → List ℕ → List ℕ → ℕ → ℕ → Feed
+abbrev pub feedHere : ℕ → Session → Rooms → Rooms → List ℕ → List ℕ → ℕ → ℕ → Feed
 feedHere limit s live working hold piece at updates =
     onPiece limit (length hold) (record { receiver = receiverOf s live working hold; taken = at; updates = updates }) (drop at piece)
 
 -- one step: the feed is over, as the definition has it, or goes on from further in the piece to the same end
-abbrev pub SteppedTo : ℕ → Feed → List ℕ → ℕ → Session → ℕ → ℕ → List ℕ → List ℕ → List ℕ → Then → Type 0
+abbrev pub SteppedTo : ℕ → Feed → List ℕ → ℕ → Session → ℕ → ℕ → Rooms → Rooms → List ℕ → Then → Type 0
 SteppedTo limit f piece at s next updates live working hold (Then.Done answer) =
     fedSaidBy answer next updates (leaves s live working hold) hold ≡ fedTo limit f
 SteppedTo limit f piece at s next updates live working hold Then.Again =
@@ -103,25 +105,25 @@ SteppedTo limit f piece at s next updates live working hold Then.Again =
     × (updates ≤ next)
     × (feedHere limit s live working hold piece next updates ≡ f)
 
-abbrev pub Stepped : ℕ → Feed → List ℕ → ℕ → Step → List ℕ → List ℕ → List ℕ → Type 0
+abbrev pub Stepped : ℕ → Feed → List ℕ → ℕ → Step → Rooms → Rooms → List ℕ → Type 0
 Stepped limit f piece at t live working hold = SteppedTo limit f piece at (t .session) (t .next) (t .updates) live working hold (t .then)
 
 -- a session that stopped
 abbrev pub stoppedSession : Session → Stop → Session
 stoppedSession s stop =
-    record { version = s .version; phase = Phase.Stopped stop; table = s .table; note = s .note; live = s .live; working = 0; held = 0 }
+    record { life = s .life; phase = Phase.Stopped stop; table = s .table; note = s .note; live = s .live; working = record { records = 0 }; held = 0 }
 
 -- an ask whose query was written, or refused
 abbrev pub askedFor : Session → EncodeAnswer → Phase → AskedSession
 askedFor s (EncodeAnswer.Written n) phase =
     record {
-      session = record { version = s .version; phase = phase; table = s .table; note = s .note; live = s .live; working = s .working; held = s .held };
+      session = record { life = s .life; phase = phase; table = s .table; note = s .note; live = s .live; working = s .working; held = s .held };
       answer = AskAnswer.Written n;
     }
 askedFor s (EncodeAnswer.Refused error) phase = record { session = s; answer = AskAnswer.Refused (AskError.Encoding error) }
 
 -- what a step asks: receiver shape, listening, a place in the piece, and no more updates than bytes
-abbrev pub StepAsks : ℕ → Session → List ℕ → List ℕ → List ℕ → List ℕ → ℕ → ℕ → Type 0
+abbrev pub StepAsks : ℕ → Session → Rooms → Rooms → List ℕ → List ℕ → ℕ → ℕ → Type 0
 StepAsks limit s live working hold piece at updates =
     (isReceiver limit s live working hold ≡ true)
     × (listens (stageOf (s .phase)) ≡ true)

@@ -1,5 +1,5 @@
 -- A session record and lent memory stand for a receiver; what each call promises of them: document 01, "Refusal numbers" (22) and "How tight the
--- promises are". Everything is over any record limit; 1,024 is a constant of the code.
+-- promises are". Everything is over any record limit; the calls promise it of the limit that the session record holds.
 use Prim.Native.Nat.{ℕ, _*_, _<_}
 use mathlib.Core.Bool.{Bool, true, false, not, cond, _&&_, _||_}
 use mathlib.Core.List.{List, [], _∷_}
@@ -16,7 +16,8 @@ use Rattle.rtr_encode.specs.Answers.{encodeRefusal}
 use Rattle.rtr_stream.specs.Stream.{Heard, judge}
 use Rattle.rtr_stream.specs.Search.{isStream, streamRefusal}
 use Rattle.rtr_room.specs.Table.{isTable}
-use Rattle.rtr_room.specs.Room.{room, records, isRoom}
+use Rattle.rtr_room.specs.Room.{room}
+use Rattle.rtr_receiver.specs.Contents.{Rooms, contents, areRooms, roomsOf, countsOf}
 use Rattle.rtr_room.specs.declared.Record.{Record}
 use Rattle.rtr_receiver.specs.History.{hasTable}
 use Rattle.rtr_receiver.specs.Receiver.{Stage, Receiver, Feed, Query, Asked, Notified, fresh, feed, fullQuery, changeQuery, ask, reconnected, notified}
@@ -26,6 +27,8 @@ use Rattle.rtr_receiver.specs.declared.Stop.{Stop}
 use Rattle.rtr_receiver.specs.declared.Phase.{Phase}
 use Rattle.rtr_receiver.specs.declared.LiveTable.{LiveTable}
 use Rattle.rtr_receiver.specs.declared.Note.{Note}
+use Rattle.rtr_receiver.specs.declared.Life.{Life}
+use Rattle.rtr_receiver.specs.declared.Counts.{Counts}
 use Rattle.rtr_receiver.specs.declared.Session.{Session}
 use Rattle.rtr_receiver.specs.declared.StartAnswer.{StartAnswer}
 use Rattle.rtr_receiver.specs.declared.AskError.{AskError}
@@ -62,15 +65,15 @@ stageOf (Phase.Loading kind session) = loading kind session
 stageOf (Phase.Stopped stop) = stoppedBy (stopSaid stop)
 
 -- the receiver that a session record and lent memory stand for
-abbrev pub receiverOf : Session → List ℕ → List ℕ → List ℕ → Receiver
+abbrev pub receiverOf : Session → Rooms → Rooms → List ℕ → Receiver
 receiverOf s live working hold =
     record {
-      version = s .version;
+      version = s .life .version;
       stage = stageOf (s .phase);
       table = s .table;
       note = s .note;
-      live = records (s .live) live;
-      working = records (s .working) working;
+      live = contents (s .live) live;
+      working = contents (s .working) working;
       held = take (s .held) hold;
     }
 
@@ -103,53 +106,66 @@ isStopped (Phase.Stopped stop) = true
 -- a live record or a change has its table; the working room is empty outside Loading; nothing is held in Stopped
 abbrev pub inOrder : Session → Bool
 inOrder s =
-    (hasTable (s .table) || (eqb (s .live) 0 && not (changeUnderWay (s .phase))))
-    && ((isLoading (s .phase) || eqb (s .working) 0) && (not (isStopped (s .phase)) || eqb (s .held) 0))
+    (hasTable (s .table) || (eqb (s .live .records) 0 && not (changeUnderWay (s .phase))))
+    && ((isLoading (s .phase) || eqb (s .working .records) 0) && (not (isStopped (s .phase)) || eqb (s .held) 0))
 
--- receiver shape: where it is missing the answer is 22. Both rooms are rooms of the limit and keep the room rules up to their counts; the hold is a
+-- "at most 1,024 records": the limit that a start gives, and the only one that a receiver may have
+abbrev pub recordLimit : ℕ
+recordLimit = 1024
+
+abbrev pub isLimit : ℕ → Bool
+isLimit limit = eqb limit recordLimit
+
+-- the session record holds this limit, and a receiver may have it
+abbrev pub hasLimit : ℕ → Session → Bool
+hasLimit limit s = eqb (s .life .limit) limit && isLimit limit
+
+-- receiver shape: where it is missing the answer is 22. The limit is the session's; both rooms are rooms of the limit and keep the room rules up to their counts; the hold is a
 -- stream (8 bytes or more, no more held than it has, what is held makes neither a PDU nor a refusal)
-unfoldable pub isReceiver : ℕ → Session → List ℕ → List ℕ → List ℕ → Bool
+unfoldable pub isReceiver : ℕ → Session → Rooms → Rooms → List ℕ → Bool
 isReceiver limit s live working hold =
-    isRoom limit (s .live) live && (isRoom limit (s .working) working && (isStream hold (s .held) && inOrder s))
+    hasLimit limit s
+    && (areRooms limit (s .live) live && (areRooms limit (s .working) working && (isStream hold (s .held) && inOrder s)))
 
 -- "a room breaks the room rules": it is the room of no table of so many records
 abbrev pub BreaksRules : ℕ → ℕ → List ℕ → Type 0
 BreaksRules limit count s = (t : List Record) → isTable t ≡ true → length t ≡ count → s ≡ room limit t → ⊥
 
 -- document 01's reasons for 22, one by one, over any limit: proofs/Shape.antt has that receiver shape is missing exactly where one of them holds
-pub data Reason (limit : ℕ) (s : Session) (live working hold : List ℕ) : Type 0 where
+pub data Reason (limit : ℕ) (s : Session) (live working : Rooms) (hold : List ℕ) : Type 0 where
+  otherLimit : hasLimit limit s ≡ false → Reason limit s live working hold
   liveSize : (length live ≡ 6 * limit → ⊥) → Reason limit s live working hold
   workingSize : (length working ≡ 6 * limit → ⊥) → Reason limit s live working hold
   holdSize : length hold < 8 → Reason limit s live working hold
-  liveOver : limit < s .live → Reason limit s live working hold
-  workingOver : limit < s .working → Reason limit s live working hold
+  liveOver : limit < s .live .records → Reason limit s live working hold
+  workingOver : limit < s .working .records → Reason limit s live working hold
   heldOver : length hold < s .held → Reason limit s live working hold
-  liveRules : BreaksRules limit (s .live) live → Reason limit s live working hold
-  workingRules : BreaksRules limit (s .working) working → Reason limit s live working hold
-  recordsWithoutTable : s .table ≡ LiveTable.NoTable → 0 < s .live → Reason limit s live working hold
+  liveRules : BreaksRules limit (s .live .records) live → Reason limit s live working hold
+  workingRules : BreaksRules limit (s .working .records) working → Reason limit s live working hold
+  recordsWithoutTable : s .table ≡ LiveTable.NoTable → 0 < s .live .records → Reason limit s live working hold
   changeWithoutTable : s .table ≡ LiveTable.NoTable → changeUnderWay (s .phase) ≡ true → Reason limit s live working hold
-  workingOutsideLoading : isLoading (s .phase) ≡ false → 0 < s .working → Reason limit s live working hold
+  workingOutsideLoading : isLoading (s .phase) ≡ false → 0 < s .working .records → Reason limit s live working hold
   heldInStopped : isStopped (s .phase) ≡ true → 0 < s .held → Reason limit s live working hold
   heldPdu : (pdu : RtrPdu) → judge inUse (length hold) (take (s .held) hold) ≡ Heard.whole pdu → Reason limit s live working hold
   heldRefusal : (number : ℕ) (values : List ℕ) → judge inUse (length hold) (take (s .held) hold) ≡ Heard.refused number values → Reason limit s live working hold
 
 -- what a call leaves: the session record, both rooms whole, and the hold up to the held count
 pub record Left : Type 0 where
-  pub version : RtrProtocolVersion
+  pub life : Life
   pub stage : Stage
   pub table : LiveTable
   pub note : Note
-  pub liveCount : ℕ
-  pub workingCount : ℕ
+  pub liveCount : Counts
+  pub workingCount : Counts
   pub heldCount : ℕ
-  pub live : List ℕ
-  pub working : List ℕ
+  pub live : Rooms
+  pub working : Rooms
   pub held : List ℕ
 
-abbrev pub leaves : Session → List ℕ → List ℕ → List ℕ → Left
+abbrev pub leaves : Session → Rooms → Rooms → List ℕ → Left
 leaves s live working hold =
     record {
-      version = s .version;
+      life = s .life;
       stage = stageOf (s .phase);
       table = s .table;
       note = s .note;
@@ -161,19 +177,19 @@ leaves s live working hold =
       held = take (s .held) hold;
     }
 
--- a receiver in memory
+-- a receiver in memory, with this limit
 abbrev pub inMemory : ℕ → Receiver → Left
 inMemory limit r =
     record {
-      version = r .version;
+      life = record { version = r .version; limit = limit };
       stage = r .stage;
       table = r .table;
       note = r .note;
-      liveCount = length (r .live);
-      workingCount = length (r .working);
+      liveCount = countsOf (r .live);
+      workingCount = countsOf (r .working);
       heldCount = length (r .held);
-      live = room limit (r .live);
-      working = room limit (r .working);
+      live = roomsOf limit (r .live);
+      working = roomsOf limit (r .working);
       held = r .held;
     }
 
@@ -199,7 +215,7 @@ pub data FeedSays : Type 0 where
 abbrev pub fedTo : ℕ → Feed → FeedSays
 fedTo limit f = fed (f .taken) (f .updates) (endingOf (f .receiver .stage)) (inMemory limit (f .receiver))
 
-unfoldable pub feedSays : ℕ → Session → List ℕ → List ℕ → List ℕ → List ℕ → FeedSays
+unfoldable pub feedSays : ℕ → Session → Rooms → Rooms → List ℕ → List ℕ → FeedSays
 feedSays limit s live working hold piece =
     cond (isReceiver limit s live working hold)
     (fedTo limit (feed limit (length hold) (receiverOf s live working hold) piece))
@@ -211,21 +227,21 @@ fedSaidBy FeedAnswer.GoesOn taken updates left hold = fed taken updates goesOn l
 fedSaidBy (FeedAnswer.Stopped stop) taken updates left hold = fed taken updates (endingOf (stoppedBy (stopSaid stop))) left
 fedSaidBy FeedAnswer.NotAReceiver taken updates left hold = refusedFeed 22 taken updates left hold
 
-abbrev pub fedSaid : Fed → List ℕ → List ℕ → List ℕ → FeedSays
+abbrev pub fedSaid : Fed → Rooms → Rooms → List ℕ → FeedSays
 fedSaid r live working hold = fedSaidBy (r .done .answer) (r .done .taken) (r .done .updates) (leaves (r .session) live working hold) hold
 
--- ---- start: a fresh receiver in both rooms, or refused by a number, with both rooms as they are left: 22 for a room's size or H leaves them as they were
+-- ---- start: a fresh receiver in both rooms, or refused by a number, with both rooms as they are left: 22 for a limit, a room's size or H leaves them as they were
 pub data StartSays : Type 0 where
   started : Left → StartSays
-  refusedStart : ℕ → List ℕ → List ℕ → StartSays
+  refusedStart : ℕ → Rooms → Rooms → StartSays
 
-unfoldable pub startSays : ℕ → RtrProtocolVersion → List ℕ → List ℕ → List ℕ → StartSays
+unfoldable pub startSays : ℕ → RtrProtocolVersion → Rooms → Rooms → List ℕ → StartSays
 startSays limit version live working hold =
-    cond (eqb (length live) (6 * limit) && (eqb (length working) (6 * limit) && leb 8 (length hold)))
+    cond (isLimit limit && (eqb (length live) (6 * limit) && (eqb (length working) (6 * limit) && leb 8 (length hold))))
     (started (inMemory limit (fresh version)))
     (refusedStart 22 live working)
 
-abbrev pub startSaid : StartAnswer → List ℕ → List ℕ → List ℕ → StartSays
+abbrev pub startSaid : StartAnswer → Rooms → Rooms → List ℕ → StartSays
 startSaid (StartAnswer.Started s) live working hold = started (leaves s live working hold)
 startSaid StartAnswer.NotAReceiver live working hold = refusedStart 22 live working
 
@@ -238,16 +254,16 @@ pub record AskSays : Type 0 where
 abbrev pub askedTo : ℕ → Asked → AskSays
 askedTo limit a = record { says = a .says; out = a .out; left = inMemory limit (a .receiver) }
 
-abbrev pub askSays : ℕ → (Receiver → Query) → Session → List ℕ → List ℕ → List ℕ → List ℕ → AskSays
+abbrev pub askSays : ℕ → (Receiver → Query) → Session → Rooms → Rooms → List ℕ → List ℕ → AskSays
 askSays limit queryOf s live working hold out =
     cond (isReceiver limit s live working hold)
     (askedTo limit (ask (queryOf (receiverOf s live working hold)) (receiverOf s live working hold) out))
     (record { says = Writing.refused 22 []; out = out; left = leaves s live working hold })
 
-unfoldable pub fullAskSays : ℕ → Session → List ℕ → List ℕ → List ℕ → List ℕ → AskSays
+unfoldable pub fullAskSays : ℕ → Session → Rooms → Rooms → List ℕ → List ℕ → AskSays
 fullAskSays limit s live working hold out = askSays limit (λ r. fullQuery (r .stage) r) s live working hold out
 
-unfoldable pub changeAskSays : ℕ → Session → List ℕ → List ℕ → List ℕ → List ℕ → AskSays
+unfoldable pub changeAskSays : ℕ → Session → Rooms → Rooms → List ℕ → List ℕ → AskSays
 changeAskSays limit s live working hold out = askSays limit (λ r. changeQuery (r .stage) r) s live working hold out
 
 abbrev pub askError : AskError → Writing
@@ -260,7 +276,7 @@ abbrev pub askWriting : AskAnswer → Writing
 askWriting (AskAnswer.Written n) = Writing.written n
 askWriting (AskAnswer.Refused error) = askError error
 
-abbrev pub askSaid : AskedSession → List ℕ → List ℕ → List ℕ → List ℕ → AskSays
+abbrev pub askSaid : AskedSession → Rooms → Rooms → List ℕ → List ℕ → AskSays
 askSaid r live working hold out =
     record { says = askWriting (r .answer); out = out; left = leaves (r .session) live working hold }
 
@@ -269,7 +285,7 @@ pub record ReconnectSays : Type 0 where
   pub number : ℕ
   pub left : Left
 
-unfoldable pub reconnectSays : ℕ → Session → List ℕ → List ℕ → List ℕ → ReconnectSays
+unfoldable pub reconnectSays : ℕ → Session → Rooms → Rooms → List ℕ → ReconnectSays
 reconnectSays limit s live working hold =
     cond (isReceiver limit s live working hold)
     (record { number = 0; left = inMemory limit (reconnected (receiverOf s live working hold)) })
@@ -279,7 +295,7 @@ abbrev pub reconnectNumber : ReconnectAnswer → ℕ
 reconnectNumber ReconnectAnswer.Connected = 0
 reconnectNumber ReconnectAnswer.NotAReceiver = 22
 
-abbrev pub reconnectSaid : Reconnected → List ℕ → List ℕ → List ℕ → ReconnectSays
+abbrev pub reconnectSaid : Reconnected → Rooms → Rooms → List ℕ → ReconnectSays
 reconnectSaid r live working hold = record { number = reconnectNumber (r .answer); left = leaves (r .session) live working hold }
 
 -- ---- the notify comparison: 22 first
@@ -287,7 +303,7 @@ pub data NotifySays : Type 0 where
   compares : Notified → NotifySays
   refusedNotify : ℕ → NotifySays
 
-unfoldable pub notifySays : ℕ → Session → List ℕ → List ℕ → List ℕ → NotifySays
+unfoldable pub notifySays : ℕ → Session → Rooms → Rooms → List ℕ → NotifySays
 notifySays limit s live working hold = cond (isReceiver limit s live working hold) (compares (notified (s .table) (s .note))) (refusedNotify 22)
 
 abbrev pub notifySaid : NotifyAnswer → NotifySays

@@ -15,8 +15,8 @@ use Rattle.rtr_models.specs.declared.RtrPdu.the-variants.{SerialNotify, SerialQ
 use Rattle.rtr_codec.specs.Reading.{inUse}
 use Rattle.rtr_encode.specs.Encode.{Writing, encode}
 use Rattle.rtr_stream.specs.Stream.{Heard, judge}
-use Rattle.rtr_room.specs.Table.{Change, ipv4Record, ipv6Record, enter, leave}
-use Rattle.rtr_room.specs.declared.Record.{Record}
+use Rattle.rtr_room.specs.Table.{Change, ipv4Record, ipv6Record}
+use Rattle.rtr_receiver.specs.Contents.{Contents, Entry, nothing, enterIn, leaveIn}
 use Rattle.rtr_receiver.specs.History.{endSays}
 use Rattle.rtr_receiver.specs.declared.LoadKind.{LoadKind}
 use Rattle.rtr_receiver.specs.declared.LiveTable.{LiveTable}
@@ -59,13 +59,13 @@ pub record Receiver : Type 0 where
   pub stage : Stage
   pub table : LiveTable
   pub note : Note
-  pub live : List Record
-  pub working : List Record
+  pub live : Contents
+  pub working : Contents
   pub held : List ℕ
 
 -- "Start .. gives the fresh state: Idle, no table, nothing held or noted"
 abbrev pub fresh : RtrProtocolVersion → Receiver
-fresh v = record { version = v; stage = idle; table = LiveTable.NoTable; note = Note.NoNote; live = []; working = []; held = [] }
+fresh v = record { version = v; stage = idle; table = LiveTable.NoTable; note = Note.NoNote; live = nothing; working = nothing; held = [] }
 
 -- the same in another phase
 abbrev pub inStage : Stage → Receiver → Receiver
@@ -78,7 +78,7 @@ holding s r = record { version = r .version; stage = r .stage; table = r .table;
 -- a stop clears the held bytes and the working table; it keeps the live table and the note
 abbrev pub stop : ℕ → List ℕ → Receiver → Receiver
 stop number values r =
-    record { version = r .version; stage = stopped number values; table = r .table; note = r .note; live = r .live; working = []; held = [] }
+    record { version = r .version; stage = stopped number values; table = r .table; note = r .note; live = r .live; working = nothing; held = [] }
 
 -- "Serial Notify is noted in any phase but Stopped"
 abbrev pub onSerialNotify : ℕ → ℕ → Receiver → Receiver
@@ -94,7 +94,7 @@ onSerialNotify session serial r =
     }
 
 -- the working table starts empty, or as the live one
-abbrev pub startLoad : LoadKind → ℕ → List Record → Receiver → Receiver
+abbrev pub startLoad : LoadKind → ℕ → Contents → Receiver → Receiver
 startLoad kind session working r =
     record { version = r .version; stage = loading kind session; table = r .table; note = r .note; live = r .live; working = working; held = r .held }
 
@@ -105,7 +105,7 @@ onChangeResponse (LiveTable.Known t) session r = cond (eqb session (t .session))
 
 -- "Cache Response in an Asked phase begins Loading"
 abbrev pub onCacheResponse : LoadKind → ℕ → Receiver → Receiver
-onCacheResponse LoadKind.Full session r = startLoad LoadKind.Full session [] r
+onCacheResponse LoadKind.Full session r = startLoad LoadKind.Full session nothing r
 onCacheResponse LoadKind.Change session r = onChangeResponse (r .table) session r
 
 -- the working table after a record, or its refusal
@@ -115,9 +115,9 @@ changedTo (Change.changed t) r =
 changedTo (Change.refused number) r = stop number [] r
 
 -- "A prefix in Loading enters (lowest flag bit 1) or leaves (0) the working room"
-abbrev pub onRecord : ℕ → Bool → Record → Receiver → Receiver
-onRecord limit true record₀ r = changedTo (enter limit record₀ (r .working)) r
-onRecord limit false record₀ r = changedTo (leave record₀ (r .working)) r
+abbrev pub onRecord : ℕ → Bool → Entry → Receiver → Receiver
+onRecord limit true entry r = changedTo (enterIn limit entry (r .working)) r
+onRecord limit false entry r = changedTo (leaveIn entry (r .working)) r
 
 -- the working table becomes the live one
 abbrev pub finish : RtrEndOfData → Receiver → Receiver
@@ -128,7 +128,7 @@ finish p r =
       table = LiveTable.Known (endSays p);
       note = r .note;
       live = r .working;
-      working = [];
+      working = nothing;
       held = r .held;
     }
 
@@ -259,7 +259,7 @@ ask (refused number) r out = record { receiver = r; says = Writing.refused numbe
 -- "Reconnect: Idle; held bytes, working room and note cleared; table kept"
 abbrev pub reconnected : Receiver → Receiver
 reconnected r =
-    record { version = r .version; stage = idle; table = r .table; note = Note.NoNote; live = r .live; working = []; held = [] }
+    record { version = r .version; stage = idle; table = r .table; note = Note.NoNote; live = r .live; working = nothing; held = [] }
 
 -- RFC 1982, section 3.2, over 32 bits: a serial n beside the table's t
 pub data Notified : Type 0 where

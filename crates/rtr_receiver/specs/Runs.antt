@@ -5,7 +5,7 @@ use mathlib.Core.List.{List, [], _∷_, _++_}
 use mathlib.Core.Path.{_≡_}
 use lib.ListN.{length}
 use Rattle.rtr_models.specs.declared.RtrProtocolVersion.{RtrProtocolVersion}
-use Rattle.rtr_room.specs.Room.{records}
+use Rattle.rtr_receiver.specs.Contents.{Rooms, contents}
 use Rattle.rtr_receiver.specs.History.{Event, Live}
 use Rattle.rtr_receiver.specs.Promises.{fedSaid, feedSays, startSaid, startSays, askSaid, fullAskSays, changeAskSays, reconnectSaid, reconnectSays}
 use Rattle.rtr_receiver.specs.declared.LoadKind.{LoadKind}
@@ -35,13 +35,13 @@ historyOf (reconnect ∷ calls) = Event.reconnect ∷ historyOf calls
 -- the session record and lent memory between two calls
 pub record Memory : Type 0 where
   pub session : Session
-  pub live : List ℕ
-  pub working : List ℕ
+  pub live : Rooms
+  pub working : Rooms
   pub hold : List ℕ
 
 -- a call that meets its promise leads from one memory to the next
 pub data Step (limit : ℕ) (m : Memory) : Call → Memory → Type 0 where
-  fed : {piece : List ℕ} (s : Session) (done : Done) (live working hold : List ℕ) →
+  fed : {piece : List ℕ} (s : Session) (done : Done) (live working : Rooms) (hold : List ℕ) →
       length hold ≡ length (m .hold) →
       fedSaid (record { session = s; done = done }) live working hold ≡ feedSays limit (m .session) (m .live) (m .working) (m .hold) piece →
       Step limit m (feed piece) (record { session = s; live = live; working = working; hold = hold })
@@ -51,13 +51,13 @@ pub data Step (limit : ℕ) (m : Memory) : Call → Memory → Type 0 where
   askedChange : {out : List ℕ} (s : Session) (answer : AskAnswer) (out′ : List ℕ) →
       askSaid (record { session = s; answer = answer }) (m .live) (m .working) (m .hold) out′ ≡ changeAskSays limit (m .session) (m .live) (m .working) (m .hold) out →
       Step limit m (ask LoadKind.Change out) (record { session = s; live = m .live; working = m .working; hold = m .hold })
-  connected : (s : Session) (answer : ReconnectAnswer) (working : List ℕ) →
+  connected : (s : Session) (answer : ReconnectAnswer) (working : Rooms) →
       reconnectSaid (record { session = s; answer = answer }) (m .live) working (m .hold) ≡ reconnectSays limit (m .session) (m .live) (m .working) (m .hold) →
       Step limit m reconnect (record { session = s; live = m .live; working = working; hold = m .hold })
 
 -- these calls, one after another, from a fresh start in a version with a hold of H bytes, end in this memory
 pub data Run (limit : ℕ) (version : RtrProtocolVersion) (H : ℕ) : List Call → Memory → Type 0 where
-  started : (m : Memory) (live working : List ℕ) →
+  started : (m : Memory) (live working : Rooms) →
       length (m .hold) ≡ H →
       startSaid (StartAnswer.Started (m .session)) (m .live) (m .working) (m .hold) ≡ startSays limit version live working (m .hold) →
       Run limit version H [] m
@@ -65,4 +65,4 @@ pub data Run (limit : ℕ) (version : RtrProtocolVersion) (H : ℕ) : List Call 
 
 -- the live table in memory: session, serial and intervals, and the records of the live room
 abbrev pub liveIn : Memory → Live
-liveIn m = record { info = m .session .table; records = records (m .session .live) (m .live) }
+liveIn m = record { info = m .session .table; records = contents (m .session .live) (m .live) }

@@ -30,7 +30,7 @@ ghost use Rattle.rtr_codec.specs.Answers.{numberOf};
 ghost use Rattle.rtr_room.specs.Table.{enter, leave};
 ghost use Rattle.rtr_room.specs.Room.{records};
 ghost use Rattle.rtr_receiver.specs.Receiver.{onChangeResponse, changedTo, finish, onKind, onPdu, compared};
-ghost use Rattle.rtr_receiver.specs.Promises.{NotifySays, stopSaid, changeUnderWay, stageOf, receiverOf, inOrder, isReceiver, feedSays, fedSaid, startSays, startSaid, fullAskSays, changeAskSays, askSaid, reconnectSays, reconnectSaid, notifySays, notifySaid};
+ghost use Rattle.rtr_receiver.specs.Promises.{NotifySays, stopSaid, changeUnderWay, stageOf, receiverOf, inOrder, isReceiver, feedSays, fedSaid, startSays, startSaid, fullAskSays, changeAskSays, askSaid, reconnectSays, reconnectSaid, notifySays, notifySaid, recordLimit, isLimit};
 ghost use Rattle.rtr_receiver.specs.Private.{tabled, cleared, BothRooms, Stands, Did, responseIn, recordIn, keyIn, resetIn, endIn, stoppedSession, askedFor, afterPdu, feedHere, StepAsks, Stepped, carriedBy};
 
 // How many records a room has at the most.
@@ -86,14 +86,25 @@ pub enum Note {
     Noted(u16, u32),
 }
 
-// A receiver between two calls; the counts are of records in the live and the working room, and of bytes in the hold.
-pub struct Session {
+// What is fixed for a receiver's life: its version, and how many records a room has at the most.
+pub struct Life {
     pub version: RtrProtocolVersion,
+    pub limit: usize,
+}
+
+// How much of a room is in use.
+pub struct Counts {
+    pub records: usize,
+}
+
+// A receiver between two calls: what is in use of the live and the working room, and how many bytes of the hold.
+pub struct Session {
+    pub life: Life,
     pub phase: Phase,
     pub table: LiveTable,
     pub note: Note,
-    pub live: usize,
-    pub working: usize,
+    pub live: Counts,
+    pub working: Counts,
     pub held: usize,
 }
 
@@ -202,7 +213,8 @@ fn is_tabled(s: Session) -> bool
     match table {
         LiveTable::Known(_) => true,
         LiveTable::NoTable => {
-            if s.live == 0 {
+            let live = s.live;
+            if live.records == 0 {
                 let phase = s.phase;
                 return !change_under_way(phase);
             }
@@ -216,10 +228,11 @@ fn is_cleared(s: Session) -> bool
     ensures { λ r. ⌜ r ≡ cleared s ⌝ }
 {
     let phase = s.phase;
+    let working = s.working;
     match phase {
         Phase::Loading(_, _) => true,
-        Phase::Stopped(_) => s.working == 0 && s.held == 0,
-        _ => s.working == 0,
+        Phase::Stopped(_) => working.records == 0 && s.held == 0,
+        _ => working.records == 0,
     }
 }
 
@@ -232,20 +245,33 @@ fn in_order(s: Session) -> bool
     is_cleared(s)
 }
 
+// A record limit that a receiver may have.
+pub fn is_limit(limit: usize) -> bool
+    ensures { λ r. ⌜ r ≡ isLimit limit ⌝ }
+{
+    limit == RECORD_LIMIT
+}
+
 // Receiver shape, each number of the rooms read once.
 fn is_receiver(s: Session, live: &[u32], working: &[u32], hold: &[u8]) -> bool
-    ensures { λ r. ⌜ r ≡ isReceiver 1024 s (now (live .entry)) (now (working .entry)) (now (hold .entry)) ⌝ }
+    ensures { λ r. ⌜ r ≡ isReceiver (s .life .limit) s (now (live .entry)) (now (working .entry)) (now (hold .entry)) ⌝ }
 {
+    let life = s.life;
+    let in_live = s.live;
+    let in_working = s.working;
+    if !is_limit(life.limit) {
+        return false;
+    }
     if !in_order(s) {
         return false;
     }
     if !is_stream(hold, s.held) {
         return false;
     }
-    if !rules(live, RECORD_LIMIT, s.live) {
+    if !rules(live, life.limit, in_live.records) {
         return false;
     }
-    rules(working, RECORD_LIMIT, s.working)
+    rules(working, life.limit, in_working.records)
 }
 
 // ---- Calls
@@ -257,7 +283,7 @@ pub fn start(
     working: &mut [u32],
     hold: &[u8],
 ) -> StartAnswer
-    ensures { λ r. ⌜ startSaid r (now (live .exit)) (now (working .exit)) (now (hold .entry)) ≡ startSays 1024 version (now (live .entry)) (now (working .entry)) (now (hold .entry)) ⌝ }
+    ensures { λ r. ⌜ startSaid r (now (live .exit)) (now (working .exit)) (now (hold .entry)) ≡ startSays recordLimit version (now (live .entry)) (now (working .entry)) (now (hold .entry)) ⌝ }
 {
     if live.len() != 6 * RECORD_LIMIT {
         return StartAnswer::NotAReceiver;
@@ -271,30 +297,35 @@ pub fn start(
     empty(live);
     empty(working);
     StartAnswer::Started(Session {
-        version,
+        life: Life {
+            version,
+            limit: RECORD_LIMIT,
+        },
         phase: Phase::Idle,
         table: LiveTable::NoTable,
         note: Note::NoNote,
-        live: 0,
-        working: 0,
+        live: Counts { records: 0 },
+        working: Counts { records: 0 },
         held: 0,
     })
 }
 
 // The same session in another phase.
 fn in_phase(s: Session, phase: Phase) -> Session
-    ensures { λ r. ⌜ r ≡ record { version = s .version; phase = phase; table = s .table; note = s .note; live = s .live; working = s .working; held = s .held } ⌝ }
+    ensures { λ r. ⌜ r ≡ record { life = s .life; phase = phase; table = s .table; note = s .note; live = s .live; working = s .working; held = s .held } ⌝ }
 {
-    let version = s.version;
+    let life = s.life;
     let table = s.table;
     let note = s.note;
+    let live = s.live;
+    let working = s.working;
     Session {
-        version,
+        life,
         phase,
         table,
         note,
-        live: s.live,
-        working: s.working,
+        live,
+        working,
         held: s.held,
     }
 }
@@ -332,12 +363,13 @@ pub fn full_ask(
     hold: &[u8],
     out: &mut [u8],
 ) -> AskedSession
-    ensures { λ r. ⌜ askSaid r (now (live .entry)) (now (working .entry)) (now (hold .entry)) (now (out .exit)) ≡ fullAskSays 1024 s (now (live .entry)) (now (working .entry)) (now (hold .entry)) (now (out .entry)) ⌝ }
+    ensures { λ r. ⌜ askSaid r (now (live .entry)) (now (working .entry)) (now (hold .entry)) (now (out .exit)) ≡ fullAskSays (s .life .limit) s (now (live .entry)) (now (working .entry)) (now (hold .entry)) (now (out .entry)) ⌝ }
 {
     if !is_receiver(s, live, working, hold) {
         return ask_refused(s, AskError::NotAReceiver);
     }
-    let version = s.version;
+    let life = s.life;
+    let version = life.version;
     let phase = s.phase;
     match phase {
         Phase::Idle => {
@@ -360,7 +392,7 @@ pub fn change_ask(
     hold: &[u8],
     out: &mut [u8],
 ) -> AskedSession
-    ensures { λ r. ⌜ askSaid r (now (live .entry)) (now (working .entry)) (now (hold .entry)) (now (out .exit)) ≡ changeAskSays 1024 s (now (live .entry)) (now (working .entry)) (now (hold .entry)) (now (out .entry)) ⌝ }
+    ensures { λ r. ⌜ askSaid r (now (live .entry)) (now (working .entry)) (now (hold .entry)) (now (out .exit)) ≡ changeAskSays (s .life .limit) s (now (live .entry)) (now (working .entry)) (now (hold .entry)) (now (out .entry)) ⌝ }
 {
     if !is_receiver(s, live, working, hold) {
         return ask_refused(s, AskError::NotAReceiver);
@@ -372,7 +404,8 @@ pub fn change_ask(
             match table {
                 LiveTable::NoTable => ask_refused(s, AskError::NoTable),
                 LiveTable::Known(t) => {
-                    let version = s.version;
+                    let life = s.life;
+                    let version = life.version;
                     let answer = encode_serial_query(
                         RtrSerialQuery {
                             version,
@@ -391,7 +424,7 @@ pub fn change_ask(
 
 // A new connection: Idle, with the table kept; what was held, noted or half loaded is gone.
 pub fn reconnect(s: Session, live: &[u32], working: &mut [u32], hold: &[u8]) -> Reconnected
-    ensures { λ r. ⌜ reconnectSaid r (now (live .entry)) (now (working .exit)) (now (hold .entry)) ≡ reconnectSays 1024 s (now (live .entry)) (now (working .entry)) (now (hold .entry)) ⌝ }
+    ensures { λ r. ⌜ reconnectSaid r (now (live .entry)) (now (working .exit)) (now (hold .entry)) ≡ reconnectSays (s .life .limit) s (now (live .entry)) (now (working .entry)) (now (hold .entry)) ⌝ }
 {
     if !is_receiver(s, live, working, hold) {
         return Reconnected {
@@ -400,16 +433,17 @@ pub fn reconnect(s: Session, live: &[u32], working: &mut [u32], hold: &[u8]) -> 
         };
     }
     empty(working);
-    let version = s.version;
+    let life = s.life;
     let table = s.table;
+    let in_live = s.live;
     Reconnected {
         session: Session {
-            version,
+            life,
             phase: Phase::Idle,
             table,
             note: Note::NoNote,
-            live: s.live,
-            working: 0,
+            live: in_live,
+            working: Counts { records: 0 },
             held: 0,
         },
         answer: ReconnectAnswer::Connected,
@@ -435,7 +469,7 @@ fn compare(serial: u32, table: u32) -> NotifyAnswer
 
 // Whether the last Serial Notify tells of something newer than the table.
 pub fn notify(s: Session, live: &[u32], working: &[u32], hold: &[u8]) -> NotifyAnswer
-    ensures { λ r. ⌜ notifySaid r ≡ notifySays 1024 s (now (live .entry)) (now (working .entry)) (now (hold .entry)) ⌝ }
+    ensures { λ r. ⌜ notifySaid r ≡ notifySays (s .life .limit) s (now (live .entry)) (now (working .entry)) (now (hold .entry)) ⌝ }
 {
     if !is_receiver(s, live, working, hold) {
         return NotifyAnswer::NotAReceiver;
@@ -469,64 +503,68 @@ fn stop_with(s: Session, working: &mut [u32], stop: Stop) -> Session
     ensures { λ r. ⌜ (r ≡ stoppedSession s stop) × (now (working .exit) ≡ replicate (length (now (working .entry))) 0) ⌝ }
 {
     empty(working);
-    let version = s.version;
+    let life = s.life;
     let table = s.table;
     let note = s.note;
+    let live = s.live;
     Session {
-        version,
+        life,
         phase: Phase::Stopped(stop),
         table,
         note,
-        live: s.live,
-        working: 0,
+        live,
+        working: Counts { records: 0 },
         held: 0,
     }
 }
 
 fn on_serial_notify(s: Session, session_id: u16, serial_number: u32) -> Session
-    ensures { λ r. ⌜ r ≡ record { version = s .version; phase = s .phase; table = s .table; note = Note.Noted «session_id» «serial_number»; live = s .live; working = s .working; held = s .held } ⌝ }
+    ensures { λ r. ⌜ r ≡ record { life = s .life; phase = s .phase; table = s .table; note = Note.Noted «session_id» «serial_number»; live = s .live; working = s .working; held = s .held } ⌝ }
 {
-    let version = s.version;
+    let life = s.life;
     let phase = s.phase;
     let table = s.table;
+    let live = s.live;
+    let working = s.working;
     Session {
-        version,
+        life,
         phase,
         table,
         note: Note::Noted(session_id, serial_number),
-        live: s.live,
-        working: s.working,
+        live,
+        working,
         held: s.held,
     }
 }
 
-// The session with a load begun and so many records in the working room.
-fn loading(s: Session, kind: LoadKind, session_id: u16, working: usize) -> Session
-    ensures { λ r. ⌜ r ≡ record { version = s .version; phase = Phase.Loading kind «session_id»; table = s .table; note = s .note; live = s .live; working = working; held = s .held } ⌝ }
+// The session with a load begun and so much in the working room.
+fn loading(s: Session, kind: LoadKind, session_id: u16, working: Counts) -> Session
+    ensures { λ r. ⌜ r ≡ record { life = s .life; phase = Phase.Loading kind «session_id»; table = s .table; note = s .note; live = s .live; working = working; held = s .held } ⌝ }
 {
-    let version = s.version;
+    let life = s.life;
     let table = s.table;
     let note = s.note;
+    let live = s.live;
     Session {
-        version,
+        life,
         phase: Phase::Loading(kind, session_id),
         table,
         note,
-        live: s.live,
+        live,
         working,
         held: s.held,
     }
 }
 
 fn on_cache_response(s: Session, live: &[u32], working: &mut [u32], session_id: u16) -> Session
-    requires { ⌜ BothRooms 1024 s (now live) (now working) ⌝ }
-    ensures { λ r. ⌜ Stands 1024 r (now (live .entry)) (now (working .exit)) (responseIn (stageOf (s .phase)) «session_id» (receiverOf s (now (live .entry)) (now (working .entry)) [])) ⌝ }
+    requires { ⌜ BothRooms (s .life .limit) s (now live) (now working) ⌝ }
+    ensures { λ r. ⌜ Stands (s .life .limit) r (now (live .entry)) (now (working .exit)) (responseIn (stageOf (s .phase)) «session_id» (receiverOf s (now (live .entry)) (now (working .entry)) [])) ⌝ }
 {
     let phase = s.phase;
     match phase {
         Phase::AskedFull => {
             empty(working);
-            loading(s, LoadKind::Full, session_id, 0)
+            loading(s, LoadKind::Full, session_id, Counts { records: 0 })
         }
         Phase::AskedChange => on_change_response(s, live, working, session_id),
         _ => stop_with(s, working, Stop::OutOfTurn),
@@ -535,8 +573,8 @@ fn on_cache_response(s: Session, live: &[u32], working: &mut [u32], session_id: 
 
 // The session must be the table's; the working room starts as the live one.
 fn on_change_response(s: Session, live: &[u32], working: &mut [u32], session_id: u16) -> Session
-    requires { ⌜ BothRooms 1024 s (now live) (now working) ⌝ }
-    ensures { λ r. ⌜ Stands 1024 r (now (live .entry)) (now (working .exit)) (onChangeResponse (s .table) «session_id» (receiverOf s (now (live .entry)) (now (working .entry)) [])) ⌝ }
+    requires { ⌜ BothRooms (s .life .limit) s (now live) (now working) ⌝ }
+    ensures { λ r. ⌜ Stands (s .life .limit) r (now (live .entry)) (now (working .exit)) (onChangeResponse (s .table) «session_id» (receiverOf s (now (live .entry)) (now (working .entry)) [])) ⌝ }
 {
     let table = s.table;
     match table {
@@ -546,36 +584,39 @@ fn on_change_response(s: Session, live: &[u32], working: &mut [u32], session_id:
                 return stop_with(s, working, Stop::OtherSession);
             }
             copy(live, working);
-            loading(s, LoadKind::Change, session_id, s.live)
+            let in_live = s.live;
+            loading(s, LoadKind::Change, session_id, in_live)
         }
     }
 }
 
-// The session with another count in the working room.
-fn with_working(s: Session, working: usize) -> Session
-    ensures { λ r. ⌜ r ≡ record { version = s .version; phase = s .phase; table = s .table; note = s .note; live = s .live; working = working; held = s .held } ⌝ }
+// The session with so many records in the working room.
+fn with_working(s: Session, count: usize) -> Session
+    ensures { λ r. ⌜ r ≡ record { life = s .life; phase = s .phase; table = s .table; note = s .note; live = s .live; working = record { records = count }; held = s .held } ⌝ }
 {
-    let version = s.version;
+    let life = s.life;
     let phase = s.phase;
     let table = s.table;
     let note = s.note;
+    let live = s.live;
     Session {
-        version,
+        life,
         phase,
         table,
         note,
-        live: s.live,
-        working,
+        live,
+        working: Counts { records: count },
         held: s.held,
     }
 }
 
 // An announcement enters: 17 where it is in, then 18 where the room is full.
 fn on_announcement(s: Session, live: &[u32], working: &mut [u32], r: Record) -> Session
-    requires { ⌜ BothRooms 1024 s (now live) (now working) ⌝ }
-    ensures { λ t. ⌜ Stands 1024 t (now (live .entry)) (now (working .exit)) (changedTo (enter 1024 r (records (s .working) (now (working .entry)))) (receiverOf s (now (live .entry)) (now (working .entry)) [])) ⌝ }
+    requires { ⌜ BothRooms (s .life .limit) s (now live) (now working) ⌝ }
+    ensures { λ t. ⌜ Stands (s .life .limit) t (now (live .entry)) (now (working .exit)) (changedTo (enter (s .life .limit) r (records (s .working .records) (now (working .entry)))) (receiverOf s (now (live .entry)) (now (working .entry)) [])) ⌝ }
 {
-    let answer = enter(working, s.working, r);
+    let in_working = s.working;
+    let answer = enter(working, in_working.records, r);
     match answer {
         EnterAnswer::Entered(count) => with_working(s, count),
         EnterAnswer::AlreadyIn => stop_with(s, working, Stop::AlreadyIn),
@@ -586,10 +627,11 @@ fn on_announcement(s: Session, live: &[u32], working: &mut [u32], r: Record) -> 
 
 // A withdrawal leaves: 16 where it is not in.
 fn on_withdrawal(s: Session, live: &[u32], working: &mut [u32], r: Record) -> Session
-    requires { ⌜ BothRooms 1024 s (now live) (now working) ⌝ }
-    ensures { λ t. ⌜ Stands 1024 t (now (live .entry)) (now (working .exit)) (changedTo (leave r (records (s .working) (now (working .entry)))) (receiverOf s (now (live .entry)) (now (working .entry)) [])) ⌝ }
+    requires { ⌜ BothRooms (s .life .limit) s (now live) (now working) ⌝ }
+    ensures { λ t. ⌜ Stands (s .life .limit) t (now (live .entry)) (now (working .exit)) (changedTo (leave r (records (s .working .records) (now (working .entry)))) (receiverOf s (now (live .entry)) (now (working .entry)) [])) ⌝ }
 {
-    let answer = leave(working, s.working, r);
+    let in_working = s.working;
+    let answer = leave(working, in_working.records, r);
     match answer {
         LeaveAnswer::Left(count) => with_working(s, count),
         LeaveAnswer::NotIn => stop_with(s, working, Stop::NotIn),
@@ -598,8 +640,8 @@ fn on_withdrawal(s: Session, live: &[u32], working: &mut [u32], r: Record) -> Se
 }
 
 fn on_record(s: Session, live: &[u32], working: &mut [u32], announced: bool, r: Record) -> Session
-    requires { ⌜ BothRooms 1024 s (now live) (now working) ⌝ }
-    ensures { λ t. ⌜ Stands 1024 t (now (live .entry)) (now (working .exit)) (recordIn 1024 (stageOf (s .phase)) announced r (receiverOf s (now (live .entry)) (now (working .entry)) [])) ⌝ }
+    requires { ⌜ BothRooms (s .life .limit) s (now live) (now working) ⌝ }
+    ensures { λ t. ⌜ Stands (s .life .limit) t (now (live .entry)) (now (working .exit)) (recordIn (s .life .limit) (stageOf (s .phase)) announced r (receiverOf s (now (live .entry)) (now (working .entry)) [])) ⌝ }
 {
     let phase = s.phase;
     match phase {
@@ -614,8 +656,8 @@ fn on_record(s: Session, live: &[u32], working: &mut [u32], announced: bool, r: 
 }
 
 fn on_router_key(s: Session, live: &[u32], working: &mut [u32]) -> Session
-    requires { ⌜ BothRooms 1024 s (now live) (now working) ⌝ }
-    ensures { λ t. ⌜ Stands 1024 t (now (live .entry)) (now (working .exit)) (keyIn (stageOf (s .phase)) (receiverOf s (now (live .entry)) (now (working .entry)) [])) ⌝ }
+    requires { ⌜ BothRooms (s .life .limit) s (now live) (now working) ⌝ }
+    ensures { λ t. ⌜ Stands (s .life .limit) t (now (live .entry)) (now (working .exit)) (keyIn (stageOf (s .phase)) (receiverOf s (now (live .entry)) (now (working .entry)) [])) ⌝ }
 {
     let phase = s.phase;
     match phase {
@@ -625,8 +667,8 @@ fn on_router_key(s: Session, live: &[u32], working: &mut [u32]) -> Session
 }
 
 fn on_cache_reset(s: Session, live: &[u32], working: &mut [u32]) -> Session
-    requires { ⌜ BothRooms 1024 s (now live) (now working) ⌝ }
-    ensures { λ t. ⌜ Stands 1024 t (now (live .entry)) (now (working .exit)) (resetIn (stageOf (s .phase)) (receiverOf s (now (live .entry)) (now (working .entry)) [])) ⌝ }
+    requires { ⌜ BothRooms (s .life .limit) s (now live) (now working) ⌝ }
+    ensures { λ t. ⌜ Stands (s .life .limit) t (now (live .entry)) (now (working .exit)) (resetIn (stageOf (s .phase)) (receiverOf s (now (live .entry)) (now (working .entry)) [])) ⌝ }
 {
     let phase = s.phase;
     match phase {
@@ -637,15 +679,16 @@ fn on_cache_reset(s: Session, live: &[u32], working: &mut [u32]) -> Session
 
 // The working room becomes the live one, whole, and is emptied: the one place where the live room is written after the start.
 fn finish(s: Session, live: &mut [u32], working: &mut [u32], p: RtrEndOfData) -> Session
-    requires { ⌜ BothRooms 1024 s (now live) (now working) ⌝ }
-    ensures { λ t. ⌜ Stands 1024 t (now (live .exit)) (now (working .exit)) (finish p (receiverOf s (now (live .entry)) (now (working .entry)) [])) ⌝ }
+    requires { ⌜ BothRooms (s .life .limit) s (now live) (now working) ⌝ }
+    ensures { λ t. ⌜ Stands (s .life .limit) t (now (live .exit)) (now (working .exit)) (finish p (receiverOf s (now (live .entry)) (now (working .entry)) [])) ⌝ }
 {
     copy(working, live);
     empty(working);
-    let version = s.version;
+    let life = s.life;
     let note = s.note;
+    let in_working = s.working;
     Session {
-        version,
+        life,
         phase: Phase::Idle,
         table: LiveTable::Known(Table {
             session: p.session_id,
@@ -655,15 +698,15 @@ fn finish(s: Session, live: &mut [u32], working: &mut [u32], p: RtrEndOfData) ->
             expire: p.expire_interval_or_default(),
         }),
         note,
-        live: s.working,
-        working: 0,
+        live: in_working,
+        working: Counts { records: 0 },
         held: s.held,
     }
 }
 
 fn on_end_of_data(s: Session, live: &mut [u32], working: &mut [u32], p: RtrEndOfData) -> DeedDone
-    requires { ⌜ BothRooms 1024 s (now live) (now working) ⌝ }
-    ensures { λ d. ⌜ Did 1024 d (now (live .exit)) (now (working .exit)) (endIn (stageOf (s .phase)) p (receiverOf s (now (live .entry)) (now (working .entry)) [])) ⌝ }
+    requires { ⌜ BothRooms (s .life .limit) s (now live) (now working) ⌝ }
+    ensures { λ d. ⌜ Did (s .life .limit) d (now (live .exit)) (now (working .exit)) (endIn (stageOf (s .phase)) p (receiverOf s (now (live .entry)) (now (working .entry)) [])) ⌝ }
 {
     let phase = s.phase;
     match phase {
@@ -739,8 +782,8 @@ fn carried_by(pdu: RtrPdu) -> Carried
 
 // A PDU that carries no record: by what it is.
 fn on_other_kind(s: Session, live: &mut [u32], working: &mut [u32], pdu: RtrPdu) -> DeedDone
-    requires { ⌜ BothRooms 1024 s (now live) (now working) × (carriedBy pdu ≡ Carried.Nothing) ⌝ }
-    ensures { λ d. ⌜ Did 1024 d (now (live .exit)) (now (working .exit)) (onKind 1024 pdu (receiverOf s (now (live .entry)) (now (working .entry)) [])) ⌝ }
+    requires { ⌜ BothRooms (s .life .limit) s (now live) (now working) × (carriedBy pdu ≡ Carried.Nothing) ⌝ }
+    ensures { λ d. ⌜ Did (s .life .limit) d (now (live .exit)) (now (working .exit)) (onKind (s .life .limit) pdu (receiverOf s (now (live .entry)) (now (working .entry)) [])) ⌝ }
 {
     match pdu {
         RtrPdu::SerialNotify(p) => no_update(on_serial_notify(s, p.session_id, p.serial_number)),
@@ -755,8 +798,8 @@ fn on_other_kind(s: Session, live: &mut [u32], working: &mut [u32], pdu: RtrPdu)
 // A PDU of the receiver's version that is no Error Report: a record of either family in one place, so that the compiler keeps the session
 // where it is; any other by what it is.
 fn on_kind(s: Session, live: &mut [u32], working: &mut [u32], pdu: RtrPdu) -> DeedDone
-    requires { ⌜ BothRooms 1024 s (now live) (now working) ⌝ }
-    ensures { λ d. ⌜ Did 1024 d (now (live .exit)) (now (working .exit)) (onKind 1024 pdu (receiverOf s (now (live .entry)) (now (working .entry)) [])) ⌝ }
+    requires { ⌜ BothRooms (s .life .limit) s (now live) (now working) ⌝ }
+    ensures { λ d. ⌜ Did (s .life .limit) d (now (live .exit)) (now (working .exit)) (onKind (s .life .limit) pdu (receiverOf s (now (live .entry)) (now (working .entry)) [])) ⌝ }
 {
     let carried = carried_by(pdu);
     match carried {
@@ -769,8 +812,8 @@ fn on_kind(s: Session, live: &mut [u32], working: &mut [u32], pdu: RtrPdu) -> De
 
 // One PDU: an Error Report of either version stops first, then another version, then what it is decides.
 fn on_pdu(s: Session, live: &mut [u32], working: &mut [u32], pdu: RtrPdu) -> DeedDone
-    requires { ⌜ BothRooms 1024 s (now live) (now working) ⌝ }
-    ensures { λ d. ⌜ Did 1024 d (now (live .exit)) (now (working .exit)) (onPdu 1024 pdu (receiverOf s (now (live .entry)) (now (working .entry)) [])) ⌝ }
+    requires { ⌜ BothRooms (s .life .limit) s (now live) (now working) ⌝ }
+    ensures { λ d. ⌜ Did (s .life .limit) d (now (live .exit)) (now (working .exit)) (onPdu (s .life .limit) pdu (receiverOf s (now (live .entry)) (now (working .entry)) [])) ⌝ }
 {
     match pdu {
         RtrPdu::ErrorReport(p) => {
@@ -778,7 +821,8 @@ fn on_pdu(s: Session, live: &mut [u32], working: &mut [u32], pdu: RtrPdu) -> Dee
             no_update(stop_with(s, working, Stop::ErrorReport(code)))
         }
         _ => {
-            let version = s.version;
+            let life = s.life;
+            let version = life.version;
             if !is_version(pdu.version(), version) {
                 return no_update(stop_with(s, working, Stop::OtherVersion));
             }
@@ -804,19 +848,21 @@ struct Step {
 
 // The session with another count in the hold.
 fn with_held(s: Session, held: usize) -> Session
-    ensures { λ r. ⌜ r ≡ record { version = s .version; phase = s .phase; table = s .table; note = s .note; live = s .live; working = s .working; held = held } ⌝ }
+    ensures { λ r. ⌜ r ≡ record { life = s .life; phase = s .phase; table = s .table; note = s .note; live = s .live; working = s .working; held = held } ⌝ }
 {
-    let version = s.version;
+    let life = s.life;
     let phase = s.phase;
     let table = s.table;
     let note = s.note;
+    let live = s.live;
+    let working = s.working;
     Session {
-        version,
+        life,
         phase,
         table,
         note,
-        live: s.live,
-        working: s.working,
+        live,
+        working,
         held,
     }
 }
@@ -854,8 +900,8 @@ fn one_step(
     at: usize,
     updates: usize,
 ) -> Step
-    requires { ⌜ StepAsks 1024 s (now live) (now working) (now hold) (now piece) at updates ⌝ }
-    ensures { λ r. ⌜ Stepped 1024 (feedHere 1024 s (now (live .entry)) (now (working .entry)) (now (hold .entry)) (now (piece .entry)) at updates) (now (piece .entry)) at r (now (live .exit)) (now (working .exit)) (now (hold .exit)) ⌝ }
+    requires { ⌜ StepAsks (s .life .limit) s (now live) (now working) (now hold) (now piece) at updates ⌝ }
+    ensures { λ r. ⌜ Stepped (s .life .limit) (feedHere (s .life .limit) s (now (live .entry)) (now (working .entry)) (now (hold .entry)) (now (piece .entry)) at updates) (now (piece .entry)) at r (now (live .exit)) (now (working .exit)) (now (hold .exit)) ⌝ }
 {
     let searched = search(hold, Stream { held: s.held }, piece, at);
     let next = searched.next;
@@ -887,9 +933,25 @@ fn one_step(
     }
 }
 
+// What a feed does next. Its promise is that of one PDU; any number of them may be taken at once.
+fn next_step(
+    s: Session,
+    live: &mut [u32],
+    working: &mut [u32],
+    hold: &mut [u8],
+    piece: &[u8],
+    at: usize,
+    updates: usize,
+) -> Step
+    requires { ⌜ StepAsks (s .life .limit) s (now live) (now working) (now hold) (now piece) at updates ⌝ }
+    ensures { λ r. ⌜ Stepped (s .life .limit) (feedHere (s .life .limit) s (now (live .entry)) (now (working .entry)) (now (hold .entry)) (now (piece .entry)) at updates) (now (piece .entry)) at r (now (live .exit)) (now (working .exit)) (now (hold .exit)) ⌝ }
+{
+    one_step(s, live, working, hold, piece, at, updates)
+}
+
 // A piece of any length: it is searched PDU by PDU until it is taken or a stop; in Stopped none is taken and the stop is given again.
 pub fn feed(s: Session, live: &mut [u32], working: &mut [u32], hold: &mut [u8], piece: &[u8]) -> Fed
-    ensures { λ r. ⌜ fedSaid r (now (live .exit)) (now (working .exit)) (now (hold .exit)) ≡ feedSays 1024 s (now (live .entry)) (now (working .entry)) (now (hold .entry)) (now (piece .entry)) ⌝ }
+    ensures { λ r. ⌜ fedSaid r (now (live .exit)) (now (working .exit)) (now (hold .exit)) ≡ feedSays (s .life .limit) s (now (live .entry)) (now (working .entry)) (now (hold .entry)) (now (piece .entry)) ⌝ }
 {
     if !is_receiver(s, live, working, hold) {
         return Fed {
@@ -916,7 +978,7 @@ pub fn feed(s: Session, live: &mut [u32], working: &mut [u32], hold: &mut [u8], 
     let mut at = 0;
     let mut updates = 0;
     let answer = loop {
-        let step = one_step(session, live, working, hold, piece, at, updates);
+        let step = next_step(session, live, working, hold, piece, at, updates);
         session = step.session;
         at = step.next;
         updates = step.updates;

@@ -8,6 +8,7 @@ use rtr_listing::head_lines;
 use rtr_listing::record_lines;
 use rtr_models::RtrProtocolVersion;
 use rtr_receiver::FeedAnswer;
+use rtr_receiver::RECORD_LIMIT;
 use rtr_receiver::Session;
 use rtr_receiver::StartAnswer;
 use rtr_receiver::feed;
@@ -98,7 +99,8 @@ fn print_record(r: Record) {
 // The listing in parts: the head, and then record by record.
 fn print_table(s: Session, live: &[u32]) {
     print_head(s);
-    let count = s.live;
+    let in_live = s.live;
+    let count = in_live.records;
     let mut i = 0;
     while i < count {
         if let RecordFound::Found(r) = get(live, i) {
@@ -109,8 +111,8 @@ fn print_table(s: Session, live: &[u32]) {
 }
 
 fn main() {
-    let mut live = [0u32; 6144];
-    let mut working = [0u32; 6144];
+    let mut live = [0u32; 6 * RECORD_LIMIT];
+    let mut working = [0u32; 6 * RECORD_LIMIT];
     let mut hold = [0u8; 8192];
     let mut query = [0u8; 8];
     let started = start(RtrProtocolVersion::V1, &mut live, &mut working, &hold);

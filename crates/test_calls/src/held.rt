@@ -11,12 +11,15 @@ fn session_in(numbers: &[u64]) -> Session {
     match found {
         SessionFound::Known(s) => s,
         SessionFound::Unknown => Session {
-            version: RtrProtocolVersion::V0,
+            life: Life {
+                version: RtrProtocolVersion::V0,
+                limit: RECORD_LIMIT,
+            },
             phase: Phase::Stopped(Stop::OutOfTurn),
             table: LiveTable::NoTable,
             note: Note::NoNote,
-            live: 0,
-            working: 0,
+            live: Counts { records: 0 },
+            working: Counts { records: 0 },
             held: 0,
         },
     }

@@ -36,7 +36,7 @@ same-length-2 c = search needs
 returns : tie.Need-returns
 unfolding changeAskC
 returns c = (
-  ask-known (now (c .before .before .before .before .before .before .before .before .before .before .before .before .before .before .before .before .before .before .before .before .args .session)) (c .before .before .before .before .before .before .before .before .before .before .before .before .before .session-of .result) (c .before .before .before .before .before .before .before .before .before .before .before .before .before .session-of .ensures) (λ (s : Session). changeAskSays 1024 s (now (c .before .before .before .before .before .before .before .before .before .before .before .before .before .before .before .before .before .before .before .before .args .live)) (now (c .before .before .before .before .before .before .before .before .before .before .before .before .before .before .before .before .before .before .before .before .args .working)) (now (c .before .before .before .before .before .before .before .before .before .before .before .before .before .before .before .before .before .before .before .before .args .hold)) (now (c .before .before .before .before .before .before .before .before .before .before .before .before .before .before .before .before .before .before .before .before .args .out))) (now (c .before .before .before .before .before .before .before .before .before .before .before .before .before .before .before .before .before .before .before .before .args .live)) (now (c .before .before .before .before .before .before .before .before .before .before .before .before .before .before .before .before .before .before .before .before .args .working)) (now (c .before .before .before .before .before .before .before .before .before .before .before .before .before .before .before .before .before .before .before .before .args .hold)) (now (c .before .before .before .before .before .before .before .before .before .before .before .before .before .before .before .before .before .before .before .before .args .out)) _ (c .before .before .before .before .before .before .before .before .change-ask .result) _ _ _ (c .before .before .before .before .before .before .before .before .before .before .before .found .given .1) (c .before .before .before .before .before .before .before .before .change-ask .ensures) (c .ask-number .ensures) (c .before .before .before .put-session .ensures .0 .1),
+  ask-known (now (c .before .before .before .before .before .before .before .before .before .before .before .before .before .before .before .before .before .before .before .before .args .session)) (c .before .before .before .before .before .before .before .before .before .before .before .before .before .session-of .result) (c .before .before .before .before .before .before .before .before .before .before .before .before .before .session-of .ensures) (λ (s : Session). changeAskSays (s .life .limit) s (now (c .before .before .before .before .before .before .before .before .before .before .before .before .before .before .before .before .before .before .before .before .args .live)) (now (c .before .before .before .before .before .before .before .before .before .before .before .before .before .before .before .before .before .before .before .before .args .working)) (now (c .before .before .before .before .before .before .before .before .before .before .before .before .before .before .before .before .before .before .before .before .args .hold)) (now (c .before .before .before .before .before .before .before .before .before .before .before .before .before .before .before .before .before .before .before .before .args .out))) (now (c .before .before .before .before .before .before .before .before .before .before .before .before .before .before .before .before .before .before .before .before .args .live)) (now (c .before .before .before .before .before .before .before .before .before .before .before .before .before .before .before .before .before .before .before .before .args .working)) (now (c .before .before .before .before .before .before .before .before .before .before .before .before .before .before .before .before .before .before .before .before .args .hold)) (now (c .before .before .before .before .before .before .before .before .before .before .before .before .before .before .before .before .before .before .before .before .args .out)) _ (c .before .before .before .before .before .before .before .before .change-ask .result) _ _ _ (c .before .before .before .before .before .before .before .before .before .before .before .found .given .1) (c .before .before .before .before .before .before .before .before .change-ask .ensures) (c .ask-number .ensures) (c .before .before .before .put-session .ensures .0 .1),
   (
     stays-session (now (c .before .before .before .before .before .before .before .before .before .before .before .before .before .before .before .before .before .before .before .before .args .session)) (c .before .before .before .before .before .before .before .before .before .before .before .before .before .session-of .result) (c .before .before .before .before .before .before .before .before .before .before .before .before .before .session-of .ensures) _ _ _ (c .before .before .before .before .before .before .before .before .before .before .before .found .given .1) (c .before .before .before .put-session .ensures .1),
     leads-change (now (c .before .before .before .before .before .before .before .before .before .before .before .before .before .before .before .before .before .before .before .before .args .session)) (c .before .before .before .before .before .before .before .before .before .before .before .before .before .session-of .result) (c .before .before .before .before .before .before .before .before .before .before .before .before .before .session-of .ensures) (now (c .before .before .before .before .before .before .before .before .before .before .before .before .before .before .before .before .before .before .before .before .args .live)) (now (c .before .before .before .before .before .before .before .before .before .before .before .before .before .before .before .before .before .before .before .before .args .working)) (now (c .before .before .before .before .before .before .before .before .before .before .before .before .before .before .before .before .before .before .before .before .args .hold)) _ (c .before .before .before .before .before .before .before .before .before .before .before .found .given .1) (now (c .before .before .before .before .before .before .before .before .before .before .before .before .before .before .before .before .before .before .before .before .args .out)) (c .before .before .before .before .before .before .before .before .change-ask .result) _ _ (c .before .before .before .before .before .before .before .before .change-ask .ensures) (c .before .before .before .put-session .ensures .1),
@@ -49,7 +49,7 @@ same-length-3 c = search needs
 returns-2 : tie.Need-returns-2
 unfolding changeAskC
 returns-2 c = (
-  ask-unknown (now (c .before .before .before .before .before .before .before .before .before .args .session)) (c .before .before .session-of .result) (c .before .before .session-of .ensures) (λ (s : Session). changeAskSays 1024 s (now (c .before .before .before .before .before .before .before .before .before .args .live)) (now (c .before .before .before .before .before .before .before .before .before .args .working)) (now (c .before .before .before .before .before .before .before .before .before .args .hold)) (now (c .before .before .before .before .before .before .before .before .before .args .out))) (now (c .before .before .before .before .before .before .before .before .before .args .live)) (now (c .before .before .before .before .before .before .before .before .before .args .working)) (now (c .before .before .before .before .before .before .before .before .before .args .hold)) (now (c .before .before .before .before .before .before .before .before .before .args .out)) (c .enum-told .given .1),
+  ask-unknown (now (c .before .before .before .before .before .before .before .before .before .args .session)) (c .before .before .session-of .result) (c .before .before .session-of .ensures) (λ (s : Session). changeAskSays (s .life .limit) s (now (c .before .before .before .before .before .before .before .before .before .args .live)) (now (c .before .before .before .before .before .before .before .before .before .args .working)) (now (c .before .before .before .before .before .before .before .before .before .args .hold)) (now (c .before .before .before .before .before .before .before .before .before .args .out))) (now (c .before .before .before .before .before .before .before .before .before .args .live)) (now (c .before .before .before .before .before .before .before .before .before .args .working)) (now (c .before .before .before .before .before .before .before .before .before .args .hold)) (now (c .before .before .before .before .before .before .before .before .before .args .out)) (c .enum-told .given .1),
   (
     refl,
     leads-none (now (c .before .before .before .before .before .before .before .before .before .args .session)) (c .before .before .session-of .result) (c .before .before .session-of .ensures) (now (c .before .before .before .before .before .before .before .before .before .args .live)) (now (c .before .before .before .before .before .before .before .before .before .args .working)) (now (c .before .before .before .before .before .before .before .before .before .args .hold)) _ _ (c .enum-told .given .1),

@@ -73,7 +73,7 @@ record State (piece : List ℕ) (m : Lent) (count : ℕ) : Type 0 where
   size1 : length (at .live) ≡ length (m .live)
   size2 : length (at .working) ≡ length (m .working)
   size3 : length (at .hold) ≡ length (m .hold)
-  fed : FedTimes 1024 piece m turns at
+  fed : FedTimes piece m turns at
 
 -- the lifetimes of a call's loans, and their names
 record Loans : Type 0 where
@@ -96,7 +96,7 @@ same-sum zero t h = absurd (lt-irrefl zero h)
 same-sum (suc k) t h = ap (λ (j : ℕ). suc t + j) (suc-sub-suc k 0 ∙ sub-zero k) ∙ suc-add t k ∙ sym (add-suc t k)
 
 abbrev next : {piece : List ℕ} {m : Lent} {count : ℕ} (x : State piece m count) → 0 < x .left → (d : Done) (s : Session) (z1 z2 z3 : List ℕ)
-    → fedSaid (record { session = s; done = d }) z1 z2 z3 ≡ feedSays 1024 (x .at .session) (x .at .live) (x .at .working) (x .at .hold) piece
+    → fedSaid (record { session = s; done = d }) z1 z2 z3 ≡ feedSays (x .at .session .life .limit) (x .at .session) (x .at .live) (x .at .working) (x .at .hold) piece
     → length z1 ≡ length (x .at .live) → length z2 ≡ length (x .at .working) → length z3 ≡ length (x .at .hold) → State piece m count
 next x less d s z1 z2 z3 e l1 l2 l3 =
     record {
@@ -228,7 +228,7 @@ module _ {M : Type 1} (𝓤 : URA M) (H : Heap 𝓤) (A : Atoms 𝓤) (W : Given
 
   -- what the callee ensures, of its answer, of the record and of the last lists
   abbrev Said : X → Done → Session → List ℕ → List ℕ → List ℕ → Type 0
-  Said x d s z1 z2 z3 = fedSaid (record { session = s; done = d }) z1 z2 z3 ≡ feedSays 1024 (x .at .session) (x .at .live) (x .at .working) (x .at .hold) (x4 .now)
+  Said x d s z1 z2 z3 = fedSaid (record { session = s; done = d }) z1 z2 z3 ≡ feedSays (x .at .session .life .limit) (x .at .session) (x .at .live) (x .at .working) (x .at .hold) (x4 .now)
 
   abbrev Goes-on : X → X → Type 0
   Goes-on x x′ = (x .left - 1 ≡ x′ .left) × (x′ .left < x .left)
@@ -256,7 +256,7 @@ module _ {M : Type 1} (𝓤 : URA M) (H : Heap 𝓤) (A : Atoms 𝓤) (W : Given
   exits x none =
       qed W (Held x ∷ []) ∵ split ! $ move ! (1 ∷ []) $ split ! $ move ! (1 ∷ []) $ split ! $ move ! (1 ∷ []) $ split ! $ move ! (1 ∷ []) $ split ! $ move ! (1 ∷ []) $ split ! $ move ! (1 ∷ []) $ split ! $ move ! (1 ∷ []) $ split ! $ move ! (1 ∷ []) $ split ! $ move ! (1 ∷ []) $
       suffices ! _ (ends-at 𝓤 H A f.ended stayed (f.clauses 𝓤 H A at-mem run) W bound vunit tt (x .at .session, (x .at .live, (x .at .working, (x .at .hold, (tt, (tt, tt)))))) (tt, (x .size1, (x .size2, (x .size3, (tt, (tt, tt))))))) $
-      says ! (subst (λ (n : ℕ). FedTimes 1024 (x4 .now) before n (x .at)) (sym (add-zero (x .turns)) ∙ ap (λ (n : ℕ). x .turns + n) (sym none) ∙ x .all) (x .fed)) $
+      says ! (subst (λ (n : ℕ). FedTimes (x4 .now) before n (x .at)) (sym (add-zero (x .turns)) ∙ ap (λ (n : ℕ). x .turns + n) (sym none) ∙ x .all) (x .fed)) $
       nothing ! $ move ! (1 ∷ 0 ∷ []) $ join ! $ move ! (1 ∷ 0 ∷ []) $ join ! $ move ! (1 ∷ 0 ∷ []) $ join ! $ move ! (1 ∷ 0 ∷ []) $ join ! $ move ! (1 ∷ 0 ∷ []) $ join ! $ frame ! $
       nothing ! $ owned ! u32 (Is u32) (uint-makes 𝓤 H A W w32) count (vint w32 count ∷ []) (refl, fc) $ fjoin ! $ move ! (1 ∷ 0 ∷ []) $ fjoin ! $ move ! (1 ∷ 0 ∷ []) $ fjoin ! $ move ! (1 ∷ 0 ∷ []) $ fjoin ! $ move ! (1 ∷ 0 ∷ []) $ fjoin ! $ move ! (1 ∷ 0 ∷ []) $ fjoin ! $ frame ! $
       feqI ! (List Val) (vunit ∷ []) (vunit ∷ []) refl $ done !

@@ -129,7 +129,7 @@ module _ {M : Type 1} (𝓤 : URA M) (H : Heap 𝓤) (A : Atoms 𝓤) (W : Given
 
   -- what the callee ensures, of the record and of the last lists
   abbrev Said : Session → List ℕ → List ℕ → List ℕ → Type 0
-  Said s z1 z2 z3 = FedTimes 1024 (x4 .now) (record { session = h; live = x1 .now; working = x2 .now; hold = x3 .now }) count (record { session = s; live = z1; working = z2; hold = z3 })
+  Said s z1 z2 z3 = FedTimes (x4 .now) (record { session = h; live = x1 .now; working = x2 .now; hold = x3 .now }) count (record { session = s; live = z1; working = z2; hold = z3 })
 
   abbrev Zs : Type 0
   Zs = List ℕ × List ℕ × List ℕ

@@ -136,7 +136,7 @@ module _ {M : Type 1} (𝓤 : URA M) (H : Heap 𝓤) (A : Atoms 𝓤) (W : Given
 
   -- what the callee ensures, of what is returned and of the last lists
   abbrev Said : AskedSession → List ℕ → Type 0
-  Said r z4 = askSaid r (x1 .now) (x2 .now) (x3 .now) z4 ≡ fullAskSays 1024 h (x1 .now) (x2 .now) (x3 .now) (x4 .now)
+  Said r z4 = askSaid r (x1 .now) (x2 .now) (x3 .now) z4 ≡ fullAskSays (h .life .limit) h (x1 .now) (x2 .now) (x3 .now) (x4 .now)
 
   abbrev Zs : Type 0
   Zs = List ℕ

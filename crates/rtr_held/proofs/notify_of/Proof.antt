@@ -126,7 +126,7 @@ module _ {M : Type 1} (𝓤 : URA M) (H : Heap 𝓤) (A : Atoms 𝓤) (W : Given
 
   -- what the callee ensures, of what is returned and of the last lists
   abbrev Said : NotifyAnswer → Type 0
-  Said r = notifySaid r ≡ notifySays 1024 h (x1 .now) (x2 .now) (x3 .now)
+  Said r = notifySaid r ≡ notifySays (h .life .limit) h (x1 .now) (x2 .now) (x3 .now)
 
   said : (d : NotifyAnswer) → ent 𝓤 (Rest d) (fact 𝓤 (Said d))
   said d = exE 𝓤 _ (λ zs. snd∗ 𝓤 (sem 𝓤 H A (lasts callee.ended (κ1, (κ2, (κ3, tt))) passed zs)) (fact 𝓤 (Said d)))

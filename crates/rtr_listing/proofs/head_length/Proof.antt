@@ -9,10 +9,10 @@ slice-aggregate-put-head : tie.Need-slice-aggregate-put-head
 slice-aggregate-put-head c = search needs
 
 put-head-requires : tie.Need-put-head-requires
-put-head-requires c κs = omega (arith, head-at-most (c .before .args .s))
+put-head-requires c κs = omega (arith, head-at-most (c .before .args .head))
 
 returns : tie.Need-returns
-returns c = omega (arith, c .before .put-head .ensures .place, head-at-most (c .before .before .before .args .s))
+returns c = omega (arith, c .before .put-head .ensures .place, head-at-most (c .before .before .before .args .head))
 
 pub head-length-spec : {M : Type 1} → statement M
 head-length-spec = tie.close (tie.spec slice-aggregate-put-head put-head-requires returns)

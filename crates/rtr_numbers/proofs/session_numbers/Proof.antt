@@ -56,28 +56,32 @@ wide-requires-2 c κs = search needs
 wide-requires-3 : tie.Need-wide-requires-3
 wide-requires-3 c κs = search needs
 
+wide-requires-4 : tie.Need-wide-requires-4
+wide-requires-4 c κs = search needs
+
 returns : tie.Need-returns
 unfolding numbersOf
 returns c =
-    let version = c .before .before .before .before .before .before .before .before .before .before .before .before .wide8 .ensures ∙ c .before .before .before .before .before .before .before .before .before .before .before .before .before .to-u8 .ensures in
-    let phase = ap (λ (p : PhaseNumbers). p .phase) (c .before .before .before .before .before .before .before .before .before .before .before .before .before .before .before .phase-numbers .ensures) in
-    let detail = ap (λ (p : PhaseNumbers). p .detail) (c .before .before .before .before .before .before .before .before .before .before .before .before .before .before .before .phase-numbers .ensures) in
-    let first = ap (λ (p : PhaseNumbers). p .first) (c .before .before .before .before .before .before .before .before .before .before .before .before .before .before .before .phase-numbers .ensures) in
-    let second = ap (λ (p : PhaseNumbers). p .second) (c .before .before .before .before .before .before .before .before .before .before .before .before .before .before .before .phase-numbers .ensures) in
-    let third = ap (λ (p : PhaseNumbers). p .third) (c .before .before .before .before .before .before .before .before .before .before .before .before .before .before .before .phase-numbers .ensures) in
-    let known = c .before .before .before .before .before .before .before .before .before .before .before .table-number .ensures in
-    let session = c .before .before .before .before .before .before .before .before .before .before .wide16 .ensures ∙ ap (λ (t : Table). t .session) (c .before .before .before .before .before .before .before .before .before .before .before .before .before .before .table-or .ensures) in
-    let serial = c .before .before .before .before .before .before .before .before .before .wide32 .ensures ∙ ap (λ (t : Table). t .serial) (c .before .before .before .before .before .before .before .before .before .before .before .before .before .before .table-or .ensures) in
-    let refresh = c .before .before .before .before .before .before .before .before .wide322 .ensures ∙ ap (λ (t : Table). t .refresh) (c .before .before .before .before .before .before .before .before .before .before .before .before .before .before .table-or .ensures) in
-    let retry = c .before .before .before .before .before .before .before .wide323 .ensures ∙ ap (λ (t : Table). t .retry) (c .before .before .before .before .before .before .before .before .before .before .before .before .before .before .table-or .ensures) in
-    let expire = c .before .before .before .before .before .before .wide324 .ensures ∙ ap (λ (t : Table). t .expire) (c .before .before .before .before .before .before .before .before .before .before .before .before .before .before .table-or .ensures) in
-    let noted = c .before .before .before .before .before .note-number .ensures in
-    let note-session = c .before .before .before .before .note-session .ensures in
-    let note-serial = c .before .before .before .note-serial .ensures in
-    let live = c .before .before .wide .ensures in
-    let working = c .before .wide2 .ensures in
-    let held = c .wide3 .ensures in
-    λ i. version i ∷ phase i ∷ detail i ∷ first i ∷ second i ∷ third i ∷ known i ∷ session i ∷ serial i ∷ refresh i ∷ retry i ∷ expire i ∷ noted i ∷ note-session i ∷ note-serial i ∷ live i ∷ working i ∷ held i ∷ []
+    let version = c .before .before .before .before .before .before .before .before .before .before .before .before .before .wide8 .ensures ∙ c .before .before .before .before .before .before .before .before .before .before .before .before .before .before .to-u8 .ensures in
+    let phase = ap (λ (p : PhaseNumbers). p .phase) (c .before .before .before .before .before .before .before .before .before .before .before .before .before .before .before .before .phase-numbers .ensures) in
+    let detail = ap (λ (p : PhaseNumbers). p .detail) (c .before .before .before .before .before .before .before .before .before .before .before .before .before .before .before .before .phase-numbers .ensures) in
+    let first = ap (λ (p : PhaseNumbers). p .first) (c .before .before .before .before .before .before .before .before .before .before .before .before .before .before .before .before .phase-numbers .ensures) in
+    let second = ap (λ (p : PhaseNumbers). p .second) (c .before .before .before .before .before .before .before .before .before .before .before .before .before .before .before .before .phase-numbers .ensures) in
+    let third = ap (λ (p : PhaseNumbers). p .third) (c .before .before .before .before .before .before .before .before .before .before .before .before .before .before .before .before .phase-numbers .ensures) in
+    let known = c .before .before .before .before .before .before .before .before .before .before .before .before .table-number .ensures in
+    let session = c .before .before .before .before .before .before .before .before .before .before .before .wide16 .ensures ∙ ap (λ (t : Table). t .session) (c .before .before .before .before .before .before .before .before .before .before .before .before .before .before .before .table-or .ensures) in
+    let serial = c .before .before .before .before .before .before .before .before .before .before .wide32 .ensures ∙ ap (λ (t : Table). t .serial) (c .before .before .before .before .before .before .before .before .before .before .before .before .before .before .before .table-or .ensures) in
+    let refresh = c .before .before .before .before .before .before .before .before .before .wide322 .ensures ∙ ap (λ (t : Table). t .refresh) (c .before .before .before .before .before .before .before .before .before .before .before .before .before .before .before .table-or .ensures) in
+    let retry = c .before .before .before .before .before .before .before .before .wide323 .ensures ∙ ap (λ (t : Table). t .retry) (c .before .before .before .before .before .before .before .before .before .before .before .before .before .before .before .table-or .ensures) in
+    let expire = c .before .before .before .before .before .before .before .wide324 .ensures ∙ ap (λ (t : Table). t .expire) (c .before .before .before .before .before .before .before .before .before .before .before .before .before .before .before .table-or .ensures) in
+    let noted = c .before .before .before .before .before .before .note-number .ensures in
+    let note-session = c .before .before .before .before .before .note-session .ensures in
+    let note-serial = c .before .before .before .before .note-serial .ensures in
+    let live = c .before .before .before .wide .ensures in
+    let working = c .before .before .wide2 .ensures in
+    let held = c .before .wide3 .ensures in
+    let limit = c .wide4 .ensures in
+    λ i. version i ∷ phase i ∷ detail i ∷ first i ∷ second i ∷ third i ∷ known i ∷ session i ∷ serial i ∷ refresh i ∷ retry i ∷ expire i ∷ noted i ∷ note-session i ∷ note-serial i ∷ live i ∷ working i ∷ held i ∷ limit i ∷ 0 ∷ 0 ∷ 0 ∷ 0 ∷ 0 ∷ []
 
 pub session-numbers-spec : {M : Type 1} → statement M
 session-numbers-spec =
@@ -99,4 +103,5 @@ session-numbers-spec =
     wide-requires
     wide-requires-2
     wide-requires-3
+    wide-requires-4
     returns)

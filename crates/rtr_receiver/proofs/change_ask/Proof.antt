@@ -21,7 +21,7 @@ returns : tie.Need-returns
 unfolding changeAskSays
 returns c =
     let a = c .before .before .before .before .before .before .before .args in
-    ask-shapeless 1024 (a .s) (now (a .live)) (now (a .working)) (now (a .hold)) (λ (r : Receiver). changeQuery (r .stage) r) (now (a .out)) (c .ask-refused .result) (c .ask-refused .ensures) (fails (c .before .before .is-receiver .ensures) (c .before .if1 .taken))
+    ask-shapeless (a .s .life .limit) (a .s) (now (a .live)) (now (a .working)) (now (a .hold)) (λ (r : Receiver). changeQuery (r .stage) r) (now (a .out)) (c .ask-refused .result) (c .ask-refused .ensures) (fails (c .before .before .is-receiver .ensures) (c .before .if1 .taken))
 
 enum-told : tie.Need-enum-told
 enum-told c = search needs
@@ -48,7 +48,7 @@ returns-2 : tie.Need-returns-2
 unfolding changeAskSays
 returns-2 c =
     let a = c .before .before .before .before .before .before .before .before .before .before .before .args in
-    ask-without-table 1024 (a .s) (now (a .live)) (now (a .working)) (now (a .hold)) (λ (r : Receiver). changeQuery (r .stage) r) (now (a .out)) (c .ask-refused2 .result) (c .ask-refused2 .ensures) (holds (c .before .before .before .before .before .before .is-receiver .ensures) (c .before .before .before .before .before .if1 .left))
+    ask-without-table (a .s .life .limit) (a .s) (now (a .live)) (now (a .working)) (now (a .hold)) (λ (r : Receiver). changeQuery (r .stage) r) (now (a .out)) (c .ask-refused2 .result) (c .ask-refused2 .ensures) (holds (c .before .before .before .before .before .before .is-receiver .ensures) (c .before .before .before .before .before .if1 .left))
     (ap (λ (p : Phase). changeQuery (stageOf p) (receiverOf (a .s) (now (a .live)) (now (a .working)) (now (a .hold)))) (c .before .before .before .enum-told .given .1) ∙ ap (λ (t : LiveTable). serialQuery t (receiverOf (a .s) (now (a .live)) (now (a .working)) (now (a .hold)))) (c .before .enum-told2 .given .1))
 
 same-length : tie.Need-same-length
@@ -57,16 +57,16 @@ same-length c = search needs
 returns-3 : tie.Need-returns-3
 unfolding changeAskSays
 returns-3 c =
-    let a = c .before .before .before .before .before .before .before .before .before .before .before .before .before .before .before .before .args in
-    ask-written 1024 (a .s) (now (a .live)) (now (a .working)) (now (a .hold)) (λ (r : Receiver). changeQuery (r .stage) r) (now (a .out)) (c .asked .result) (c .before .before .before .encode-serial-query .result) Phase.AskedChange _ _ (c .asked .ensures) (holds (c .before .before .before .before .before .before .before .before .before .before .before .is-receiver .ensures) (c .before .before .before .before .before .before .before .before .before .before .if1 .left))
-    (ap (λ (p : Phase). changeQuery (stageOf p) (receiverOf (a .s) (now (a .live)) (now (a .working)) (now (a .hold)))) (c .before .before .before .before .before .before .before .before .enum-told .given .1) ∙ ap (λ (t : LiveTable). serialQuery t (receiverOf (a .s) (now (a .live)) (now (a .working)) (now (a .hold)))) (c .before .before .before .before .before .before .table .given .1))
+    let a = c .before .before .before .before .before .before .before .before .before .before .before .before .before .before .before .before .before .args in
+    ask-written (a .s .life .limit) (a .s) (now (a .live)) (now (a .working)) (now (a .hold)) (λ (r : Receiver). changeQuery (r .stage) r) (now (a .out)) (c .asked .result) (c .before .before .before .encode-serial-query .result) Phase.AskedChange _ _ (c .asked .ensures) (holds (c .before .before .before .before .before .before .before .before .before .before .before .before .is-receiver .ensures) (c .before .before .before .before .before .before .before .before .before .before .before .if1 .left))
+    (ap (λ (p : Phase). changeQuery (stageOf p) (receiverOf (a .s) (now (a .live)) (now (a .working)) (now (a .hold)))) (c .before .before .before .before .before .before .before .before .before .enum-told .given .1) ∙ ap (λ (t : LiveTable). serialQuery t (receiverOf (a .s) (now (a .live)) (now (a .working)) (now (a .hold)))) (c .before .before .before .before .before .before .before .table .given .1))
     (c .before .before .before .encode-serial-query .ensures)
 
 returns-4 : tie.Need-returns-4
 unfolding changeAskSays
 returns-4 c =
     let a = c .before .before .before .before .before .before .before .before .args in
-    ask-in-wrong-phase 1024 (a .s) (now (a .live)) (now (a .working)) (now (a .hold)) (λ (r : Receiver). changeQuery (r .stage) r) (now (a .out)) (c .ask-refused3 .result) (c .ask-refused3 .ensures) (holds (c .before .before .before .is-receiver .ensures) (c .before .before .if1 .left))
+    ask-in-wrong-phase (a .s .life .limit) (a .s) (now (a .live)) (now (a .working)) (now (a .hold)) (λ (r : Receiver). changeQuery (r .stage) r) (now (a .out)) (c .ask-refused3 .result) (c .ask-refused3 .ensures) (holds (c .before .before .before .is-receiver .ensures) (c .before .before .if1 .left))
     (change-else (a .s .phase) (receiverOf (a .s) (now (a .live)) (now (a .working)) (now (a .hold))) (c .before .match .keys2))
 
 pub change-ask-spec : {M : Type 1} → statement M

@@ -1,6 +1,6 @@
 -- `feed` goes from PDU to PDU: at the loop's head memory has receiver shape, the receiver listens, and the feed from there comes to what the whole feed
 -- comes to. A step that goes on has moved on in the piece, so the measure is what is left of it. Assumes nothing.
-use Prim.Native.Nat.{_-_, _≤_}
+use Prim.Native.Nat.{ℕ, _-_, _≤_}
 use mathlib.Core.Bool.{true}
 use mathlib.Core.Path.{_≡_, refl, sym, ap, _∙_, subst}
 use native.Mathlib.Omega.{arith}
@@ -11,20 +11,22 @@ use borrow.Author.Tests.{not-true, not-false}
 use Rattle.rtr_receiver.specs.Receiver.{listens}
 use Rattle.rtr_receiver.specs.Promises.{stageOf, isReceiver, fedTo}
 use Rattle.rtr_receiver.specs.Private.{feedHere, SteppedTo}
+use Rattle.rtr_receiver.proofs.Memory.{limit-of}
 use Rattle.rtr_receiver.proofs.Stepping.{feed-refused, feed-taken, feed-stopped, other-listens}
 use Rattle.rtr_receiver.proofs.feed.Statement.{statement}
 use Rattle.rtr_receiver.proofs.feed.Tie as tie
 
 abbrev Inv-loop : tie.InvT-loop
 Inv-loop live₀ working₀ hold₀ piece session₀ at₀ updates₀ live working hold session at updates =
-    (isReceiver 1024 session live working hold ≡ true)
+    (isReceiver (session .life .limit) session live working hold ≡ true)
     × (listens (stageOf (session .phase)) ≡ true)
     × (at ≤ length piece)
     × (updates ≤ at)
     × (length live ≡ length live₀)
     × (length working ≡ length working₀)
     × (length hold ≡ length hold₀)
-    × (feedHere 1024 session live working hold piece at updates ≡ feedHere 1024 session₀ live₀ working₀ hold₀ piece at₀ updates₀)
+    × (feedHere (session .life .limit) session live working hold piece at updates ≡ feedHere (session₀ .life .limit) session₀ live₀ working₀ hold₀ piece at₀ updates₀)
+    × (session .life .limit ≡ session₀ .life .limit)
 
 abbrev μ-loop : tie.MeasureT-loop
 μ-loop live₀ working₀ hold₀ piece session₀ at₀ updates₀ live working hold session at updates = length piece - at
@@ -44,7 +46,7 @@ same-length-3 c = search needs
 returns : tie.Need-returns Inv-loop μ-loop
 returns c =
     let a = c .before .before .before .before .before .before .before .before .before .args in
-    feed-refused 1024 (a .s) (now (a .live)) (now (a .working)) (now (a .hold)) (now (a .piece)) (sym (c .before .is-receiver .ensures) ∙ not-true _ (c .if1 .taken))
+    feed-refused (a .s .life .limit) (a .s) (now (a .live)) (now (a .working)) (now (a .hold)) (now (a .piece)) (sym (c .before .is-receiver .ensures) ∙ not-true _ (c .if1 .taken))
 
 enum-known-phase : tie.Need-enum-known-phase Inv-loop μ-loop
 enum-known-phase c = search needs
@@ -61,15 +63,15 @@ same-length-6 c = search needs
 returns-2 : tie.Need-returns-2 Inv-loop μ-loop
 returns-2 c =
     let a = c .before .before .before .before .before .before .before .before .before .before .before .before .args in
-    feed-stopped 1024 (a .s) (now (a .live)) (now (a .working)) (now (a .hold)) (now (a .piece)) (c .before .phase .given .0 .0) (c .before .phase .given .1) (sym (c .before .before .before .before .is-receiver .ensures) ∙ not-false _ (c .before .before .before .if1 .left))
+    feed-stopped (a .s .life .limit) (a .s) (now (a .live)) (now (a .working)) (now (a .hold)) (now (a .piece)) (c .before .phase .given .0 .0) (c .before .phase .given .1) (sym (c .before .before .before .before .is-receiver .ensures) ∙ not-false _ (c .before .before .before .if1 .left))
 
 loop-holds : tie.Need-loop-holds Inv-loop μ-loop
 loop-holds c =
     let a = c .before .before .before .before .before .before .before .before .before .before .args in
-    (sym (c .before .before .is-receiver .ensures) ∙ not-false _ (c .before .if1 .left), other-listens (a .s .phase) (c .match .keys2), omega arith, omega arith, refl, refl, refl, refl)
+    (sym (c .before .before .is-receiver .ensures) ∙ not-false _ (c .before .if1 .left), other-listens (a .s .phase) (c .match .keys2), omega arith, omega arith, refl, refl, refl, refl, refl)
 
-one-step-requires : tie.Need-one-step-requires Inv-loop μ-loop
-one-step-requires c κs =
+next-step-requires : tie.Need-next-step-requires Inv-loop μ-loop
+next-step-requires c κs =
     let l = c .before .before .before .loop in
     (l .inv .0, l .inv .1, l .inv .2, l .inv .3)
 
@@ -83,25 +85,26 @@ loop-less : tie.Need-loop-less Inv-loop μ-loop
 loop-less c =
     let a = c .before .before .before .before .before .before .before .before .before .before .before .before .before .before .before .before .before .before .before .before .before .before .before .before .args in
     let l = c .before .before .before .before .before .before .before .before .before .before .before .before .before .loop in
-    let t = c .before .before .before .before .before .before .before .before .before .one-step .result in
-    let live′ = c .before .before .before .before .before .before .before .before .before .one-step .last .1 .0 in
-    let working′ = c .before .before .before .before .before .before .before .before .before .one-step .last .1 .1 .0 in
-    let hold′ = c .before .before .before .before .before .before .before .before .before .one-step .last .1 .1 .1 .0 in
-    let f = feedHere 1024 (l .session) (l .live) (l .working) (l .hold) (now (a .piece)) (l .at) (l .updates) in
-    let stepped = subst (SteppedTo 1024 f (now (a .piece)) (l .at) (t .session) (t .next) (t .updates) live′ working′ hold′) (c .enum-told .given .1) (c .before .before .before .before .before .before .before .before .before .one-step .ensures) in
+    let t = c .before .before .before .before .before .before .before .before .before .next-step .result in
+    let live′ = c .before .before .before .before .before .before .before .before .before .next-step .last .1 .0 in
+    let working′ = c .before .before .before .before .before .before .before .before .before .next-step .last .1 .1 .0 in
+    let hold′ = c .before .before .before .before .before .before .before .before .before .next-step .last .1 .1 .1 .0 in
+    let f = feedHere (l .session .life .limit) (l .session) (l .live) (l .working) (l .hold) (now (a .piece)) (l .at) (l .updates) in
+    let stepped = subst (SteppedTo (l .session .life .limit) f (now (a .piece)) (l .at) (t .session) (t .next) (t .updates) live′ working′ hold′) (c .enum-told .given .1) (c .before .before .before .before .before .before .before .before .before .next-step .ensures) in
     omega (arith, stepped .2, stepped .3)
 
 loop-again : tie.Need-loop-again Inv-loop μ-loop
 loop-again c =
     let a = c .before .before .before .before .before .before .before .before .before .before .before .before .before .before .before .before .before .before .before .before .before .before .before .before .args in
     let l = c .before .before .before .before .before .before .before .before .before .before .before .before .before .loop in
-    let t = c .before .before .before .before .before .before .before .before .before .one-step .result in
-    let live′ = c .before .before .before .before .before .before .before .before .before .one-step .last .1 .0 in
-    let working′ = c .before .before .before .before .before .before .before .before .before .one-step .last .1 .1 .0 in
-    let hold′ = c .before .before .before .before .before .before .before .before .before .one-step .last .1 .1 .1 .0 in
-    let f = feedHere 1024 (l .session) (l .live) (l .working) (l .hold) (now (a .piece)) (l .at) (l .updates) in
-    let stepped = subst (SteppedTo 1024 f (now (a .piece)) (l .at) (t .session) (t .next) (t .updates) live′ working′ hold′) (c .enum-told .given .1) (c .before .before .before .before .before .before .before .before .before .one-step .ensures) in
-    (stepped .0, stepped .1, stepped .3, stepped .4, omega (arith, c .before .before .before .before .before .before .before .before .live .given, l .inv .4), omega (arith, c .before .before .before .before .before .before .working .given, l .inv .5), omega (arith, c .before .before .before .before .hold .given, l .inv .6), stepped .5 ∙ l .inv .7)
+    let t = c .before .before .before .before .before .before .before .before .before .next-step .result in
+    let live′ = c .before .before .before .before .before .before .before .before .before .next-step .last .1 .0 in
+    let working′ = c .before .before .before .before .before .before .before .before .before .next-step .last .1 .1 .0 in
+    let hold′ = c .before .before .before .before .before .before .before .before .before .next-step .last .1 .1 .1 .0 in
+    let f = feedHere (l .session .life .limit) (l .session) (l .live) (l .working) (l .hold) (now (a .piece)) (l .at) (l .updates) in
+    let stepped = subst (SteppedTo (l .session .life .limit) f (now (a .piece)) (l .at) (t .session) (t .next) (t .updates) live′ working′ hold′) (c .enum-told .given .1) (c .before .before .before .before .before .before .before .before .before .next-step .ensures) in
+    let same : t .session .life .limit ≡ l .session .life .limit = limit-of (l .session .life .limit) (t .session) live′ working′ hold′ (stepped .0) in
+    (subst (λ (n : ℕ). isReceiver n (t .session) live′ working′ hold′ ≡ true) (sym same) (stepped .0), stepped .1, stepped .3, stepped .4, omega (arith, c .before .before .before .before .before .before .before .before .live .given, l .inv .4), omega (arith, c .before .before .before .before .before .before .working .given, l .inv .5), omega (arith, c .before .before .before .before .hold .given, l .inv .6), ap (λ (n : ℕ). feedHere n (t .session) live′ working′ hold′ (now (a .piece)) (t .next) (t .updates)) same ∙ stepped .5 ∙ l .inv .7, same ∙ l .inv .8)
 
 same-length-7 : tie.Need-same-length-7 Inv-loop μ-loop
 same-length-7 c = search needs
@@ -116,13 +119,13 @@ returns-3 : tie.Need-returns-3 Inv-loop μ-loop
 returns-3 c =
     let a = c .before .before .before .before .before .before .before .before .before .before .before .before .before .before .before .before .before .before .before .before .before .before .before .before .before .args in
     let l = c .before .before .before .before .before .before .before .before .before .before .before .before .before .before .loop in
-    let t = c .before .before .before .before .before .before .before .before .before .before .one-step .result in
-    let live′ = c .before .before .before .before .before .before .before .before .before .before .one-step .last .1 .0 in
-    let working′ = c .before .before .before .before .before .before .before .before .before .before .one-step .last .1 .1 .0 in
-    let hold′ = c .before .before .before .before .before .before .before .before .before .before .one-step .last .1 .1 .1 .0 in
-    let f = feedHere 1024 (l .session) (l .live) (l .working) (l .hold) (now (a .piece)) (l .at) (l .updates) in
-    let stepped = subst (SteppedTo 1024 f (now (a .piece)) (l .at) (t .session) (t .next) (t .updates) live′ working′ hold′) (c .before .then .given .1) (c .before .before .before .before .before .before .before .before .before .before .one-step .ensures) in
-    stepped ∙ ap (fedTo 1024) (l .inv .7) ∙ feed-taken 1024 (a .s) (now (a .live)) (now (a .working)) (now (a .hold)) (now (a .piece)) (sym (c .before .before .before .before .before .before .before .before .before .before .before .before .before .before .before .before .before .is-receiver .ensures) ∙ not-false _ (c .before .before .before .before .before .before .before .before .before .before .before .before .before .before .before .before .if1 .left))
+    let t = c .before .before .before .before .before .before .before .before .before .before .next-step .result in
+    let live′ = c .before .before .before .before .before .before .before .before .before .before .next-step .last .1 .0 in
+    let working′ = c .before .before .before .before .before .before .before .before .before .before .next-step .last .1 .1 .0 in
+    let hold′ = c .before .before .before .before .before .before .before .before .before .before .next-step .last .1 .1 .1 .0 in
+    let f = feedHere (l .session .life .limit) (l .session) (l .live) (l .working) (l .hold) (now (a .piece)) (l .at) (l .updates) in
+    let stepped = subst (SteppedTo (l .session .life .limit) f (now (a .piece)) (l .at) (t .session) (t .next) (t .updates) live′ working′ hold′) (c .before .then .given .1) (c .before .before .before .before .before .before .before .before .before .before .next-step .ensures) in
+    stepped ∙ ap (fedTo (l .session .life .limit)) (l .inv .7) ∙ ap (λ (n : ℕ). fedTo n (feedHere (a .s .life .limit) (a .s) (now (a .live)) (now (a .working)) (now (a .hold)) (now (a .piece)) 0 0)) (l .inv .8) ∙ feed-taken (a .s .life .limit) (a .s) (now (a .live)) (now (a .working)) (now (a .hold)) (now (a .piece)) (sym (c .before .before .before .before .before .before .before .before .before .before .before .before .before .before .before .before .before .is-receiver .ensures) ∙ not-false _ (c .before .before .before .before .before .before .before .before .before .before .before .before .before .before .before .before .if1 .left))
 
 pub feed-spec : {M : Type 1} → statement M
 feed-spec =
@@ -141,7 +144,7 @@ feed-spec =
     same-length-6
     returns-2
     loop-holds
-    one-step-requires
+    next-step-requires
     enum-known-then
     enum-told
     loop-less

@@ -28,11 +28,11 @@ same-length-2 c = search needs
 
 returns : tie.Need-returns
 returns c =
-    let a = c .before .before .before .before .before .before .before .before .before .before .before .before .before .before .args in
-    let pre = c .before .before .before .before .before .before .before .before .before .before .before .before .before .before .pre in
-    finish-stands 1024 (a .s) (now (a .live)) (now (a .working)) pre (a .p) (c .before .before .refresh-interval-or-default .result) (c .before .retry-interval-or-default .result) (c .expire-interval-or-default .result)
+    let a = c .before .before .before .before .before .before .before .before .before .before .before .before .before .before .before .before .args in
+    let pre = c .before .before .before .before .before .before .before .before .before .before .before .before .before .before .before .before .pre in
+    finish-stands (a .s .life .limit) (a .s) (now (a .live)) (now (a .working)) pre (a .p) (c .before .before .refresh-interval-or-default .result) (c .before .retry-interval-or-default .result) (c .expire-interval-or-default .result)
     (c .before .before .refresh-interval-or-default .ensures) (c .before .retry-interval-or-default .ensures) (c .expire-interval-or-default .ensures)
-    (c .before .before .before .before .before .before .before .before .before .copy .last .1 .0) (c .before .before .before .before .before .empty .last .0) (c .before .before .before .before .before .before .before .before .before .copy .ensures .1) (c .before .before .before .before .before .empty .ensures)
+    (c .before .before .before .before .before .before .before .before .before .before .before .copy .last .1 .0) (c .before .before .before .before .before .before .before .empty .last .0) (c .before .before .before .before .before .before .before .before .before .before .before .copy .ensures .1) (c .before .before .before .before .before .before .before .empty .ensures)
 
 pub finish-spec : {M : Type 1} → statement M
 finish-spec =

@@ -20,7 +20,7 @@ returns : tie.Need-returns
 unfolding fullAskSays
 returns c =
     let a = c .before .before .before .before .before .before .before .args in
-    ask-shapeless 1024 (a .s) (now (a .live)) (now (a .working)) (now (a .hold)) (λ (r : Receiver). fullQuery (r .stage) r) (now (a .out)) (c .ask-refused .result) (c .ask-refused .ensures) (fails (c .before .before .is-receiver .ensures) (c .before .if1 .taken))
+    ask-shapeless (a .s .life .limit) (a .s) (now (a .live)) (now (a .working)) (now (a .hold)) (λ (r : Receiver). fullQuery (r .stage) r) (now (a .out)) (c .ask-refused .result) (c .ask-refused .ensures) (fails (c .before .before .is-receiver .ensures) (c .before .if1 .taken))
 
 enum-told : tie.Need-enum-told
 enum-told c = search needs
@@ -49,8 +49,8 @@ same-length c = search needs
 returns-2 : tie.Need-returns-2
 unfolding fullAskSays
 returns-2 c =
-    let a = c .before .before .before .before .before .before .before .before .before .before .before .before .before .args in
-    ask-written 1024 (a .s) (now (a .live)) (now (a .working)) (now (a .hold)) (λ (r : Receiver). fullQuery (r .stage) r) (now (a .out)) (c .asked .result) (c .before .before .before .encode-reset-query .result) Phase.AskedFull _ _ (c .asked .ensures) (holds (c .before .before .before .before .before .before .before .before .is-receiver .ensures) (c .before .before .before .before .before .before .before .if1 .left))
+    let a = c .before .before .before .before .before .before .before .before .before .before .before .before .before .before .args in
+    ask-written (a .s .life .limit) (a .s) (now (a .live)) (now (a .working)) (now (a .hold)) (λ (r : Receiver). fullQuery (r .stage) r) (now (a .out)) (c .asked .result) (c .before .before .before .encode-reset-query .result) Phase.AskedFull _ _ (c .asked .ensures) (holds (c .before .before .before .before .before .before .before .before .before .is-receiver .ensures) (c .before .before .before .before .before .before .before .before .if1 .left))
     (ap (λ (p : Phase). fullQuery (stageOf p) (receiverOf (a .s) (now (a .live)) (now (a .working)) (now (a .hold)))) (c .before .before .before .before .before .enum-told .given .1)) (c .before .before .before .encode-reset-query .ensures)
 
 same-length-2 : tie.Need-same-length-2
@@ -59,15 +59,15 @@ same-length-2 c = search needs
 returns-3 : tie.Need-returns-3
 unfolding fullAskSays
 returns-3 c =
-    let a = c .before .before .before .before .before .before .before .before .before .before .before .before .before .args in
-    ask-written 1024 (a .s) (now (a .live)) (now (a .working)) (now (a .hold)) (λ (r : Receiver). fullQuery (r .stage) r) (now (a .out)) (c .asked2 .result) (c .before .before .before .encode-reset-query2 .result) Phase.AskedFull _ _ (c .asked2 .ensures) (holds (c .before .before .before .before .before .before .before .before .is-receiver .ensures) (c .before .before .before .before .before .before .before .if1 .left))
+    let a = c .before .before .before .before .before .before .before .before .before .before .before .before .before .before .args in
+    ask-written (a .s .life .limit) (a .s) (now (a .live)) (now (a .working)) (now (a .hold)) (λ (r : Receiver). fullQuery (r .stage) r) (now (a .out)) (c .asked2 .result) (c .before .before .before .encode-reset-query2 .result) Phase.AskedFull _ _ (c .asked2 .ensures) (holds (c .before .before .before .before .before .before .before .before .before .is-receiver .ensures) (c .before .before .before .before .before .before .before .before .if1 .left))
     (ap (λ (p : Phase). fullQuery (stageOf p) (receiverOf (a .s) (now (a .live)) (now (a .working)) (now (a .hold)))) (c .before .before .before .before .before .enum-told2 .given .1)) (c .before .before .before .encode-reset-query2 .ensures)
 
 returns-4 : tie.Need-returns-4
 unfolding fullAskSays
 returns-4 c =
-    let a = c .before .before .before .before .before .before .before .before .args in
-    ask-in-wrong-phase 1024 (a .s) (now (a .live)) (now (a .working)) (now (a .hold)) (λ (r : Receiver). fullQuery (r .stage) r) (now (a .out)) (c .ask-refused2 .result) (c .ask-refused2 .ensures) (holds (c .before .before .before .is-receiver .ensures) (c .before .before .if1 .left))
+    let a = c .before .before .before .before .before .before .before .before .before .args in
+    ask-in-wrong-phase (a .s .life .limit) (a .s) (now (a .live)) (now (a .working)) (now (a .hold)) (λ (r : Receiver). fullQuery (r .stage) r) (now (a .out)) (c .ask-refused2 .result) (c .ask-refused2 .ensures) (holds (c .before .before .before .before .is-receiver .ensures) (c .before .before .before .if1 .left))
     (full-else (a .s .phase) (receiverOf (a .s) (now (a .live)) (now (a .working)) (now (a .hold))) (c .before .match .keys3))
 
 pub full-ask-spec : {M : Type 1} → statement M

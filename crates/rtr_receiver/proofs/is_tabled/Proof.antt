@@ -17,14 +17,14 @@ change-under-way-requires c κs = search needs
 
 returns : tie.Need-returns
 returns c =
-    let s = c .before .before .before .before .before .args .s in
-    ap not (c .change-under-way .ensures) ∙ sym (tableless s (c .before .before .before .enum-told2 .given .1) (c .before .if1 .taken))
+    let s = c .before .before .before .before .before .before .args .s in
+    ap not (c .change-under-way .ensures) ∙ sym (tableless s (c .before .before .before .before .enum-told2 .given .1) (c .before .if1 .taken))
 
 returns-2 : tie.Need-returns-2
 returns-2 c = search needs
 
 returns-3 : tie.Need-returns-3
-returns-3 c = sym (tableless-records (c .before .before .before .before .args .s) (c .before .before .enum-told2 .given .1) (c .if1 .left))
+returns-3 c = sym (tableless-records (c .before .before .before .before .before .args .s) (c .before .before .before .enum-told2 .given .1) (c .if1 .left))
 
 pub is-tabled-spec : {M : Type 1} → statement M
 is-tabled-spec =

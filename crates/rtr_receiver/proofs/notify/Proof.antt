@@ -14,7 +14,7 @@ is-receiver-requires c κs = search needs
 returns : tie.Need-returns
 returns c =
     let a = c .before .before .before .before .before .args in
-    notify-shapeless 1024 (a .s) (now (a .live)) (now (a .working)) (now (a .hold)) (fails (c .before .is-receiver .ensures) (c .if1 .taken))
+    notify-shapeless (a .s .life .limit) (a .s) (now (a .live)) (now (a .working)) (now (a .hold)) (fails (c .before .is-receiver .ensures) (c .if1 .taken))
 
 enum-told : tie.Need-enum-told
 enum-told c = search needs
@@ -31,7 +31,7 @@ enum-known-note c = search needs
 returns-2 : tie.Need-returns-2
 returns-2 c =
     let a = c .before .before .before .before .before .before .before .before .before .before .before .before .before .args in
-    notify-is 1024 (a .s) (now (a .live)) (now (a .working)) (now (a .hold)) Notified.otherSession (holds (c .before .before .before .before .before .before .before .before .before .is-receiver .ensures) (c .before .before .before .before .before .before .before .before .if1 .left))
+    notify-is (a .s .life .limit) (a .s) (now (a .live)) (now (a .working)) (now (a .hold)) Notified.otherSession (holds (c .before .before .before .before .before .before .before .before .before .is-receiver .ensures) (c .before .before .before .before .before .before .before .before .if1 .left))
     (of-other-session (a .s .table) (a .s .note) _ _ _ (c .before .before .before .before .before .before .table .given .1) (c .before .before .before .note .given .1) (c .if2 .taken))
 
 compare-requires : tie.Need-compare-requires
@@ -40,18 +40,18 @@ compare-requires c κs = search needs
 returns-3 : tie.Need-returns-3
 returns-3 c =
     let a = c .before .before .before .before .before .before .before .args in
-    notify-is 1024 (a .s) (now (a .live)) (now (a .working)) (now (a .hold)) Notified.none (holds (c .before .before .before .is-receiver .ensures) (c .before .before .if1 .left)) (without-table (a .s .table) (a .s .note) (c .enum-told .given .1))
+    notify-is (a .s .life .limit) (a .s) (now (a .live)) (now (a .working)) (now (a .hold)) Notified.none (holds (c .before .before .before .is-receiver .ensures) (c .before .before .if1 .left)) (without-table (a .s .table) (a .s .note) (c .enum-told .given .1))
 
 returns-4 : tie.Need-returns-4
 returns-4 c =
     let a = c .before .before .before .before .before .before .before .before .before .before .args in
-    notify-is 1024 (a .s) (now (a .live)) (now (a .working)) (now (a .hold)) Notified.none (holds (c .before .before .before .before .before .before .is-receiver .ensures) (c .before .before .before .before .before .if1 .left)) (without-note (a .s .table) (a .s .note) _ (c .before .before .before .table .given .1) (c .enum-told2 .given .1))
+    notify-is (a .s .life .limit) (a .s) (now (a .live)) (now (a .working)) (now (a .hold)) Notified.none (holds (c .before .before .before .before .before .before .is-receiver .ensures) (c .before .before .before .before .before .if1 .left)) (without-note (a .s .table) (a .s .note) _ (c .before .before .before .table .given .1) (c .enum-told2 .given .1))
 
 returns-5 : tie.Need-returns-5
 returns-5 c =
     let a = c .before .before .before .before .before .before .before .before .before .before .before .before .before .before .args in
     c .compare .ensures
-    ∙ notify-is 1024 (a .s) (now (a .live)) (now (a .working)) (now (a .hold)) _ (holds (c .before .before .before .before .before .before .before .before .before .before .is-receiver .ensures) (c .before .before .before .before .before .before .before .before .before .if1 .left))
+    ∙ notify-is (a .s .life .limit) (a .s) (now (a .live)) (now (a .working)) (now (a .hold)) _ (holds (c .before .before .before .before .before .before .before .before .before .before .is-receiver .ensures) (c .before .before .before .before .before .before .before .before .before .if1 .left))
     (of-same-session (a .s .table) (a .s .note) _ _ _ (c .before .before .before .before .before .before .before .table .given .1) (c .before .before .before .before .note .given .1) (c .before .if2 .left))
 
 pub notify-spec : {M : Type 1} → statement M

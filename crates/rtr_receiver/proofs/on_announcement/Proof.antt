@@ -39,10 +39,10 @@ same-length c = search needs
 
 returns : tie.Need-returns
 returns c =
-    let a = c .before .before .before .before .before .before .before .before .before .before .args in
-    let pre = c .before .before .before .before .before .before .before .before .before .before .pre in
-    changed-stands 1024 (a .s) (now (a .live)) (now (a .working)) pre _ (c .before .before .answer .given .0 .0) (c .before .before .before .before .before .before .enter .last .0)
-    (enter-came 1024 (a .s) (now (a .live)) (now (a .working)) pre (a .r) (c .before .before .before .before .before .before .enter .result) (c .before .before .before .before .before .before .enter .last .0) (c .before .before .before .before .before .before .enter .ensures) _ (c .before .before .answer .given .1))
+    let a = c .before .before .before .before .before .before .before .before .before .before .before .args in
+    let pre = c .before .before .before .before .before .before .before .before .before .before .before .pre in
+    changed-stands (a .s .life .limit) (a .s) (now (a .live)) (now (a .working)) pre _ (c .before .before .answer .given .0 .0) (c .before .before .before .before .before .before .enter .last .0)
+    (enter-came (a .s .life .limit) (a .s) (now (a .live)) (now (a .working)) pre (a .r) (c .before .before .before .before .before .before .enter .result) (c .before .before .before .before .before .before .enter .last .0) (c .before .before .before .before .before .before .enter .ensures) _ (c .before .before .answer .given .1))
     (c .with-working .result) (c .with-working .ensures)
 
 same-length-2 : tie.Need-same-length-2
@@ -50,10 +50,10 @@ same-length-2 c = search needs
 
 returns-2 : tie.Need-returns-2
 returns-2 c =
-    let a = c .before .before .before .before .before .before .before .before .before .before .before .before .args in
-    let pre = c .before .before .before .before .before .before .before .before .before .before .before .before .pre in
-    refused-stands 1024 (a .s) (now (a .live)) (now (a .working)) pre _ 17 (c .before .before .before .before .before .before .before .before .enter .last .0)
-    (enter-came 1024 (a .s) (now (a .live)) (now (a .working)) pre (a .r) (c .before .before .before .before .before .before .before .before .enter .result) (c .before .before .before .before .before .before .before .before .enter .last .0) (c .before .before .before .before .before .before .before .before .enter .ensures) _ (c .before .before .before .before .enum-told .given .1))
+    let a = c .before .before .before .before .before .before .before .before .before .before .before .before .before .args in
+    let pre = c .before .before .before .before .before .before .before .before .before .before .before .before .before .pre in
+    refused-stands (a .s .life .limit) (a .s) (now (a .live)) (now (a .working)) pre _ 17 (c .before .before .before .before .before .before .before .before .enter .last .0)
+    (enter-came (a .s .life .limit) (a .s) (now (a .live)) (now (a .working)) pre (a .r) (c .before .before .before .before .before .before .before .before .enter .result) (c .before .before .before .before .before .before .before .before .enter .last .0) (c .before .before .before .before .before .before .before .before .enter .ensures) _ (c .before .before .before .before .enum-told .given .1))
     Stop.AlreadyIn refl (c .before .before .stop-with .result) (c .before .before .stop-with .last .1 .0) (c .before .before .stop-with .ensures)
 
 same-length-3 : tie.Need-same-length-3
@@ -61,10 +61,10 @@ same-length-3 c = search needs
 
 returns-3 : tie.Need-returns-3
 returns-3 c =
-    let a = c .before .before .before .before .before .before .before .before .before .before .before .before .args in
-    let pre = c .before .before .before .before .before .before .before .before .before .before .before .before .pre in
-    refused-stands 1024 (a .s) (now (a .live)) (now (a .working)) pre _ 18 (c .before .before .before .before .before .before .before .before .enter .last .0)
-    (enter-came 1024 (a .s) (now (a .live)) (now (a .working)) pre (a .r) (c .before .before .before .before .before .before .before .before .enter .result) (c .before .before .before .before .before .before .before .before .enter .last .0) (c .before .before .before .before .before .before .before .before .enter .ensures) _ (c .before .before .before .before .enum-told2 .given .1))
+    let a = c .before .before .before .before .before .before .before .before .before .before .before .before .before .args in
+    let pre = c .before .before .before .before .before .before .before .before .before .before .before .before .before .pre in
+    refused-stands (a .s .life .limit) (a .s) (now (a .live)) (now (a .working)) pre _ 18 (c .before .before .before .before .before .before .before .before .enter .last .0)
+    (enter-came (a .s .life .limit) (a .s) (now (a .live)) (now (a .working)) pre (a .r) (c .before .before .before .before .before .before .before .before .enter .result) (c .before .before .before .before .before .before .before .before .enter .last .0) (c .before .before .before .before .before .before .before .before .enter .ensures) _ (c .before .before .before .before .enum-told2 .given .1))
     Stop.RoomFull refl (c .before .before .stop-with2 .result) (c .before .before .stop-with2 .last .1 .0) (c .before .before .stop-with2 .ensures)
 
 same-length-4 : tie.Need-same-length-4
@@ -72,9 +72,9 @@ same-length-4 c = search needs
 
 returns-4 : tie.Need-returns-4
 returns-4 c =
-    let a = c .before .before .before .before .before .before .before .before .before .before .before .before .args in
-    let pre = c .before .before .before .before .before .before .before .before .before .before .before .before .pre in
-    absurd (enters-a-room 1024 (a .s) (now (a .live)) (now (a .working)) pre (a .r) (c .before .before .before .before .before .before .before .before .enter .result) (c .before .before .before .before .before .before .before .before .enter .last .0) (c .before .before .before .before .before .before .before .before .enter .ensures) (c .before .before .before .before .enum-told3 .given .1))
+    let a = c .before .before .before .before .before .before .before .before .before .before .before .before .before .args in
+    let pre = c .before .before .before .before .before .before .before .before .before .before .before .before .before .pre in
+    absurd (enters-a-room (a .s .life .limit) (a .s) (now (a .live)) (now (a .working)) pre (a .r) (c .before .before .before .before .before .before .before .before .enter .result) (c .before .before .before .before .before .before .before .before .enter .last .0) (c .before .before .before .before .before .before .before .before .enter .ensures) (c .before .before .before .before .enum-told3 .given .1))
 
 pub on-announcement-spec : {M : Type 1} → statement M
 on-announcement-spec =

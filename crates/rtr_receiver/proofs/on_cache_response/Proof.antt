@@ -36,7 +36,7 @@ returns : tie.Need-returns
 returns c =
     let a = c .before .before .before .before .before .before .before .before .before .args in
     let pre = c .before .before .before .before .before .before .before .before .before .pre in
-    full-load-stands 1024 (a .s) (now (a .live)) (now (a .working)) pre (a .session-id) (c .before .before .before .before .before .enum-told .given .1) (c .before .before .before .empty .last .0) (c .before .before .before .empty .ensures) (c .loading .result) (c .loading .ensures)
+    full-load-stands (a .s .life .limit) (a .s) (now (a .live)) (now (a .working)) pre (a .session-id) (c .before .before .before .before .before .enum-told .given .1) (c .before .before .before .empty .last .0) (c .before .before .before .empty .ensures) (c .loading .result) (c .loading .ensures)
 
 same-length-2 : tie.Need-same-length-2
 same-length-2 c = search needs
@@ -45,7 +45,7 @@ returns-2 : tie.Need-returns-2
 returns-2 c =
     let a = c .before .before .before .before .before .before .before .before .args in
     c .before .before .on-change-response .ensures
-    ∙ ap (λ (p : Phase). inMemory 1024 (responseIn (stageOf p) (a .session-id) (receiverOf (a .s) (now (a .live)) (now (a .working)) []))) (sym (c .before .before .before .before .enum-told2 .given .1))
+    ∙ ap (λ (p : Phase). inMemory (a .s .life .limit) (responseIn (stageOf p) (a .session-id) (receiverOf (a .s) (now (a .live)) (now (a .working)) []))) (sym (c .before .before .before .before .enum-told2 .given .1))
 
 same-length-3 : tie.Need-same-length-3
 same-length-3 c = search needs
@@ -54,7 +54,7 @@ returns-3 : tie.Need-returns-3
 returns-3 c =
     let a = c .before .before .before .before .before .before .before .args in
     let pre = c .before .before .before .before .before .before .before .pre in
-    stops 1024 (a .s) (now (a .live)) (now (a .working)) pre Stop.OutOfTurn 13 [] refl (c .before .before .stop-with .result) (c .before .before .stop-with .last .1 .0) (c .before .before .stop-with .ensures) _ (response-out (a .session-id) (receiverOf (a .s) (now (a .live)) (now (a .working)) []) (a .s .phase) (c .before .before .before .before .match .keys3))
+    stops (a .s .life .limit) (a .s) (now (a .live)) (now (a .working)) pre Stop.OutOfTurn 13 [] refl (c .before .before .stop-with .result) (c .before .before .stop-with .last .1 .0) (c .before .before .stop-with .ensures) _ (response-out (a .session-id) (receiverOf (a .s) (now (a .live)) (now (a .working)) []) (a .s .phase) (c .before .before .before .before .match .keys3))
 
 pub on-cache-response-spec : {M : Type 1} → statement M
 on-cache-response-spec =

@@ -30,7 +30,7 @@ returns : tie.Need-returns
 returns c =
     let a = c .before .before .before .before .before .before .before .before .before .before .before .args in
     let pre = c .before .before .before .before .before .before .before .before .before .before .before .pre in
-    stops 1024 (a .s) (now (a .live)) (now (a .working)) pre Stop.OtherSession 15 [] refl (c .before .before .stop-with2 .result) (c .before .before .stop-with2 .last .1 .0) (c .before .before .stop-with2 .ensures) _ (other-session _ _ _ (c .before .before .before .before .before .before .before .table .given .1) (c .before .before .before .before .if1 .taken) _)
+    stops (a .s .life .limit) (a .s) (now (a .live)) (now (a .working)) pre Stop.OtherSession 15 [] refl (c .before .before .stop-with2 .result) (c .before .before .stop-with2 .last .1 .0) (c .before .before .stop-with2 .ensures) _ (other-session _ _ _ (c .before .before .before .before .before .before .before .table .given .1) (c .before .before .before .before .if1 .taken) _)
 
 copy-requires : tie.Need-copy-requires
 copy-requires c κs = search needs
@@ -45,16 +45,16 @@ returns-2 : tie.Need-returns-2
 returns-2 c =
     let a = c .before .before .before .before .before .before .before .before .args in
     let pre = c .before .before .before .before .before .before .before .before .pre in
-    stops 1024 (a .s) (now (a .live)) (now (a .working)) pre Stop.OtherSession 15 [] refl (c .before .before .stop-with .result) (c .before .before .stop-with .last .1 .0) (c .before .before .stop-with .ensures) _ (ap (λ (x : LiveTable). onChangeResponse x (a .session-id) (receiverOf (a .s) (now (a .live)) (now (a .working)) [])) (c .before .before .before .before .enum-told .given .1))
+    stops (a .s .life .limit) (a .s) (now (a .live)) (now (a .working)) pre Stop.OtherSession 15 [] refl (c .before .before .stop-with .result) (c .before .before .stop-with .last .1 .0) (c .before .before .stop-with .ensures) _ (ap (λ (x : LiveTable). onChangeResponse x (a .session-id) (receiverOf (a .s) (now (a .live)) (now (a .working)) [])) (c .before .before .before .before .enum-told .given .1))
 
 same-length-3 : tie.Need-same-length-3
 same-length-3 c = search needs
 
 returns-3 : tie.Need-returns-3
 returns-3 c =
-    let a = c .before .before .before .before .before .before .before .before .before .before .before .before .args in
-    let pre = c .before .before .before .before .before .before .before .before .before .before .before .before .pre in
-    change-stands 1024 (a .s) (now (a .live)) (now (a .working)) pre (a .session-id) _ (c .before .before .before .before .before .before .before .before .table .given .1) (c .before .before .before .before .before .if1 .left) (c .before .before .before .copy .last .1 .0) (c .before .before .before .copy .ensures .1) (c .loading .result) (c .loading .ensures)
+    let a = c .before .before .before .before .before .before .before .before .before .before .before .before .before .args in
+    let pre = c .before .before .before .before .before .before .before .before .before .before .before .before .before .pre in
+    change-stands (a .s .life .limit) (a .s) (now (a .live)) (now (a .working)) pre (a .session-id) _ (c .before .before .before .before .before .before .before .before .before .table .given .1) (c .before .before .before .before .before .before .if1 .left) (c .before .before .before .before .copy .last .1 .0) (c .before .before .before .before .copy .ensures .1) (c .loading .result) (c .loading .ensures)
 
 pub on-change-response-spec : {M : Type 1} → statement M
 on-change-response-spec =

@@ -24,7 +24,7 @@ same-length-2 c = search needs
 returns : tie.Need-returns
 returns c =
     let a = c .before .before .before .before .before .before .before .before .before .before .before .before .before .before .args in
-    did 1024 (c .before .before .before .before .finish .last .1 .0) (c .before .before .before .before .finish .last .1 .1 .0) _ (c .before .before .before .before .finish .result) 1 refl _ (c .before .before .before .before .finish .ensures) _
+    did (a .s .life .limit) (c .before .before .before .before .finish .last .1 .0) (c .before .before .before .before .finish .last .1 .1 .0) _ (c .before .before .before .before .finish .result) 1 refl _ (c .before .before .before .before .finish .ensures) _
     (end-is (a .p) (receiverOf (a .s) (now (a .live)) (now (a .working)) []) (a .s .phase) _ _ (c .before .before .before .before .before .before .before .before .before .before .phase .given .1) (c .before .before .before .before .before .before .before .if1 .taken))
 
 stop-with-requires : tie.Need-stop-with-requires
@@ -40,8 +40,8 @@ returns-2 : tie.Need-returns-2
 returns-2 c =
     let a = c .before .before .before .before .before .before .before .before .before .before .before .args in
     let pre = c .before .before .before .before .before .before .before .before .before .before .before .pre in
-    did 1024 (now (a .live)) (c .before .before .stop-with .last .1 .0) _ (c .before .before .stop-with .result) 0 refl _
-    (stops 1024 (a .s) (now (a .live)) (now (a .working)) pre Stop.OtherSession 15 [] refl (c .before .before .stop-with .result) (c .before .before .stop-with .last .1 .0) (c .before .before .stop-with .ensures) _ refl)
+    did (a .s .life .limit) (now (a .live)) (c .before .before .stop-with .last .1 .0) _ (c .before .before .stop-with .result) 0 refl _
+    (stops (a .s .life .limit) (a .s) (now (a .live)) (now (a .working)) pre Stop.OtherSession 15 [] refl (c .before .before .stop-with .result) (c .before .before .stop-with .last .1 .0) (c .before .before .stop-with .ensures) _ refl)
     _ (end-other (a .p) (receiverOf (a .s) (now (a .live)) (now (a .working)) []) (a .s .phase) _ _ (c .before .before .before .before .before .before .before .phase .given .1) (c .before .before .before .before .if1 .left))
 
 same-length-4 : tie.Need-same-length-4
@@ -51,8 +51,8 @@ returns-3 : tie.Need-returns-3
 returns-3 c =
     let a = c .before .before .before .before .before .before .before .args in
     let pre = c .before .before .before .before .before .before .before .pre in
-    did 1024 (now (a .live)) (c .before .before .stop-with2 .last .1 .0) _ (c .before .before .stop-with2 .result) 0 refl _
-    (stops 1024 (a .s) (now (a .live)) (now (a .working)) pre Stop.OutOfTurn 13 [] refl (c .before .before .stop-with2 .result) (c .before .before .stop-with2 .last .1 .0) (c .before .before .stop-with2 .ensures) _ refl)
+    did (a .s .life .limit) (now (a .live)) (c .before .before .stop-with2 .last .1 .0) _ (c .before .before .stop-with2 .result) 0 refl _
+    (stops (a .s .life .limit) (a .s) (now (a .live)) (now (a .working)) pre Stop.OutOfTurn 13 [] refl (c .before .before .stop-with2 .result) (c .before .before .stop-with2 .last .1 .0) (c .before .before .stop-with2 .ensures) _ refl)
     _ (end-out (a .p) (receiverOf (a .s) (now (a .live)) (now (a .working)) []) (a .s .phase) (c .before .before .before .before .match .keys2))
 
 pub on-end-of-data-spec : {M : Type 1} → statement M

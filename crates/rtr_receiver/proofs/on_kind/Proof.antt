@@ -39,8 +39,8 @@ returns c =
     let live = now (a .live) in
     let r = receiverOf (a .s) live (now (a .working)) [] in
     let put = c .before .before .before .on-record in
-    did 1024 live (put .last .1 .1 .0) (c .no-update .result) (put .result) 0 (c .no-update .ensures) _ (put .ensures)
-    _ (kind-record 1024 r (a .pdu) _ _ (sym (c .before .before .before .before .before .before .before .before .before .carried-by .ensures) ∙ c .before .before .before .before .before .before .before .carried .given .1))
+    did (a .s .life .limit) live (put .last .1 .1 .0) (c .no-update .result) (put .result) 0 (c .no-update .ensures) _ (put .ensures)
+    _ (kind-record (a .s .life .limit) r (a .pdu) _ _ (sym (c .before .before .before .before .before .before .before .before .before .carried-by .ensures) ∙ c .before .before .before .before .before .before .before .carried .given .1))
 
 same-length-3 : tie.Need-same-length-3
 same-length-3 c = search needs

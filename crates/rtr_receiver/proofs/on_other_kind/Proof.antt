@@ -65,9 +65,9 @@ returns c =
     let live = now (a .live) in
     let working = now (a .working) in
     let r = receiverOf (a .s) live working [] in
-    did 1024 live (working) (c .no-update .result) (c .before .on-serial-notify .result) 0 (c .no-update .ensures) _
-    (notify-stands 1024 (a .s) live working (c .before .before .before .before .before .before .before .pre .0) _ _ (c .before .on-serial-notify .result) (c .before .on-serial-notify .ensures))
-    _ (kind-notify 1024 r (a .pdu) (c .before .before .before .before .before .before .before .pre .0 .3) (c .before .before .before .pdu .given .0 .0) (c .before .before .before .pdu .given .1))
+    did (a .s .life .limit) live (working) (c .no-update .result) (c .before .on-serial-notify .result) 0 (c .no-update .ensures) _
+    (notify-stands (a .s .life .limit) (a .s) live working (c .before .before .before .before .before .before .before .pre .0) _ _ (c .before .on-serial-notify .result) (c .before .on-serial-notify .ensures))
+    _ (kind-notify (a .s .life .limit) r (a .pdu) (c .before .before .before .before .before .before .before .pre .0 .3) (c .before .before .before .pdu .given .0 .0) (c .before .before .before .pdu .given .1))
 
 same-length : tie.Need-same-length
 same-length c = search needs
@@ -81,9 +81,9 @@ returns-2 c =
     let live = now (a .live) in
     let working = now (a .working) in
     let r = receiverOf (a .s) live working [] in
-    did 1024 live (c .before .before .before .on-cache-response .last .1 .1 .0) (c .no-update2 .result) (c .before .before .before .on-cache-response .result) 0 (c .no-update2 .ensures) _
+    did (a .s .life .limit) live (c .before .before .before .on-cache-response .last .1 .1 .0) (c .no-update2 .result) (c .before .before .before .on-cache-response .result) 0 (c .no-update2 .ensures) _
     (c .before .before .before .on-cache-response .ensures)
-    _ (kind-response 1024 r (a .pdu) (c .before .before .before .before .before .before .before .pdu2 .given .0 .0) (c .before .before .before .before .before .before .before .pdu2 .given .1))
+    _ (kind-response (a .s .life .limit) r (a .pdu) (c .before .before .before .before .before .before .before .pdu2 .given .0 .0) (c .before .before .before .before .before .before .before .pdu2 .given .1))
 
 same-length-3 : tie.Need-same-length-3
 same-length-3 c = search needs
@@ -97,8 +97,8 @@ returns-3 c =
     let live = now (a .live) in
     let working = now (a .working) in
     let r = receiverOf (a .s) live working [] in
-    did-as 1024 (c .before .before .before .before .on-end-of-data .last .1 .0) (c .before .before .before .before .on-end-of-data .last .1 .1 .0) (c .before .before .before .before .on-end-of-data .result) _ (c .before .before .before .before .on-end-of-data .ensures)
-    _ (kind-end 1024 r (a .pdu) (c .before .before .before .before .before .before .before .before .pdu3 .given .0 .0) (c .before .before .before .before .before .before .before .before .pdu3 .given .1))
+    did-as (a .s .life .limit) (c .before .before .before .before .on-end-of-data .last .1 .0) (c .before .before .before .before .on-end-of-data .last .1 .1 .0) (c .before .before .before .before .on-end-of-data .result) _ (c .before .before .before .before .on-end-of-data .ensures)
+    _ (kind-end (a .s .life .limit) r (a .pdu) (c .before .before .before .before .before .before .before .before .pdu3 .given .0 .0) (c .before .before .before .before .before .before .before .before .pdu3 .given .1))
 
 same-length-5 : tie.Need-same-length-5
 same-length-5 c = search needs
@@ -112,9 +112,9 @@ returns-4 c =
     let live = now (a .live) in
     let working = now (a .working) in
     let r = receiverOf (a .s) live working [] in
-    did 1024 live (c .before .before .before .on-cache-reset .last .1 .1 .0) (c .no-update3 .result) (c .before .before .before .on-cache-reset .result) 0 (c .no-update3 .ensures) _
+    did (a .s .life .limit) live (c .before .before .before .on-cache-reset .last .1 .1 .0) (c .no-update3 .result) (c .before .before .before .on-cache-reset .result) 0 (c .no-update3 .ensures) _
     (c .before .before .before .on-cache-reset .ensures)
-    _ (kind-reset 1024 r (a .pdu) (c .before .before .before .before .before .before .enum-told .given .0 .0) (c .before .before .before .before .before .before .enum-told .given .1))
+    _ (kind-reset (a .s .life .limit) r (a .pdu) (c .before .before .before .before .before .before .enum-told .given .0 .0) (c .before .before .before .before .before .before .enum-told .given .1))
 
 same-length-7 : tie.Need-same-length-7
 same-length-7 c = search needs
@@ -128,9 +128,9 @@ returns-5 c =
     let live = now (a .live) in
     let working = now (a .working) in
     let r = receiverOf (a .s) live working [] in
-    did 1024 live (c .before .before .before .on-router-key .last .1 .1 .0) (c .no-update4 .result) (c .before .before .before .on-router-key .result) 0 (c .no-update4 .ensures) _
+    did (a .s .life .limit) live (c .before .before .before .on-router-key .last .1 .1 .0) (c .no-update4 .result) (c .before .before .before .on-router-key .result) 0 (c .no-update4 .ensures) _
     (c .before .before .before .on-router-key .ensures)
-    _ (kind-key 1024 r (a .pdu) (c .before .before .before .before .before .before .enum-told2 .given .0 .0) (c .before .before .before .before .before .before .enum-told2 .given .1))
+    _ (kind-key (a .s .life .limit) r (a .pdu) (c .before .before .before .before .before .before .enum-told2 .given .0 .0) (c .before .before .before .before .before .before .enum-told2 .given .1))
 
 same-length-9 : tie.Need-same-length-9
 same-length-9 c = search needs
@@ -141,9 +141,9 @@ returns-6 c =
     let live = now (a .live) in
     let working = now (a .working) in
     let r = receiverOf (a .s) live working [] in
-    did 1024 live (c .before .before .before .stop-with .last .1 .0) (c .no-update5 .result) (c .before .before .before .stop-with .result) 0 (c .no-update5 .ensures) (stop 13 [] r)
-    (stops 1024 (a .s) live working (c .before .before .before .before .before .before .before .before .pre .0) Stop.OutOfTurn 13 [] refl (c .before .before .before .stop-with .result) (c .before .before .before .stop-with .last .1 .0) (c .before .before .before .stop-with .ensures) (stop 13 [] r) refl)
-    _ (kind-out 1024 r (a .pdu) (c .before .before .before .before .before .match .keys6) (c .before .before .before .before .before .before .before .before .pre .1))
+    did (a .s .life .limit) live (c .before .before .before .stop-with .last .1 .0) (c .no-update5 .result) (c .before .before .before .stop-with .result) 0 (c .no-update5 .ensures) (stop 13 [] r)
+    (stops (a .s .life .limit) (a .s) live working (c .before .before .before .before .before .before .before .before .pre .0) Stop.OutOfTurn 13 [] refl (c .before .before .before .stop-with .result) (c .before .before .before .stop-with .last .1 .0) (c .before .before .before .stop-with .ensures) (stop 13 [] r) refl)
+    _ (kind-out (a .s .life .limit) r (a .pdu) (c .before .before .before .before .before .match .keys6) (c .before .before .before .before .before .before .before .before .pre .1))
 
 pub on-other-kind-spec : {M : Type 1} → statement M
 on-other-kind-spec =

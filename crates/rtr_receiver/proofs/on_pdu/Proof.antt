@@ -40,13 +40,13 @@ same-length c = search needs
 
 returns : tie.Need-returns
 returns c =
-    let a = c .before .before .before .before .before .before .before .before .before .before .before .args in
+    let a = c .before .before .before .before .before .before .before .before .before .before .before .before .args in
     let live = now (a .live) in
     let working = now (a .working) in
     let r = receiverOf (a .s) live working [] in
-    did 1024 live (c .before .before .before .stop-with2 .last .1 .0) (c .no-update2 .result) (c .before .before .before .stop-with2 .result) 0 (c .no-update2 .ensures) (stop 14 [] r)
-    (stops 1024 (a .s) live working (c .before .before .before .before .before .before .before .before .before .before .before .pre) Stop.OtherVersion 14 [] refl (c .before .before .before .stop-with2 .result) (c .before .before .before .stop-with2 .last .1 .0) (c .before .before .before .stop-with2 .ensures) (stop 14 [] r) refl)
-    _ (of-version 1024 r (a .pdu) (c .before .before .before .before .before .before .before .before .match .keys2) (c .before .before .before .before .before .before .before .version .result) (c .before .before .before .before .before .before .before .version .ensures) (c .before .before .before .before .before .before .is-version .result) (c .before .before .before .before .before .before .is-version .ensures) false (not-true _ (c .before .before .before .before .before .if1 .taken)))
+    did (a .s .life .limit) live (c .before .before .before .stop-with2 .last .1 .0) (c .no-update2 .result) (c .before .before .before .stop-with2 .result) 0 (c .no-update2 .ensures) (stop 14 [] r)
+    (stops (a .s .life .limit) (a .s) live working (c .before .before .before .before .before .before .before .before .before .before .before .before .pre) Stop.OtherVersion 14 [] refl (c .before .before .before .stop-with2 .result) (c .before .before .before .stop-with2 .last .1 .0) (c .before .before .before .stop-with2 .ensures) (stop 14 [] r) refl)
+    _ (of-version (a .s .life .limit) r (a .pdu) (c .before .before .before .before .before .before .before .before .before .match .keys2) (c .before .before .before .before .before .before .before .version .result) (c .before .before .before .before .before .before .before .version .ensures) (c .before .before .before .before .before .before .is-version .result) (c .before .before .before .before .before .before .is-version .ensures) false (not-true _ (c .before .before .before .before .before .if1 .taken)))
 
 on-kind-requires : tie.Need-on-kind-requires
 on-kind-requires c κs = search needs
@@ -60,9 +60,9 @@ returns-2 c =
     let live = now (a .live) in
     let working = now (a .working) in
     let r = receiverOf (a .s) live working [] in
-    did 1024 live (c .before .before .before .stop-with .last .1 .0) (c .no-update .result) (c .before .before .before .stop-with .result) 0 (c .no-update .ensures) (stop 19 (codeNumber (c .before .before .before .before .before .before .pdu .given .0 .0 .«error_code») ∷ []) r)
-    (stops 1024 (a .s) live working (c .before .before .before .before .before .before .before .before .before .before .pre) (Stop.ErrorReport (c .before .before .before .before .before .before .pdu .given .0 .0 .«error_code»)) 19 (codeNumber (c .before .before .before .before .before .before .pdu .given .0 .0 .«error_code») ∷ []) refl (c .before .before .before .stop-with .result) (c .before .before .before .stop-with .last .1 .0) (c .before .before .before .stop-with .ensures) (stop 19 (codeNumber (c .before .before .before .before .before .before .pdu .given .0 .0 .«error_code») ∷ []) r) refl)
-    _ (pdu-report 1024 r (a .pdu) (c .before .before .before .before .before .before .pdu .given .0 .0) (c .before .before .before .before .before .before .pdu .given .1))
+    did (a .s .life .limit) live (c .before .before .before .stop-with .last .1 .0) (c .no-update .result) (c .before .before .before .stop-with .result) 0 (c .no-update .ensures) (stop 19 (codeNumber (c .before .before .before .before .before .before .pdu .given .0 .0 .«error_code») ∷ []) r)
+    (stops (a .s .life .limit) (a .s) live working (c .before .before .before .before .before .before .before .before .before .before .pre) (Stop.ErrorReport (c .before .before .before .before .before .before .pdu .given .0 .0 .«error_code»)) 19 (codeNumber (c .before .before .before .before .before .before .pdu .given .0 .0 .«error_code») ∷ []) refl (c .before .before .before .stop-with .result) (c .before .before .before .stop-with .last .1 .0) (c .before .before .before .stop-with .ensures) (stop 19 (codeNumber (c .before .before .before .before .before .before .pdu .given .0 .0 .«error_code») ∷ []) r) refl)
+    _ (pdu-report (a .s .life .limit) r (a .pdu) (c .before .before .before .before .before .before .pdu .given .0 .0) (c .before .before .before .before .before .before .pdu .given .1))
 
 same-length-3 : tie.Need-same-length-3
 same-length-3 c = search needs
@@ -72,12 +72,12 @@ same-length-4 c = search needs
 
 returns-3 : tie.Need-returns-3
 returns-3 c =
-    let a = c .before .before .before .before .before .before .before .before .before .before .before .before .before .args in
+    let a = c .before .before .before .before .before .before .before .before .before .before .before .before .before .before .args in
     let live = now (a .live) in
     let working = now (a .working) in
     let r = receiverOf (a .s) live working [] in
-    did-as 1024 (c .before .before .before .before .on-kind .last .1 .0) (c .before .before .before .before .on-kind .last .1 .1 .0) (c .before .before .before .before .on-kind .result) _ (c .before .before .before .before .on-kind .ensures)
-    _ (of-version 1024 r (a .pdu) (c .before .before .before .before .before .before .before .before .before .before .match .keys2) (c .before .before .before .before .before .before .before .before .before .version .result) (c .before .before .before .before .before .before .before .before .before .version .ensures) (c .before .before .before .before .before .before .before .before .is-version .result) (c .before .before .before .before .before .before .before .before .is-version .ensures) true (not-false _ (c .before .before .before .before .before .before .before .if1 .left)))
+    did-as (a .s .life .limit) (c .before .before .before .before .on-kind .last .1 .0) (c .before .before .before .before .on-kind .last .1 .1 .0) (c .before .before .before .before .on-kind .result) _ (c .before .before .before .before .on-kind .ensures)
+    _ (of-version (a .s .life .limit) r (a .pdu) (c .before .before .before .before .before .before .before .before .before .before .before .match .keys2) (c .before .before .before .before .before .before .before .before .before .version .result) (c .before .before .before .before .before .before .before .before .before .version .ensures) (c .before .before .before .before .before .before .before .before .is-version .result) (c .before .before .before .before .before .before .before .before .is-version .ensures) true (not-false _ (c .before .before .before .before .before .before .before .if1 .left)))
 
 pub on-pdu-spec : {M : Type 1} → statement M
 on-pdu-spec =

@@ -25,7 +25,7 @@ returns : tie.Need-returns
 returns c =
     let a = c .before .before .before .before .before .before .before .before .before .args in
     c .before .before .on-announcement .ensures
-    ∙ ap₂ (λ (p : Phase) (announced : Bool). inMemory 1024 (recordIn 1024 (stageOf p) announced (a .r) (receiverOf (a .s) (now (a .live)) (now (a .working)) []))) (sym (c .before .before .before .before .before .enum-told .given .1)) (sym (c .before .before .before .before .if1 .taken))
+    ∙ ap₂ (λ (p : Phase) (announced : Bool). inMemory (a .s .life .limit) (recordIn (a .s .life .limit) (stageOf p) announced (a .r) (receiverOf (a .s) (now (a .live)) (now (a .working)) []))) (sym (c .before .before .before .before .before .enum-told .given .1)) (sym (c .before .before .before .before .if1 .taken))
 
 on-withdrawal-requires : tie.Need-on-withdrawal-requires
 on-withdrawal-requires c κs = search needs
@@ -40,7 +40,7 @@ returns-2 : tie.Need-returns-2
 returns-2 c =
     let a = c .before .before .before .before .before .before .before .before .before .args in
     c .before .before .on-withdrawal .ensures
-    ∙ ap₂ (λ (p : Phase) (announced : Bool). inMemory 1024 (recordIn 1024 (stageOf p) announced (a .r) (receiverOf (a .s) (now (a .live)) (now (a .working)) []))) (sym (c .before .before .before .before .before .enum-told .given .1)) (sym (c .before .before .before .before .if1 .left))
+    ∙ ap₂ (λ (p : Phase) (announced : Bool). inMemory (a .s .life .limit) (recordIn (a .s .life .limit) (stageOf p) announced (a .r) (receiverOf (a .s) (now (a .live)) (now (a .working)) []))) (sym (c .before .before .before .before .before .enum-told .given .1)) (sym (c .before .before .before .before .if1 .left))
 
 same-length-3 : tie.Need-same-length-3
 same-length-3 c = search needs
@@ -49,7 +49,7 @@ returns-3 : tie.Need-returns-3
 returns-3 c =
     let a = c .before .before .before .before .before .before .before .args in
     let pre = c .before .before .before .before .before .before .before .pre in
-    stops 1024 (a .s) (now (a .live)) (now (a .working)) pre Stop.OutOfTurn 13 [] refl (c .before .before .stop-with .result) (c .before .before .stop-with .last .1 .0) (c .before .before .stop-with .ensures) _ (record-out 1024 (a .announced) (a .r) (receiverOf (a .s) (now (a .live)) (now (a .working)) []) (a .s .phase) (c .before .before .before .before .match .keys2))
+    stops (a .s .life .limit) (a .s) (now (a .live)) (now (a .working)) pre Stop.OutOfTurn 13 [] refl (c .before .before .stop-with .result) (c .before .before .stop-with .last .1 .0) (c .before .before .stop-with .ensures) _ (record-out (a .s .life .limit) (a .announced) (a .r) (receiverOf (a .s) (now (a .live)) (now (a .working)) []) (a .s .phase) (c .before .before .before .before .match .keys2))
 
 pub on-record-spec : {M : Type 1} → statement M
 on-record-spec =

@@ -19,7 +19,7 @@ returns : tie.Need-returns
 returns c =
     let a = c .before .before .before .before .args in
     let pre = c .before .before .before .before .pre in
-    passed-stands 1024 (a .s) (now (a .live)) (now (a .working)) pre _ _ (c .enum-told .given .1)
+    passed-stands (a .s .life .limit) (a .s) (now (a .live)) (now (a .working)) pre _ _ (c .enum-told .given .1)
 
 same-length : tie.Need-same-length
 same-length c = search needs
@@ -28,7 +28,7 @@ returns-2 : tie.Need-returns-2
 returns-2 c =
     let a = c .before .before .before .before .before .before .before .args in
     let pre = c .before .before .before .before .before .before .before .pre in
-    stops 1024 (a .s) (now (a .live)) (now (a .working)) pre Stop.OutOfTurn 13 [] refl (c .before .before .stop-with .result) (c .before .before .stop-with .last .1 .0) (c .before .before .stop-with .ensures) _ (key-out (receiverOf (a .s) (now (a .live)) (now (a .working)) []) (a .s .phase) (c .before .before .before .before .match .keys2))
+    stops (a .s .life .limit) (a .s) (now (a .live)) (now (a .working)) pre Stop.OutOfTurn 13 [] refl (c .before .before .stop-with .result) (c .before .before .stop-with .last .1 .0) (c .before .before .stop-with .ensures) _ (key-out (receiverOf (a .s) (now (a .live)) (now (a .working)) []) (a .s .phase) (c .before .before .before .before .match .keys2))
 
 pub on-router-key-spec : {M : Type 1} → statement M
 on-router-key-spec =

@@ -33,10 +33,10 @@ same-length c = search needs
 
 returns : tie.Need-returns
 returns c =
-    let a = c .before .before .before .before .before .before .before .before .before .before .args in
-    let pre = c .before .before .before .before .before .before .before .before .before .before .pre in
-    changed-stands 1024 (a .s) (now (a .live)) (now (a .working)) pre _ (c .before .before .answer .given .0 .0) (c .before .before .before .before .before .before .leave .last .0)
-    (leave-came 1024 (a .s) (now (a .live)) (now (a .working)) pre (a .r) (c .before .before .before .before .before .before .leave .result) (c .before .before .before .before .before .before .leave .last .0) (c .before .before .before .before .before .before .leave .ensures) _ (c .before .before .answer .given .1))
+    let a = c .before .before .before .before .before .before .before .before .before .before .before .args in
+    let pre = c .before .before .before .before .before .before .before .before .before .before .before .pre in
+    changed-stands (a .s .life .limit) (a .s) (now (a .live)) (now (a .working)) pre _ (c .before .before .answer .given .0 .0) (c .before .before .before .before .before .before .leave .last .0)
+    (leave-came (a .s .life .limit) (a .s) (now (a .live)) (now (a .working)) pre (a .r) (c .before .before .before .before .before .before .leave .result) (c .before .before .before .before .before .before .leave .last .0) (c .before .before .before .before .before .before .leave .ensures) _ (c .before .before .answer .given .1))
     (c .with-working .result) (c .with-working .ensures)
 
 same-length-2 : tie.Need-same-length-2
@@ -44,10 +44,10 @@ same-length-2 c = search needs
 
 returns-2 : tie.Need-returns-2
 returns-2 c =
-    let a = c .before .before .before .before .before .before .before .before .before .before .before .before .args in
-    let pre = c .before .before .before .before .before .before .before .before .before .before .before .before .pre in
-    refused-stands 1024 (a .s) (now (a .live)) (now (a .working)) pre _ 16 (c .before .before .before .before .before .before .before .before .leave .last .0)
-    (leave-came 1024 (a .s) (now (a .live)) (now (a .working)) pre (a .r) (c .before .before .before .before .before .before .before .before .leave .result) (c .before .before .before .before .before .before .before .before .leave .last .0) (c .before .before .before .before .before .before .before .before .leave .ensures) _ (c .before .before .before .before .enum-told .given .1))
+    let a = c .before .before .before .before .before .before .before .before .before .before .before .before .before .args in
+    let pre = c .before .before .before .before .before .before .before .before .before .before .before .before .before .pre in
+    refused-stands (a .s .life .limit) (a .s) (now (a .live)) (now (a .working)) pre _ 16 (c .before .before .before .before .before .before .before .before .leave .last .0)
+    (leave-came (a .s .life .limit) (a .s) (now (a .live)) (now (a .working)) pre (a .r) (c .before .before .before .before .before .before .before .before .leave .result) (c .before .before .before .before .before .before .before .before .leave .last .0) (c .before .before .before .before .before .before .before .before .leave .ensures) _ (c .before .before .before .before .enum-told .given .1))
     Stop.NotIn refl (c .before .before .stop-with .result) (c .before .before .stop-with .last .1 .0) (c .before .before .stop-with .ensures)
 
 same-length-3 : tie.Need-same-length-3
@@ -55,9 +55,9 @@ same-length-3 c = search needs
 
 returns-3 : tie.Need-returns-3
 returns-3 c =
-    let a = c .before .before .before .before .before .before .before .before .before .before .before .before .args in
-    let pre = c .before .before .before .before .before .before .before .before .before .before .before .before .pre in
-    absurd (leaves-a-room 1024 (a .s) (now (a .live)) (now (a .working)) pre (a .r) (c .before .before .before .before .before .before .before .before .leave .result) (c .before .before .before .before .before .before .before .before .leave .last .0) (c .before .before .before .before .before .before .before .before .leave .ensures) (c .before .before .before .before .enum-told2 .given .1))
+    let a = c .before .before .before .before .before .before .before .before .before .before .before .before .before .args in
+    let pre = c .before .before .before .before .before .before .before .before .before .before .before .before .before .pre in
+    absurd (leaves-a-room (a .s .life .limit) (a .s) (now (a .live)) (now (a .working)) pre (a .r) (c .before .before .before .before .before .before .before .before .leave .result) (c .before .before .before .before .before .before .before .before .leave .last .0) (c .before .before .before .before .before .before .before .before .leave .ensures) (c .before .before .before .before .enum-told2 .given .1))
 
 pub on-withdrawal-spec : {M : Type 1} → statement M
 on-withdrawal-spec =

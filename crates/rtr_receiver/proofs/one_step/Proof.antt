@@ -28,8 +28,8 @@ with-held-requires c κs = search needs
 on-pdu-requires : tie.Need-on-pdu-requires
 on-pdu-requires c κs =
     let a = c .before .before .before .before .before .before .before .before .before .before .before .before .before .before .before .args in
-    let shape = shape-of 1024 (a .s) (now (a .live)) (now (a .working)) (now (a .hold)) (c .before .before .before .before .before .before .before .before .before .before .before .before .before .before .before .pre .0) in
-    subst (λ (t : Session). BothRooms 1024 t (now (a .live)) (now (a .working))) (sym (c .before .before .with-held .ensures)) (shape .live-room, shape .working-room, refl, c .before .before .before .before .before .before .before .before .before .before .before .before .before .before .before .pre .1)
+    let shape = shape-of (a .s .life .limit) (a .s) (now (a .live)) (now (a .working)) (now (a .hold)) (c .before .before .before .before .before .before .before .before .before .before .before .before .before .before .before .pre .0) in
+    subst (λ (t : Session). BothRooms (t .life .limit) t (now (a .live)) (now (a .working))) (sym (c .before .before .with-held .ensures)) (shape .live-room, shape .working-room, refl, c .before .before .before .before .before .before .before .before .before .before .before .before .before .before .before .pre .1, refl)
 
 after-pdu-requires : tie.Need-after-pdu-requires
 after-pdu-requires c κs =
@@ -39,17 +39,17 @@ after-pdu-requires c κs =
     let hold = now (a .hold) in
     let piece = now (a .piece) in
     let pre = c .before .before .before .before .before .before .before .before .before .before .before .before .before .before .before .before .before .before .before .before .pre in
-    let shape = shape-of 1024 (a .s) live working hold (pre .0) in
+    let shape = shape-of (a .s .life .limit) (a .s) live working hold (pre .0) in
     let r = c .before .before .before .before .before .before .before .before .before .before .before .before .before .before .search .result in
     let hold′ = c .before .before .before .before .before .before .before .before .before .before .before .before .before .before .search .last .0 in
     let same : length hold′ ≡ length hold = omega (arith, c .before .before .before .before .before .before .before .before .before .before .before .before .before .hold .given) in
     let pdu = c .before .before .before .before .before .before .before .before .before .answer .given .0 .0 in
     let lies = c .before .before .before .before .before .before .before .before .before .answer .given .0 .1 .0 in
     let did = subst
-    (λ (t : Session). Did 1024 (c .before .before .before .before .on-pdu .result) (c .before .before .before .before .on-pdu .last .1 .0) (c .before .before .before .before .on-pdu .last .1 .1 .0) (onPdu 1024 pdu (receiverOf t live working [])))
+    (λ (t : Session). Did (t .life .limit) (c .before .before .before .before .on-pdu .result) (c .before .before .before .before .on-pdu .last .1 .0) (c .before .before .before .before .on-pdu .last .1 .1 .0) (onPdu (t .life .limit) pdu (receiverOf t live working [])))
     (c .before .before .before .before .before .before .before .with-held .ensures)
     (c .before .before .before .before .on-pdu .ensures) in
-    let most = step-counts 1024 (a .s) live working hold piece (a .at) (a .updates) shape (pre .1) r hold′ same (c .before .before .before .before .before .before .before .before .before .before .before .before .before .before .search .ensures) pdu lies (c .before .before .before .before .before .before .before .before .before .answer .given .1) (c .before .before .before .before .on-pdu .result) (c .before .before .before .before .on-pdu .last .1 .0) (c .before .before .before .before .on-pdu .last .1 .1 .0) (pre .2) (pre .3) did in
+    let most = step-counts (a .s .life .limit) (a .s) live working hold piece (a .at) (a .updates) shape (pre .1) r hold′ same (c .before .before .before .before .before .before .before .before .before .before .before .before .before .before .search .ensures) pdu lies (c .before .before .before .before .before .before .before .before .before .answer .given .1) (c .before .before .before .before .on-pdu .result) (c .before .before .before .before .on-pdu .last .1 .0) (c .before .before .before .before .on-pdu .last .1 .1 .0) (pre .2) (pre .3) did in
     omega (arith, c .before .before .before .before .before .before .before .before .before .before .before .before .before .before .before .before .before .before .before .before .good)
 
 enum-known-answer-2 : tie.Need-enum-known-answer-2
@@ -84,19 +84,19 @@ returns c =
     let hold = now (a .hold) in
     let piece = now (a .piece) in
     let pre = c .before .before .before .before .before .before .before .before .before .before .before .before .before .before .before .before .before .before .before .before .before .pre in
-    let shape = shape-of 1024 (a .s) live working hold (pre .0) in
+    let shape = shape-of (a .s .life .limit) (a .s) live working hold (pre .0) in
     let r = c .before .before .before .before .before .before .before .before .before .before .before .before .before .before .before .search .result in
     let hold′ = c .before .before .before .before .before .before .before .before .before .before .before .before .before .before .before .search .last .0 in
     let same : length hold′ ≡ length hold = omega (arith, c .before .before .before .before .before .before .before .before .before .before .before .before .before .before .hold .given) in
     let pdu = c .before .before .before .before .before .before .before .before .before .before .answer .given .0 .0 in
     let lies = c .before .before .before .before .before .before .before .before .before .before .answer .given .0 .1 .0 in
     let did = subst
-    (λ (t : Session). Did 1024 (c .before .before .before .before .before .on-pdu .result) (c .before .before .before .before .before .on-pdu .last .1 .0) (c .before .before .before .before .before .on-pdu .last .1 .1 .0) (onPdu 1024 pdu (receiverOf t live working [])))
+    (λ (t : Session). Did (t .life .limit) (c .before .before .before .before .before .on-pdu .result) (c .before .before .before .before .before .on-pdu .last .1 .0) (c .before .before .before .before .before .on-pdu .last .1 .1 .0) (onPdu (t .life .limit) pdu (receiverOf t live working [])))
     (c .before .before .before .before .before .before .before .before .with-held .ensures)
     (c .before .before .before .before .before .on-pdu .ensures) in
-    subst (λ (t : Step). Stepped 1024 (feedHere 1024 (a .s) live working hold piece (a .at) (a .updates)) piece (a .at) t (c .before .before .before .before .before .on-pdu .last .1 .0) (c .before .before .before .before .before .on-pdu .last .1 .1 .0) hold′)
+    subst (λ (t : Step). Stepped (a .s .life .limit) (feedHere (a .s .life .limit) (a .s) live working hold piece (a .at) (a .updates)) piece (a .at) t (c .before .before .before .before .before .on-pdu .last .1 .0) (c .before .before .before .before .before .on-pdu .last .1 .1 .0) hold′)
     (sym (c .after-pdu .ensures))
-    (step-pdu 1024 (a .s) live working hold piece (a .at) (a .updates) shape (pre .1) r hold′ same (c .before .before .before .before .before .before .before .before .before .before .before .before .before .before .before .search .ensures) pdu lies (c .before .before .before .before .before .before .before .before .before .before .answer .given .1)
+    (step-pdu (a .s .life .limit) (a .s) live working hold piece (a .at) (a .updates) shape (pre .1) r hold′ same (c .before .before .before .before .before .before .before .before .before .before .before .before .before .before .before .search .ensures) pdu lies (c .before .before .before .before .before .before .before .before .before .before .answer .given .1)
     (c .before .before .before .before .before .on-pdu .result) (c .before .before .before .before .before .on-pdu .last .1 .0) (c .before .before .before .before .before .on-pdu .last .1 .1 .0) (pre .2) (pre .3) did)
 
 same-length-4 : tie.Need-same-length-4
@@ -113,12 +113,12 @@ returns-2 c =
     let hold = now (a .hold) in
     let piece = now (a .piece) in
     let pre = c .before .before .before .before .before .before .before .before .before .before .before .before .before .before .before .before .pre in
-    let shape = shape-of 1024 (a .s) live working hold (pre .0) in
+    let shape = shape-of (a .s .life .limit) (a .s) live working hold (pre .0) in
     let r = c .before .before .before .before .before .before .before .before .before .before .search .result in
     let hold′ = c .before .before .before .before .before .before .before .before .before .before .search .last .0 in
     let same : length hold′ ≡ length hold = omega (arith, c .before .before .before .before .before .before .before .before .before .hold .given) in
     let error = c .before .before .before .before .before .answer2 .given .0 .0 in
-    step-stop 1024 (a .s) live working hold piece (a .at) (a .updates) shape (pre .1) r hold′ same (c .before .before .before .before .before .before .before .before .before .before .search .ensures) error (c .before .before .stop-with .result) (c .before .before .stop-with .last .1 .0)
+    step-stop (a .s .life .limit) (a .s) live working hold piece (a .at) (a .updates) shape (pre .1) r hold′ same (c .before .before .before .before .before .before .before .before .before .before .search .ensures) error (c .before .before .stop-with .result) (c .before .before .stop-with .last .1 .0)
     (c .before .before .before .before .before .answer2 .given .1) (c .before .before .stop-with .ensures .0) (c .before .before .stop-with .ensures .1)
 
 same-length-6 : tie.Need-same-length-6
@@ -132,13 +132,13 @@ returns-3 c =
     let hold = now (a .hold) in
     let piece = now (a .piece) in
     let pre = c .before .before .before .before .before .before .before .before .before .before .before .before .pre in
-    let shape = shape-of 1024 (a .s) live working hold (pre .0) in
+    let shape = shape-of (a .s .life .limit) (a .s) live working hold (pre .0) in
     let r = c .before .before .before .before .before .before .search .result in
     let hold′ = c .before .before .before .before .before .before .search .last .0 in
     let same : length hold′ ≡ length hold = omega (arith, c .before .before .before .before .before .hold .given) in
-    subst (λ (t : Session). fedSaidBy FeedAnswer.GoesOn (r .next) (a .updates) (leaves t live working hold′) hold′ ≡ fedTo 1024 (feedHere 1024 (a .s) live working hold piece (a .at) (a .updates)))
+    subst (λ (t : Session). fedSaidBy FeedAnswer.GoesOn (r .next) (a .updates) (leaves t live working hold′) hold′ ≡ fedTo (a .s .life .limit) (feedHere (a .s .life .limit) (a .s) live working hold piece (a .at) (a .updates)))
     (sym (c .with-held2 .ensures))
-    (step-more 1024 (a .s) live working hold piece (a .at) (a .updates) shape (pre .1) r hold′ same (c .before .before .before .before .before .before .search .ensures) (c .before .enum-told .given .1))
+    (step-more (a .s .life .limit) (a .s) live working hold piece (a .at) (a .updates) shape (pre .1) r hold′ same (c .before .before .before .before .before .before .search .ensures) (c .before .enum-told .given .1))
 
 same-length-7 : tie.Need-same-length-7
 same-length-7 c = search needs
@@ -151,11 +151,11 @@ returns-4 c =
     let hold = now (a .hold) in
     let piece = now (a .piece) in
     let pre = c .before .before .before .before .before .before .before .before .before .before .before .pre in
-    let shape = shape-of 1024 (a .s) live working hold (pre .0) in
+    let shape = shape-of (a .s .life .limit) (a .s) live working hold (pre .0) in
     let r = c .before .before .before .before .before .search .result in
     let hold′ = c .before .before .before .before .before .search .last .0 in
     let same : length hold′ ≡ length hold = omega (arith, c .before .before .before .before .hold .given) in
-    absurd (step-never 1024 (a .s) live working hold piece (a .at) (a .updates) shape (pre .1) r hold′ same (c .before .before .before .before .before .search .ensures) (c .enum-told2 .given .1))
+    absurd (step-never (a .s .life .limit) (a .s) live working hold piece (a .at) (a .updates) shape (pre .1) r hold′ same (c .before .before .before .before .before .search .ensures) (c .enum-told2 .given .1))
 
 pub one-step-spec : {M : Type 1} → statement M
 one-step-spec =

@@ -15,7 +15,7 @@ same-length c = search needs
 returns : tie.Need-returns
 returns c =
     let a = c .before .before .before .before .before .before .args in
-    reconnect-shapeless 1024 (a .s) (now (a .live)) (now (a .working)) (now (a .hold)) (fails (c .before .is-receiver .ensures) (c .if1 .taken))
+    reconnect-shapeless (a .s .life .limit) (a .s) (now (a .live)) (now (a .working)) (now (a .hold)) (fails (c .before .is-receiver .ensures) (c .if1 .taken))
 
 empty-requires : tie.Need-empty-requires
 empty-requires c κs = search needs
@@ -25,8 +25,8 @@ same-length-2 c = search needs
 
 returns-2 : tie.Need-returns-2
 returns-2 c =
-    let a = c .before .before .before .before .before .before .before .before .before .before .args in
-    reconnect-is 1024 (a .s) (now (a .live)) (now (a .working)) (now (a .hold)) _ (holds (c .before .before .before .before .before .is-receiver .ensures) (c .before .before .before .before .if1 .left)) (c .before .before .empty .ensures)
+    let a = c .before .before .before .before .before .before .before .before .before .before .before .before .args in
+    reconnect-is (a .s .life .limit) (a .s) (now (a .live)) (now (a .working)) (now (a .hold)) _ (holds (c .before .before .before .before .before .before .before .is-receiver .ensures) (c .before .before .before .before .before .before .if1 .left)) (c .before .before .before .before .empty .ensures)
 
 pub reconnect-spec : {M : Type 1} → statement M
 reconnect-spec =
