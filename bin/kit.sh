@@ -4,7 +4,7 @@
 #   kit_find             sets KIT (RATTLE_HOME, or the folder above rt's), TOOLS and RUN; false, with a reason on standard error, where there is none
 #   "${RUN[@]}" PROGRAM  runs an x86-64 program: under the kit's loader, and on other machines under the emulator beside it
 #   kit_cc OUT WORD..    compiles the .c files among the words for x86-64 (other words go to the compiler), links them with the .a files, and writes OUT
-#   kit_archives NAME..  target/staticlib/libNAME.a by `rt staticlib`, which proves NAME; one that is there is taken where neither the kit nor a file that it comes from has changed
+#   kit_archives NAME..  target/staticlib/libNAME.a, which is written where NAME is proved; one that is there is taken where neither the kit nor a file that it comes from has changed
 #   kit_driver OUT       builds tests/driver over rtr_c and test_calls
 #
 # Nothing is installed, and no header or library of the machine's is used: tests/libc declares what the tests need of C's library.
@@ -50,6 +50,17 @@ kit_stamp() { # NAME
     { cat "$KIT/KIT-ID"; kit_below "$1" | sed 's|^|crates/|' | xargs -I{} find {} -type f \( -path '*/src/*' -o -path '*/specs/*' -o -path '*/proofs/*' \) -print0 | LC_ALL=C sort -z | xargs -0 sha256sum; } | sha256sum
 }
 
+# The static library of a crate whose floors below are proved, as `rt staticlib` writes it. Two of them may run side by side; two runs of rt may not, for they share target/log.
+kit_staticlib() { # NAME
+    local own=$KIT/on/$(uname -m) dep words=()
+    for dep in $(awk -F: -v name="$1" '$1 == name { print $2 }' crates.txt); do
+        if [ -d "crates/$dep" ]; then words+=(--extern "$dep=target/rlib/$dep.rlib"); else words+=(--extern "$dep=$own/rlib/$dep.rlib"); fi
+    done
+    mkdir -p target/staticlib
+    "$own/bin/rattle" build --crate-name "$1" "crates/$1/src/lib.rt" --extern "std=$own/rlib/std.rlib" "${words[@]}" -L dependency=target/rlib -L "dependency=$own/rlib" \
+        --antt-project "$KIT/logic/antt-project.json" --logic-built "$own/logic-built" --toolchain "$TOOLS" --crate-type staticlib -o "target/staticlib/lib$1.a"
+}
+
 kit_archives() (
     cd "$(dirname "${BASH_SOURCE[0]}")/.." || exit 1
     wanted=()
@@ -64,7 +75,8 @@ kit_archives() (
     # shellcheck disable=SC2086
     rt check $below >"$logs/below" 2>&1 </dev/null || { cat "$logs/below" >&2; exit 1; }
     for name in "${wanted[@]}"; do
-        { rt staticlib "$name" >"$logs/$name" 2>&1 </dev/null && kit_stamp "$name" >"target/staticlib/$name.stamp" && touch "$logs/$name.done"; } &
+        rm -f "target/staticlib/lib$name.a" "target/staticlib/$name.stamp"
+        { kit_staticlib "$name" >"$logs/$name" 2>&1 </dev/null && grep -q '^logic=proved' "$logs/$name" && kit_stamp "$name" >"target/staticlib/$name.stamp" && touch "$logs/$name.done"; } &
     done
     wait
     for name in "${wanted[@]}"; do
