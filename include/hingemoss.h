@@ -91,7 +91,8 @@ enum hingemoss_session {
     HINGEMOSS_SESSION_LIVE = 15,       /* records in the live room */
     HINGEMOSS_SESSION_WORKING = 16,    /* records in the working room */
     HINGEMOSS_SESSION_HELD = 17,       /* bytes held in the hold */
-    HINGEMOSS_SESSION_LIMIT = 18       /* the most records that a room has: HINGEMOSS_RECORDS. Behind it stand five zeros, places that are kept for later versions */
+    HINGEMOSS_SESSION_LIMIT = 18       /* the most records that a room has: HINGEMOSS_RECORDS; another limit is 22. Behind it stand five zeros, for later versions; anything else there is 22.
+                                        * A start sets them all. A session of 18 numbers, as versions before this one had it, is 22 too */
 };
 
 enum hingemoss_phase {

@@ -159,6 +159,15 @@ static void receiver(void)
     EXPECT(hingemoss_reconnect(SESSION, LIVE, WORKING, HOLD) == HINGEMOSS_OK);
     EXPECT(session[HINGEMOSS_SESSION_PHASE] == HINGEMOSS_IDLE && session[HINGEMOSS_SESSION_TABLE] == 1 && session[HINGEMOSS_SESSION_NOTE] == 0);
 
+    /* The limit is set by the start. Another one, and anything behind it, are refused by 22. */
+    EXPECT(session[HINGEMOSS_SESSION_LIMIT] == HINGEMOSS_RECORDS);
+    for (int i = HINGEMOSS_SESSION_LIMIT; i < HINGEMOSS_SESSION_NUMBERS; i++) {
+        session[i]--;
+        EXPECT(hingemoss_notify(SESSION, LIVE, WORKING, HOLD, &answer) == HINGEMOSS_REFUSED_NOT_A_RECEIVER && hingemoss_listing(SESSION, LIVE, text, sizeof text, &written) == HINGEMOSS_REFUSED_NOT_A_RECEIVER);
+        session[i]++;
+        EXPECT(hingemoss_notify(SESSION, LIVE, WORKING, HOLD, &answer) == HINGEMOSS_OK);
+    }
+
     /* Numbers that are no session's: 22, and nothing changes. */
     session[HINGEMOSS_SESSION_FIRST] = 1;
     memcpy(before, session, sizeof before);

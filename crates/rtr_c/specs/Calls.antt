@@ -1,5 +1,5 @@
 -- What each call from C answers and leaves, through the crates below: a session is its 24 numbers (rtr_numbers) and a PDU its 12 (rtr_pdu_numbers), rooms are
--- of 1,024 records. Numbers that are no session's and no PDU's are refused by 22.
+-- of the limit that the session holds. Numbers that are no session's and no PDU's are refused by 22.
 use Prim.Native.Nat.{ℕ}
 use mathlib.Core.Bool.{Bool, true, false, cond}
 use mathlib.Core.List.{List}
@@ -232,12 +232,6 @@ feedFound SessionFound.Unknown session live working hold piece = feedGives 22 se
 unfoldable pub feedC : List ℕ → List ℕ → List ℕ → List ℕ → List ℕ → FeedLeft
 feedC session live working hold piece = feedFound (sessionOf session) session live working hold piece
 
--- document 01's number of the code's answer
-abbrev pub feedNumber : FeedAnswer → ℕ
-feedNumber FeedAnswer.GoesOn = 0
-feedNumber (FeedAnswer.Stopped stop) = codec.numberOf (stopSaid stop)
-feedNumber FeedAnswer.NotAReceiver = 22
-
 -- ---- reconnect: 0 or 22, the session and the working room
 pub record ReconnectLeft : Type 0 where
   pub answer : ℕ
@@ -292,26 +286,6 @@ notifyFound SessionFound.Unknown live working hold = notifyGives 22 0
 -- the promise of `hingemoss_notify`
 unfoldable pub notifyC : List ℕ → List ℕ → List ℕ → List ℕ → NotifyLeft
 notifyC session live working hold = notifyFound (sessionOf session) live working hold
-
--- the numbers of the code's answer
-abbrev pub notifyNumber : NotifyAnswer → ℕ
-notifyNumber NotifyAnswer.None = 0
-notifyNumber NotifyAnswer.OtherSession = 0
-notifyNumber NotifyAnswer.Same = 0
-notifyNumber NotifyAnswer.Newer = 0
-notifyNumber NotifyAnswer.Older = 0
-notifyNumber NotifyAnswer.Undefined = 0
-notifyNumber NotifyAnswer.NotAReceiver = 22
-
--- the comparison's number of the code's answer, 0 on 22
-abbrev pub notifyCompared : NotifyAnswer → ℕ
-notifyCompared NotifyAnswer.None = 0
-notifyCompared NotifyAnswer.OtherSession = 1
-notifyCompared NotifyAnswer.Same = 2
-notifyCompared NotifyAnswer.Newer = 3
-notifyCompared NotifyAnswer.Older = 4
-notifyCompared NotifyAnswer.Undefined = 5
-notifyCompared NotifyAnswer.NotAReceiver = 0
 
 -- ---- listing: 0, 22 or 9; the bytes written, or needed (9), or 0; and the output
 abbrev pub listingFound : SessionFound → List ℕ → List ℕ → EncodeLeft

@@ -10,7 +10,7 @@ use Rattle.rtr_receiver.specs.Promises.{recordLimit}
 use Rattle.rtr_models.specs.Codes.{versionFound}
 use Rattle.rtr_models.specs.declared.RtrProtocolVersion.{RtrProtocolVersion}
 use Rattle.rtr_models.specs.declared.VersionFound.{VersionFound}
-use Rattle.rtr_room.specs.Room.{records}
+use Rattle.rtr_receiver.specs.Contents.{contents}
 use Rattle.rtr_receiver.specs.History.{Live}
 use Rattle.rtr_receiver.specs.Runs.{Call, Memory, Step, Run}
 use Rattle.rtr_receiver.specs.declared.LoadKind.{LoadKind}
@@ -96,4 +96,4 @@ pub record Holds (c : CMemory) (t : Live) : Type 0 where
   pub refresh : getD (c .session) 9 0 ≡ tableOr (t .info) .refresh
   pub retry : getD (c .session) 10 0 ≡ tableOr (t .info) .retry
   pub expire : getD (c .session) 11 0 ≡ tableOr (t .info) .expire
-  pub listed : records (getD (c .session) 15 0) (c .live) ≡ t .records
+  pub listed : contents (record { records = getD (c .session) 15 0 }) (c .live) ≡ t .records

@@ -27,7 +27,8 @@ ghost use Rattle.rtr_receiver.specs.Runs.{Call};
 ghost use Rattle.rtr_receiver.specs.declared.LoadKind.{LoadKind};
 ghost use Rattle.rtr_numbers.specs.Numbers.{valueOf};
 ghost use Rattle.rtr_walk.specs.Walk.{endSaid};
-ghost use Rattle.rtr_c.specs.Calls.{isSession, amountOf, endNumber, endValue, feedNumber, notifyNumber, notifyCompared, readGives, readC, encodeGives, encodeC, walkGives, walkC, startGives, startC, askGives, fullAskC, changeAskC, feedGives, feedC, reconnectGives, reconnectC, notifyGives, notifyC, listingC};
+ghost use Rattle.rtr_c.specs.Calls.{isSession, amountOf, endNumber, endValue, readGives, readC, encodeGives, encodeC, walkGives, walkC, startGives, startC, askGives, fullAskC, changeAskC, feedGives, feedC, reconnectGives, reconnectC, notifyGives, notifyC, listingC};
+ghost use Rattle.rtr_c.specs.Private.{feedNumber, notifyNumber, notifyCompared};
 ghost use Rattle.rtr_c.specs.Runs.{memory, LeadsOn, Begins};
 
 // ---- Numbers of answers

@@ -54,7 +54,7 @@ text-whole : (R : Reading) (v : RtrProtocolVersion) (c : RtrErrorCode) (e t : �
 unfolding readText
 text-whole R v c e t s h =
     checked (headerLength s) (ends (R .bytesBehindText) (16 + e + t) (headerLength s)) 4 _ _ (omega arith, omega arith)
-    (λ _. last (headerLength s) (wellFormed (take t (drop (16 + e) s))) 8 [] _ (omega arith, omega arith) (λ _. omega arith))
+    (λ _. last (headerLength s) (wellFormed (take t (drop (16 + e) s))) 8 _ _ (omega arith, omega arith) (λ _. omega arith))
 
 encapsulated-whole : (R : Reading) (v : RtrProtocolVersion) (c : RtrErrorCode) (e : ℕ) (s : List ℕ) → 16 ≤ headerLength s → Whole (headerLength s) (readEncapsulated R v c e s)
 unfolding readEncapsulated

@@ -8,7 +8,7 @@ use Rattle.rtr_codec.specs.declared.RtrError.the-variants.{IncompletePdu
 use Rattle.rtr_codec.specs.declared.ReadAnswer.{ReadAnswer}
 use Rattle.rtr_codec.specs.declared.ReadAnswer.the-variants.{Read, Refused}
 
--- a refusal's number and values; `InvalidUtf8` holds no number, and `textRefusal` takes none
+-- a refusal's number and values; `InvalidUtf8` holds no number yet, and `textRefusal` looks at none
 abbrev pub refusal : RtrError → Verdict
 refusal (IncompletePdu available needed) = refused 1 (available ∷ needed ∷ [])
 refusal (InvalidPduType type) = refused 3 (type ∷ [])

@@ -8,7 +8,7 @@ use native.Mathlib.Omega.{arith}
 use borrow.Author.Tests.{le-leb, lt-leb, eqb-true}
 use lib.Dec.{eqb}
 use lib.ListN.{length, drop, length-append}
-use Rattle.rtr_text.specs.Utf8.{wellFormed}
+use Rattle.rtr_text.specs.Utf8.{wellFormed, wellFormedUpTo}
 use Rattle.rtr_text.proofs.Laws.{empty-is-well-formed}
 use Rattle.rtr_models.specs.Codes.{codeNumber}
 use Rattle.rtr_models.specs.Parts.{inside, keyInside, partIf}
@@ -18,10 +18,11 @@ use Rattle.rtr_models.specs.declared.RtrRouterKey.{RtrRouterKey}
 use Rattle.rtr_models.specs.declared.RtrErrorReport.{RtrErrorReport}
 use Rattle.rtr_models.specs.declared.RtrPdu.{RtrPdu}
 use Rattle.rtr_models.specs.declared.RtrPdu.the-variants.{RouterKey, ErrorReport}
+use Rattle.rtr_codec.specs.Read.{textRefusal}
 use Rattle.rtr_codec.specs.Reading.{Reading, inUse}
 use Rattle.rtr_base.specs.Over.{over}
 use Rattle.rtr_base.proofs.Overs.{over-front}
-use Rattle.rtr_encode.specs.Encode.{bytesOf, at, placesInside, textIn, encodedLength, encoding, encodeSays, encode}
+use Rattle.rtr_encode.specs.Encode.{bytesOf, at, placesInside, textIn, textOf, encodedLength, encoding, encodeSays, encode}
 use Rattle.rtr_encode.specs.Private.{keyBytes, reportBytes, lastChecks}
 use Rattle.rtr_encode.specs.Encode.Writing.{written, refused}
 use Rattle.rtr_encode.proofs.Payloads.{length-bytes, part-long}
@@ -49,7 +50,7 @@ pub place-outside : (R : Reading) (pdu : RtrPdu) (s out : List ℕ) → placesIn
 unfolding encode encodeSays
 place-outside R pdu s out e = simp e
 
-pub text-refused : (R : Reading) (pdu : RtrPdu) (s out : List ℕ) → placesInside pdu s ≡ true → textIn pdu s ≡ false → record { says = refused 8 []; out = out } ≡ encode R pdu s out
+pub text-refused : (R : Reading) (pdu : RtrPdu) (s out : List ℕ) → placesInside pdu s ≡ true → textIn pdu s ≡ false → record { says = refused 8 (textRefusal (wellFormedUpTo (textOf pdu s))); out = out } ≡ encode R pdu s out
 unfolding encode encodeSays
 text-refused R pdu s out p t = simp (p, t)
 

@@ -51,7 +51,7 @@ unfolding encode encodeSays
 written-length R pdu s out n e =
     let last : written (encodedLength R pdu) ≡ written n =
     checks-end (leb (encodedLength R pdu) (length out)) 9 (encodedLength R pdu ∷ []) (written (encodedLength R pdu)) n
-    (checks-end (leb (encodedLength R pdu) 4294967295) 10 [] _ n (checks-end (textIn pdu s) 8 [] _ n (checks-end (placesInside pdu s) 11 [] _ n e))) in
+    (checks-end (leb (encodedLength R pdu) 4294967295) 10 [] _ n (checks-end (textIn pdu s) 8 _ _ n (checks-end (placesInside pdu s) 11 [] _ n e))) in
     cc
 
 -- what is written of a query, by the room for it: 8 bytes, or 12
@@ -80,7 +80,7 @@ pub written-tests
 unfolding encode encodeSays
 written-tests R pdu s out n e =
     let places = test-held (placesInside pdu s) 11 [] _ n e in
-    let text = test-held (textIn pdu s) 8 [] _ n (places .1) in
+    let text = test-held (textIn pdu s) 8 _ _ n (places .1) in
     let short = test-held (leb (encodedLength R pdu) 4294967295) 10 [] _ n (text .1) in
     let room = test-held (leb (encodedLength R pdu) (length out)) 9 (encodedLength R pdu ∷ []) (written (encodedLength R pdu)) n (short .1) in
     (places .0, text .0, short .0, room .0)

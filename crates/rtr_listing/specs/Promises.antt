@@ -3,11 +3,11 @@
 use Prim.Native.Nat.{ℕ}
 use mathlib.Core.Bool.{Bool, cond, _&&_, _||_}
 use mathlib.Core.List.{List, [], _∷_}
-use lib.Dec.{eqb, leb}
+use lib.Dec.{leb}
 use lib.ListN.{length}
 use Rattle.rtr_encode.specs.Encode.{Writing, Encoded, unless, outAfter}
 use Rattle.rtr_encode.specs.Encode.Writing.{written, refused}
-use Rattle.rtr_room.specs.Room.{records, isRoom}
+use Rattle.rtr_receiver.specs.Contents.{Rooms, contents, areRooms, isNone}
 use Rattle.rtr_receiver.specs.History.{hasTable}
 use Rattle.rtr_receiver.specs.Promises.{hasLimit}
 use Rattle.rtr_receiver.specs.declared.Session.{Session}
@@ -40,10 +40,10 @@ unfoldable pub puts : List ℕ → List ℕ → Encoded
 puts bytes out = record { says = putSays bytes (length out); out = outAfter (putSays bytes (length out)) bytes out }
 
 -- the room and the session can be listed: the limit is the session's and a receiver may have it, the live room keeps the room rules, and no record stands without a table
-abbrev pub isListed : ℕ → Session → List ℕ → Bool
-isListed limit s live = hasLimit limit s && (isRoom limit (s .live .records) live && (hasTable (s .table) || eqb (s .live .records) 0))
+abbrev pub isListed : ℕ → Session → Rooms → Bool
+isListed limit s live = hasLimit limit s && (areRooms limit (s .live) live && (hasTable (s .table) || isNone (s .live)))
 
 -- the listing of a session and its live room: 22, then 9, then all of it
-unfoldable pub listingSays : ℕ → Session → List ℕ → List ℕ → Encoded
+unfoldable pub listingSays : ℕ → Session → Rooms → List ℕ → Encoded
 listingSays limit s live out =
-    cond (isListed limit s live) (puts (listing s (records (s .live .records) live)) out) (record { says = refused 22 []; out = out })
+    cond (isListed limit s live) (puts (listing s (contents (s .live) live)) out) (record { says = refused 22 []; out = out })

@@ -196,7 +196,7 @@ module _ (limit : ℕ) (s : Session) (live working : Rooms) (hold : List ℕ) wh
             ≡ askedTo limit (askedBy (writing answer) (stageOf phase) (receiverOf s live working hold) out′)
         said (EncodeAnswer.Written n) = ap (λ (l : Left). record { says = Writing.written n; out = out′; left = inStageLeft (stageOf phase) l }) stands
         said (EncodeAnswer.Refused EncodeError.PlaceOutside) = kept 11 []
-        said (EncodeAnswer.Refused EncodeError.InvalidUtf8) = kept 8 []
+        said (EncodeAnswer.Refused EncodeError.InvalidUtf8) = kept 8 _
         said (EncodeAnswer.Refused EncodeError.TooLong) = kept 10 []
         said (EncodeAnswer.Refused (EncodeError.OutputShort needed)) = kept 9 (needed ∷ [])
 

@@ -15,9 +15,9 @@ use Rattle.rtr_stream.proofs.Laws.{stream-has, stream-exactly}
 use Rattle.rtr_room.specs.Room.{isRoom}
 use Rattle.rtr_room.proofs.Laws.{rules-exactly}
 use Rattle.rtr_room.proofs.Laws.Tests.{first-of, second-of, not-both, unless}
-use Rattle.rtr_receiver.specs.Contents.{Rooms}
+use Rattle.rtr_receiver.specs.Contents.{Rooms, BreaksRules}
 use Rattle.rtr_receiver.specs.History.{hasTable}
-use Rattle.rtr_receiver.specs.Promises.{changeUnderWay, isLoading, isStopped, inOrder, hasLimit, isReceiver, BreaksRules, Reason}
+use Rattle.rtr_receiver.specs.Promises.{changeUnderWay, isLoading, isStopped, inOrder, hasLimit, isReceiver, Reason}
 use Rattle.rtr_receiver.specs.Promises.Reason.{liveSize, workingSize, holdSize, liveOver, workingOver, heldOver, liveRules, workingRules, recordsWithoutTable, changeWithoutTable, workingOutsideLoading, heldInStopped, heldPdu, heldRefusal, otherLimit}
 use Rattle.rtr_receiver.specs.declared.LiveTable.{LiveTable}
 use Rattle.rtr_receiver.specs.declared.Session.{Session}
@@ -47,19 +47,19 @@ above-zero n e = let h : n ≡ 0 → ⊥ = eqb-false n 0 e in omega arith
 -- ---- Each test and its reasons
 
 -- a room that is none: of another size, over its limit, or against the rules
-room-fails : (limit count : ℕ) (s : List ℕ) → isRoom limit count s ≡ false → (length s ≡ 6 * limit → ⊥) ⊎ ((limit < count) ⊎ BreaksRules limit count s)
+room-fails : (limit count : ℕ) (s : List ℕ) → isRoom limit count s ≡ false → (length s ≡ 6 * limit → ⊥) ⊎ ((limit < count) ⊎ BreaksRules limit (record { records = count }) s)
 room-fails limit count s e = bySize (eqb (length s) (6 * limit)) refl
   where
-    byCount : (b : Bool) → leb count limit ≡ b → (limit < count) ⊎ BreaksRules limit count s
+    byCount : (b : Bool) → leb count limit ≡ b → (limit < count) ⊎ BreaksRules limit (record { records = count }) s
     byCount false q = inl (leb-false count limit q)
     byCount true q = inr (λ t h l r. not-both _ (rules-exactly limit count s .1 (t, h, l, leb-true count limit q, r)) e)
 
-    bySize : (b : Bool) → eqb (length s) (6 * limit) ≡ b → (length s ≡ 6 * limit → ⊥) ⊎ ((limit < count) ⊎ BreaksRules limit count s)
+    bySize : (b : Bool) → eqb (length s) (6 * limit) ≡ b → (length s ≡ 6 * limit → ⊥) ⊎ ((limit < count) ⊎ BreaksRules limit (record { records = count }) s)
     bySize false q = inl (eqb-false (length s) (6 * limit) q)
     bySize true q = inr (byCount (leb count limit) refl)
 
 -- a room keeps the rules
-room-keeps : (limit count : ℕ) (s : List ℕ) → isRoom limit count s ≡ true → BreaksRules limit count s → ⊥
+room-keeps : (limit count : ℕ) (s : List ℕ) → isRoom limit count s ≡ true → BreaksRules limit (record { records = count }) s → ⊥
 room-keeps limit count s e breaks = let r = rules-exactly limit count s .0 e in breaks (r .0) (r .1) (r .2) (r .4)
 
 -- what a session in order has
@@ -84,7 +84,7 @@ module _ (limit : ℕ) (s : Session) (live working : Rooms) (hold : List ℕ) wh
   by-live : isRoom limit (s .live .records) live ≡ false → Reason limit s live working hold
   by-live e = go (room-fails limit (s .live .records) live e)
     where
-      go : (length live ≡ 6 * limit → ⊥) ⊎ ((limit < s .live .records) ⊎ BreaksRules limit (s .live .records) live) → Reason limit s live working hold
+      go : (length live ≡ 6 * limit → ⊥) ⊎ ((limit < s .live .records) ⊎ BreaksRules limit (s .live) live) → Reason limit s live working hold
       go (inl h) = liveSize h
       go (inr (inl h)) = liveOver h
       go (inr (inr h)) = liveRules h
@@ -92,7 +92,7 @@ module _ (limit : ℕ) (s : Session) (live working : Rooms) (hold : List ℕ) wh
   by-working : isRoom limit (s .working .records) working ≡ false → Reason limit s live working hold
   by-working e = go (room-fails limit (s .working .records) working e)
     where
-      go : (length working ≡ 6 * limit → ⊥) ⊎ ((limit < s .working .records) ⊎ BreaksRules limit (s .working .records) working) → Reason limit s live working hold
+      go : (length working ≡ 6 * limit → ⊥) ⊎ ((limit < s .working .records) ⊎ BreaksRules limit (s .working) working) → Reason limit s live working hold
       go (inl h) = workingSize h
       go (inr (inl h)) = workingOver h
       go (inr (inr h)) = workingRules h

@@ -1,10 +1,12 @@
 -- What a table holds and how it lies in memory: the one page that says so. Today a table is its prefix records (document 01, "Stream and receiver"); request Eight of document 02 adds
 -- router keys here, and the other pages speak of contents, entries, counts and rooms alone.
-use Prim.Native.Nat.{ℕ}
-use mathlib.Core.Bool.{Bool}
+use Prim.Native.Nat.{ℕ, _*_, _<_}
+use mathlib.Core.Bool.{Bool, true}
 use mathlib.Core.List.{List, []}
+use mathlib.Core.Path.{_≡_}
+use lib.Dec.{eqb}
 use lib.ListN.{length}
-use Rattle.rtr_room.specs.Table.{Change, enter, leave}
+use Rattle.rtr_room.specs.Table.{Change, enter, leave, isTable}
 use Rattle.rtr_room.specs.Room.{room, records, isRoom}
 use Rattle.rtr_room.specs.declared.Record.{Record}
 use Rattle.rtr_receiver.specs.declared.Counts.{Counts}
@@ -48,3 +50,27 @@ contents n rooms = records (n .records) rooms
 -- rooms of the limit that keep the room rules as far as the counts say (document 01, "Refusal numbers", 22)
 abbrev pub areRooms : ℕ → Counts → Rooms → Bool
 areRooms limit n rooms = isRoom limit (n .records) rooms
+
+-- rooms have the size of the limit: six numbers for each record
+abbrev pub areSized : ℕ → Rooms → Bool
+areSized limit rooms = eqb (length rooms) (6 * limit)
+
+-- nothing in use
+abbrev pub isNone : Counts → Bool
+isNone n = eqb (n .records) 0
+
+-- "a count is over its limit"
+abbrev pub OverLimit : ℕ → Counts → Type 0
+OverLimit limit n = limit < n .records
+
+-- something in use
+abbrev pub Used : Counts → Type 0
+Used n = 0 < n .records
+
+-- "a room is not 6,144 numbers"
+abbrev pub OffSize : ℕ → Rooms → Type 0
+OffSize limit rooms = length rooms ≡ 6 * limit → ⊥
+
+-- "a room breaks the room rules": it is the room of no table of so many records
+abbrev pub BreaksRules : ℕ → Counts → Rooms → Type 0
+BreaksRules limit n rooms = (t : Contents) → isTable t ≡ true → length t ≡ n .records → rooms ≡ roomsOf limit t → ⊥

@@ -3,7 +3,7 @@
 -- limit (18).
 --
 -- Read from the end upward: `finished` is the updates of a history; `items` makes of its bytes PDUs and refusals; `onItem` says where each leads, with the table of what is due where
--- (`dueAt`) and one function for each PDU above it; `tableOf` is the table that updates make.
+-- (`dueAt`) and above it a function for each PDU that does more than lead on; `tableOf` is the table that updates make.
 --
 -- An example, in version 1, with no table yet. The history: a full ask, and the bytes of a Cache Response of session 4660, of an announced prefix, of an End of Data of session 4660 and serial 7.
 -- Its items and places:

@@ -1,5 +1,6 @@
 -- A session record and lent memory stand for a receiver; what each call promises of them: document 01, "Refusal numbers" (22) and "How tight the
--- promises are". Everything is over any record limit; the calls promise it of the limit that the session record holds.
+-- promises are". Definitions are over any record limit, and the calls promise them of the limit that the session record holds. 22 asks that a receiver may have that limit (`isLimit`): of
+-- any other, what supposes receiver shape says nothing.
 use Prim.Native.Nat.{ℕ, _*_, _<_}
 use mathlib.Core.Bool.{Bool, true, false, not, cond, _&&_, _||_}
 use mathlib.Core.List.{List, [], _∷_}
@@ -15,10 +16,7 @@ use Rattle.rtr_encode.specs.Encode.{Writing}
 use Rattle.rtr_encode.specs.Answers.{encodeRefusal}
 use Rattle.rtr_stream.specs.Stream.{Heard, judge}
 use Rattle.rtr_stream.specs.Search.{isStream, streamRefusal}
-use Rattle.rtr_room.specs.Table.{isTable}
-use Rattle.rtr_room.specs.Room.{room}
-use Rattle.rtr_receiver.specs.Contents.{Rooms, contents, areRooms, roomsOf, countsOf}
-use Rattle.rtr_room.specs.declared.Record.{Record}
+use Rattle.rtr_receiver.specs.Contents.{Rooms, contents, areRooms, roomsOf, countsOf, areSized, isNone, OverLimit, Used, OffSize, BreaksRules}
 use Rattle.rtr_receiver.specs.History.{hasTable}
 use Rattle.rtr_receiver.specs.Receiver.{Stage, Receiver, Feed, Query, Asked, Notified, fresh, feed, fullQuery, changeQuery, ask, reconnected, notified}
 use Rattle.rtr_receiver.specs.Receiver.Stage.{idle, mustReset, askedFull, askedChange, loading, stopped}
@@ -106,8 +104,8 @@ isStopped (Phase.Stopped stop) = true
 -- a live record or a change has its table; the working room is empty outside Loading; nothing is held in Stopped
 abbrev pub inOrder : Session → Bool
 inOrder s =
-    (hasTable (s .table) || (eqb (s .live .records) 0 && not (changeUnderWay (s .phase))))
-    && ((isLoading (s .phase) || eqb (s .working .records) 0) && (not (isStopped (s .phase)) || eqb (s .held) 0))
+    (hasTable (s .table) || (isNone (s .live) && not (changeUnderWay (s .phase))))
+    && ((isLoading (s .phase) || isNone (s .working)) && (not (isStopped (s .phase)) || eqb (s .held) 0))
 
 -- "at most 1,024 records": the limit that a start gives, and the only one that a receiver may have
 abbrev pub recordLimit : ℕ
@@ -127,24 +125,20 @@ isReceiver limit s live working hold =
     hasLimit limit s
     && (areRooms limit (s .live) live && (areRooms limit (s .working) working && (isStream hold (s .held) && inOrder s)))
 
--- "a room breaks the room rules": it is the room of no table of so many records
-abbrev pub BreaksRules : ℕ → ℕ → List ℕ → Type 0
-BreaksRules limit count s = (t : List Record) → isTable t ≡ true → length t ≡ count → s ≡ room limit t → ⊥
-
 -- document 01's reasons for 22, one by one, over any limit: proofs/Shape.antt has that receiver shape is missing exactly where one of them holds
 pub data Reason (limit : ℕ) (s : Session) (live working : Rooms) (hold : List ℕ) : Type 0 where
   otherLimit : hasLimit limit s ≡ false → Reason limit s live working hold
-  liveSize : (length live ≡ 6 * limit → ⊥) → Reason limit s live working hold
-  workingSize : (length working ≡ 6 * limit → ⊥) → Reason limit s live working hold
+  liveSize : OffSize limit live → Reason limit s live working hold
+  workingSize : OffSize limit working → Reason limit s live working hold
   holdSize : length hold < 8 → Reason limit s live working hold
-  liveOver : limit < s .live .records → Reason limit s live working hold
-  workingOver : limit < s .working .records → Reason limit s live working hold
+  liveOver : OverLimit limit (s .live) → Reason limit s live working hold
+  workingOver : OverLimit limit (s .working) → Reason limit s live working hold
   heldOver : length hold < s .held → Reason limit s live working hold
-  liveRules : BreaksRules limit (s .live .records) live → Reason limit s live working hold
-  workingRules : BreaksRules limit (s .working .records) working → Reason limit s live working hold
-  recordsWithoutTable : s .table ≡ LiveTable.NoTable → 0 < s .live .records → Reason limit s live working hold
+  liveRules : BreaksRules limit (s .live) live → Reason limit s live working hold
+  workingRules : BreaksRules limit (s .working) working → Reason limit s live working hold
+  recordsWithoutTable : s .table ≡ LiveTable.NoTable → Used (s .live) → Reason limit s live working hold
   changeWithoutTable : s .table ≡ LiveTable.NoTable → changeUnderWay (s .phase) ≡ true → Reason limit s live working hold
-  workingOutsideLoading : isLoading (s .phase) ≡ false → 0 < s .working .records → Reason limit s live working hold
+  workingOutsideLoading : isLoading (s .phase) ≡ false → Used (s .working) → Reason limit s live working hold
   heldInStopped : isStopped (s .phase) ≡ true → 0 < s .held → Reason limit s live working hold
   heldPdu : (pdu : RtrPdu) → judge inUse (length hold) (take (s .held) hold) ≡ Heard.whole pdu → Reason limit s live working hold
   heldRefusal : (number : ℕ) (values : List ℕ) → judge inUse (length hold) (take (s .held) hold) ≡ Heard.refused number values → Reason limit s live working hold
@@ -237,7 +231,7 @@ pub data StartSays : Type 0 where
 
 unfoldable pub startSays : ℕ → RtrProtocolVersion → Rooms → Rooms → List ℕ → StartSays
 startSays limit version live working hold =
-    cond (isLimit limit && (eqb (length live) (6 * limit) && (eqb (length working) (6 * limit) && leb 8 (length hold))))
+    cond (isLimit limit && (areSized limit live && (areSized limit working && leb 8 (length hold))))
     (started (inMemory limit (fresh version)))
     (refusedStart 22 live working)
 
