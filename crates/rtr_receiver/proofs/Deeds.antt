@@ -21,18 +21,19 @@ use Rattle.rtr_room.specs.declared.EnterAnswer.{EnterAnswer}
 use Rattle.rtr_room.specs.declared.LeaveAnswer.{LeaveAnswer}
 use Rattle.rtr_room.proofs.Laws.{room-length, empty-is, copy-is, enter-is, leave-is, enter-refuses, leave-refuses, changed-is, refused-is}
 use Rattle.rtr_receiver.specs.Contents.{Rooms}
-use Rattle.rtr_receiver.specs.Receiver.{Stage, Receiver, Deed, stop, startLoad, onChangeResponse, changedTo, finish, noUpdate}
+use Rattle.rtr_receiver.specs.Receiver.{Stage, Receiver, Deed, inStage, stop, onSerialNotify, startLoad, onChangeResponse, changedTo, onRecord, finish, noUpdate}
 use Rattle.rtr_receiver.specs.Receiver.Stage.{idle, mustReset, askedFull, askedChange, loading, stopped}
 use Rattle.rtr_receiver.specs.Promises.{stopSaid, stoppedBy, stageOf, receiverOf, leaves, inMemory}
-use Rattle.rtr_receiver.specs.Private.{BothRooms, Stands, Did, responseIn, recordIn, keyIn, resetIn, endIn, stoppedSession}
+use Rattle.rtr_receiver.specs.Private.{BothRooms, Stands, Did, responseIn, resetIn, endIn, begun, carriedOut, Filled, stoppedSession}
 use Rattle.rtr_receiver.specs.declared.LoadKind.{LoadKind}
 use Rattle.rtr_receiver.specs.declared.Stop.{Stop}
 use Rattle.rtr_receiver.specs.declared.Phase.{Phase}
 use Rattle.rtr_receiver.specs.declared.Table.{Table}
 use Rattle.rtr_receiver.specs.declared.LiveTable.{LiveTable}
+use Rattle.rtr_receiver.specs.declared.Note.{Note}
 use Rattle.rtr_receiver.specs.declared.Counts.{Counts}
 use Rattle.rtr_receiver.specs.declared.Session.{Session}
-use Rattle.rtr_receiver.specs.declared.DeedDone.{DeedDone}
+use Rattle.rtr_receiver.specs.declared.Doing.{Doing}
 use Rattle.rtr_receiver.proofs.Phase as phase-enum
 use Rattle.rtr_receiver.proofs.Memory.{room-stands, room-size, with-limit, with-records, left-alike}
 
@@ -53,24 +54,15 @@ pub rooms-stand : (limit : ℕ) (s : Session) (live working : Rooms) (l w : List
 rooms-stand limit s live working l w k lc wc h le we =
     left-alike (with-limit k) refl refl refl (with-records lc) (with-records wc) (nothing-held (s .held) h) le we refl
 
--- a stop, whatever is held
-stop-stands : (limit : ℕ) (s : Session) (live working : Rooms) (hold : List ℕ) → s .life .limit ≡ limit → isRoom limit (s .live .records) live ≡ true →
-    (why : Stop) (number : ℕ) (values : List ℕ) → stopSaid why ≡ Verdict.refused number values →
+-- a stop, in the stage of its reason
+stop-stands : (limit : ℕ) (s : Session) (live working : Rooms) → s .life .limit ≡ limit → isRoom limit (s .live .records) live ≡ true →
+    (why : Stop) (stage : Stage) → stoppedBy (stopSaid why) ≡ stage →
     (w w′ : List ℕ) → length w ≡ 6 * limit → w′ ≡ replicate (length w) 0 → (r : Session) → r ≡ stoppedSession s why →
-    leaves r live w′ hold ≡ inMemory limit (stop number values (receiverOf s live working hold))
-stop-stands limit s live working hold k b why number values e w w′ n z r q =
+    Stands limit r live w′ (inStage stage (stop 0 [] (receiverOf s live working [])))
+stop-stands limit s live working k b why stage e w w′ n z r q =
     let l = room-stands limit (s .live .records) live b in
-    ap (λ (t : Session). leaves t live w′ hold) q
-    ∙ left-alike (with-limit k) (ap stoppedBy e) refl refl (with-records (sym (l .1))) refl refl (l .0) (zeros-stand limit w w′ n z) refl
-
--- a stop that the code made of a session and the working room as they were
-pub stops : (limit : ℕ) (s : Session) (live working : Rooms) → BothRooms limit s live working →
-    (why : Stop) (number : ℕ) (values : List ℕ) → stopSaid why ≡ Verdict.refused number values →
-    (r : Session) (w′ : List ℕ) → (r ≡ stoppedSession s why) × (w′ ≡ replicate (length working) 0) →
-    (to : Receiver) → to ≡ stop number values (receiverOf s live working []) → Stands limit r live w′ to
-stops limit s live working b why number values e r w′ q to t =
-    stop-stands limit s live working [] (b .4) (b .0) why number values e working w′ (room-size limit (s .working .records) working (b .1) .0) (q .1) r (q .0)
-    ∙ ap (inMemory limit) (sym t)
+    ap (λ (t : Session). leaves t live w′ []) q
+    ∙ left-alike (with-limit k) e refl refl (with-records (sym (l .1))) refl refl (l .0) (zeros-stand limit w w′ n z) refl
 
 -- both rooms as they were, in another phase, with another table and note
 pub kept-stands : (limit : ℕ) (s : Session) (live working : Rooms) → BothRooms limit s live working → (r : Session) → r .life .limit ≡ s .life .limit → r .live ≡ s .live → r .working ≡ s .working → r .held ≡ s .held →
@@ -116,12 +108,6 @@ pub reset-out : (r : Receiver) (p : Phase) → OneOf notChange (tagOf phase-enum
 reset-out r p h =
     out-of-turn (λ (x : Stage). resetIn x r) (stop 13 [] r) notChange refl refl (λ k. refl) (λ k. absurd (miss notChange 3 tt k)) (λ k kind session. refl) (λ n v. refl) p h
 
-pub record-out : (limit : ℕ) (announced : Bool) (record₀ : Record) (r : Receiver) (p : Phase) → OneOf notLoading (tagOf phase-enum.the-type p) → recordIn limit (stageOf p) announced record₀ r ≡ stop 13 [] r
-record-out limit announced record₀ r p h = out-of-loading (λ (x : Stage). recordIn limit x announced record₀ r) (stop 13 [] r) refl refl refl refl (λ n v. refl) p h
-
-pub key-out : (r : Receiver) (p : Phase) → OneOf notLoading (tagOf phase-enum.the-type p) → keyIn (stageOf p) r ≡ stop 13 [] r
-key-out r p h = out-of-loading (λ (x : Stage). keyIn x r) (stop 13 [] r) refl refl refl refl (λ n v. refl) p h
-
 pub end-out : (e : RtrEndOfData) (r : Receiver) (p : Phase) → OneOf notLoading (tagOf phase-enum.the-type p) → endIn (stageOf p) e r ≡ noUpdate (stop 13 [] r)
 end-out e r p h = out-of-loading (λ (x : Stage). endIn x e r) (noUpdate (stop 13 [] r)) refl refl refl refl (λ n v. refl) p h
 
@@ -145,6 +131,10 @@ Came limit t said left c = _≡_ {A = Outcome} (record { says = said; left = lef
 -- the session with another count in the working room
 abbrev withWorking : Session → ℕ → Session
 withWorking s n = record { life = s .life; phase = s .phase; table = s .table; note = s .note; live = s .live; working = record { records = n }; held = s .held }
+
+-- the session with a load begun, and these counts in the working room
+abbrev loadingFrom : Session → LoadKind → ℕ → Counts → Session
+loadingFrom s kind id n = record { life = s .life; phase = Phase.Loading kind id; table = s .table; note = s .note; live = s .live; working = n; held = s .held }
 
 module _ (limit : ℕ) (s : Session) (live working : Rooms) (b : BothRooms limit s live working) where
   pub changed-stands : (c : Change) (n : ℕ) (w : List ℕ) → Came limit (records (s .working .records) working) (counted n) w c → (r : Session) → r ≡ withWorking s n → Stands limit r live w (changedTo c (receiverOf s live working []))
@@ -174,7 +164,7 @@ module _ (limit : ℕ) (s : Session) (live working : Rooms) (b : BothRooms limit
   refused-stands c n w e why k r w′ q =
       let m = room-stands limit (s .working .records) working (b .1) in
       let f = refused-came c n w e in
-      stop-stands limit s live working [] (b .4) (b .0) why n [] k w w′ (ap length (f .1) ∙ room-length limit _ (omega (arith, m .1, m .2))) (q .1) r (q .0)
+      stop-stands limit s live working (b .4) (b .0) why (stopped n []) (ap stoppedBy k) w w′ (ap length (f .1) ∙ room-length limit _ (omega (arith, m .1, m .2))) (q .1) r (q .0)
       ∙ ap (λ (x : Change). inMemory limit (changedTo x (receiverOf s live working []))) (sym (f .0))
 
   -- entering, by what the call answered
@@ -196,11 +186,11 @@ module _ (limit : ℕ) (s : Session) (live working : Rooms) (b : BothRooms limit
 
   -- a load begins, with this table in the working room
   load-stands : (kind : LoadKind) (id n : ℕ) (w : List ℕ) (t : List Record) → n ≡ length t → w ≡ room limit t →
-      (q : Session) → q ≡ record { life = s .life; phase = Phase.Loading kind id; table = s .table; note = s .note; live = s .live; working = record { records = n }; held = s .held } →
+      (q : Session) → q ≡ loadingFrom s kind id (record { records = n }) →
       Stands limit q live w (startLoad kind id t (receiverOf s live working []))
   load-stands kind id n w t c e q f =
       let l = room-stands limit (s .live .records) live (b .0) in
-      ap (λ (x : Session). leaves x live w []) f ∙ rooms-stand limit (record { life = s .life; phase = Phase.Loading kind id; table = s .table; note = s .note; live = s .live; working = record { records = n }; held = s .held }) live w _ t (b .4) (sym (l .1)) c (b .2) (l .0) e
+      ap (λ (x : Session). leaves x live w []) f ∙ rooms-stand limit (loadingFrom s kind id (record { records = n })) live w _ t (b .4) (sym (l .1)) c (b .2) (l .0) e
 
   -- the live room copied over the working one
   copied-stands : (w : List ℕ) → w ≡ copied live working → w ≡ room limit (records (s .live .records) live)
@@ -234,35 +224,46 @@ module _ (limit : ℕ) (s : Session) (live working : Rooms) (b : BothRooms limit
       (zeros-stand limit working w (room-size limit (s .working .records) working (b .1) .0) we)
       refl
 
-  -- the live room copied: the load of a change of the table's session
-  pub change-stands : (id : ℕ) (t : Table) → s .table ≡ LiveTable.Known t → id ≡ t .session → (w : List ℕ) → w ≡ copied live working →
-      (q : Session) → q ≡ record { life = s .life; phase = Phase.Loading LoadKind.Change id; table = s .table; note = s .note; live = s .live; working = s .live; held = s .held } →
-      Stands limit q live w (onChangeResponse (s .table) id (receiverOf s live working []))
-  change-stands id t e h w c q f =
-      load-stands LoadKind.Change id (s .live .records) w (records (s .live .records) live) (sym (room-stands limit (s .live .records) live (b .0) .1)) (copied-stands w c) q f
-      ∙ ap (λ (x : Bool). inMemory limit (cond x (startLoad LoadKind.Change id (records (s .live .records) live) (receiverOf s live working [])) (stop 15 [] (receiverOf s live working [])))) (sym (eq-eqb id (t .session) h))
-      ∙ ap (λ (x : LiveTable). inMemory limit (onChangeResponse x id (receiverOf s live working []))) (sym e)
+  -- ---- what is decided is carried out
 
-  -- the working room emptied: the load of a whole table
-  pub full-load-stands : (id : ℕ) → s .phase ≡ Phase.AskedFull → (w : List ℕ) → w ≡ replicate (length working) 0 →
-      (q : Session) → q ≡ record { life = s .life; phase = Phase.Loading LoadKind.Full id; table = s .table; note = s .note; live = s .live; working = record { records = 0 }; held = s .held } →
-      Stands limit q live w (responseIn (stageOf (s .phase)) id (receiverOf s live working []))
-  full-load-stands id e w z q f =
-      load-stands LoadKind.Full id 0 w [] refl (zeros-stand limit working w (room-size limit (s .working .records) working (b .1) .0) z) q f
-      ∙ ap (λ (p : Phase). inMemory limit (responseIn (stageOf p) id (receiverOf s live working []))) (sym e)
+  -- a load begins: the working room is emptied, or the live one copied over it
+  pub begun-stands : (kind : LoadKind) (id : ℕ) (n : Counts) (w : List ℕ) → Filled kind (s .live) live working n w →
+      (q : Session) → q ≡ loadingFrom s kind id n →
+      Stands limit q live w (begun kind id (receiverOf s live working []))
+  begun-stands LoadKind.Full id n w h q f =
+      load-stands LoadKind.Full id 0 w [] refl (zeros-stand limit working w (room-size limit (s .working .records) working (b .1) .0) (h .1)) q (f ∙ ap (loadingFrom s LoadKind.Full id) (h .0))
+  begun-stands LoadKind.Change id n w h q f =
+      load-stands LoadKind.Change id (s .live .records) w (records (s .live .records) live) (sym (room-stands limit (s .live .records) live (b .0) .1)) (copied-stands w (h .1)) q (f ∙ ap (loadingFrom s LoadKind.Change id) (h .0))
 
-  -- ---- what is passed over, and a Cache Reset
-
-  pub passed-stands : (kind : LoadKind) (id : ℕ) → s .phase ≡ Phase.Loading kind id → Stands limit s live working (keyIn (stageOf (s .phase)) (receiverOf s live working []))
-  passed-stands kind id e =
-      kept-stands limit s live working b s refl refl refl refl
-      ∙ ap (λ (p : Phase). inMemory limit (keyIn (stageOf p) (receiverOf s live working []))) (sym e)
-
-  pub reset-stands : s .phase ≡ Phase.AskedChange → (q : Session) → q ≡ record { life = s .life; phase = Phase.MustReset; table = s .table; note = s .note; live = s .live; working = s .working; held = s .held } → Stands limit q live working (resetIn (stageOf (s .phase)) (receiverOf s live working []))
-  reset-stands e q f =
+  -- the same in another phase
+  pub phase-stands : (p : Phase) (q : Session) → q ≡ record { life = s .life; phase = p; table = s .table; note = s .note; live = s .live; working = s .working; held = s .held } →
+      Stands limit q live working (inStage (stageOf p) (receiverOf s live working []))
+  phase-stands p q f =
       ap (λ (x : Session). leaves x live working []) f
-      ∙ kept-stands limit s live working b (record { life = s .life; phase = Phase.MustReset; table = s .table; note = s .note; live = s .live; working = s .working; held = s .held }) refl refl refl refl
-      ∙ ap (λ (p : Phase). inMemory limit (resetIn (stageOf p) (receiverOf s live working []))) (sym e)
+      ∙ kept-stands limit s live working b (record { life = s .life; phase = p; table = s .table; note = s .note; live = s .live; working = s .working; held = s .held }) refl refl refl refl
+
+  pub passed-stands : Stands limit s live working (receiverOf s live working [])
+  passed-stands = kept-stands limit s live working b s refl refl refl refl
+
+  -- a Serial Notify changes the note alone
+  pub notify-stands : (id serial : ℕ) (q : Session) → q ≡ record { life = s .life; phase = s .phase; table = s .table; note = Note.Noted id serial; live = s .live; working = s .working; held = s .held } →
+      Stands limit q live working (onSerialNotify id serial (receiverOf s live working []))
+  notify-stands id serial q f =
+      ap (λ (x : Session). leaves x live working []) f
+      ∙ kept-stands limit s live working b (record { life = s .life; phase = s .phase; table = s .table; note = Note.Noted id serial; live = s .live; working = s .working; held = s .held }) refl refl refl refl
+
+  -- a stop of a session and the working room as they were
+  pub stops : (why : Stop) (q : Session) (w : List ℕ) → (q ≡ stoppedSession s why) × (w ≡ replicate (length working) 0) →
+      Stands limit q live w (carriedOut limit (Doing.Stops why) (receiverOf s live working []) .then)
+  stops why q w h = stop-stands limit s live working (b .4) (b .0) why _ refl working w (room-size limit (s .working .records) working (b .1) .0) (h .1) q (h .0)
+
+  -- a record announced or withdrawn
+  pub takes-stands : (announced is : Bool) (x : Record) → announced ≡ is → (q : Session) (l w : List ℕ) → Stands limit q l w (onRecord limit is x (receiverOf s live working [])) → Stands limit q l w (carriedOut limit (Doing.Takes announced x) (receiverOf s live working []) .then)
+  takes-stands announced is x e q l w h = h ∙ ap (λ (y : Bool). inMemory limit (onRecord limit y x (receiverOf s live working []))) (sym e)
+
+  -- what a decision is in other words
+  pub as-decided : (d e : Doing) → d ≡ e → (q : Session) (l w : List ℕ) → Stands limit q l w (carriedOut limit e (receiverOf s live working []) .then) → Stands limit q l w (carriedOut limit d (receiverOf s live working []) .then)
+  as-decided d e f q l w h = h ∙ ap (λ (x : Doing). inMemory limit (carriedOut limit x (receiverOf s live working []) .then)) (sym f)
 
 -- ---- another session
 
@@ -270,6 +271,15 @@ pub other-session : (id : ℕ) (t : LiveTable) (known : Table) → t ≡ LiveTab
 other-session id t known e h r =
     ap (λ (x : LiveTable). onChangeResponse x id r) e
     ∙ ap (λ (x : Bool). cond x (startLoad LoadKind.Change id (r .live) r) (stop 15 [] r)) (ne-eqb id (known .session) h)
+
+pub same-session : (id : ℕ) (t : LiveTable) (known : Table) → t ≡ LiveTable.Known known → id ≡ known .session → (r : Receiver) → onChangeResponse t id r ≡ startLoad LoadKind.Change id (r .live) r
+same-session id t known e h r =
+    ap (λ (x : LiveTable). onChangeResponse x id r) e
+    ∙ ap (λ (x : Bool). cond x (startLoad LoadKind.Change id (r .live) r) (stop 15 [] r)) (eq-eqb id (known .session) h)
+
+-- what comes of a Cache Response after a change ask
+pub response-change : (p : Phase) (id : ℕ) (r to : Receiver) → p ≡ Phase.AskedChange → onChangeResponse (r .table) id r ≡ to → noUpdate to ≡ noUpdate (responseIn (stageOf p) id r)
+response-change p id r to e f = ap noUpdate (sym f) ∙ ap (λ (x : Phase). noUpdate (responseIn (stageOf x) id r)) (sym e)
 
 -- an End of Data of the load's session, and of another
 pub end-is : (e : RtrEndOfData) (r : Receiver) (p : Phase) (kind : LoadKind) (id : ℕ) → p ≡ Phase.Loading kind id → e .«session_id» ≡ id → endIn (stageOf p) e r ≡ record { then = finish e r; updates = 1 }
@@ -284,13 +294,6 @@ end-other e r p kind id q h =
 
 -- ---- deeds
 
--- a session and how many updates finished
-pub did : (limit : ℕ) (live working : List ℕ) (d : DeedDone) (q : Session) (n : ℕ) → d ≡ record { session = q; updates = n } → (r : Receiver) → Stands limit q live working r → (deed : Deed) → deed ≡ record { then = r; updates = n } → Did limit d live working deed
-did limit live working d q n e r h deed f = (
-  ap (λ (x : DeedDone). leaves (x .session) live working []) e ∙ h ∙ ap (λ (x : Deed). inMemory limit (x .then)) (sym f),
-  ap (λ (x : DeedDone). x .updates) e ∙ ap (λ (x : Deed). x .updates) (sym f),
-)
-
--- the same deed in other words
-pub did-as : (limit : ℕ) (live working : List ℕ) (d : DeedDone) (to : Deed) → Did limit d live working to → (deed : Deed) → deed ≡ to → Did limit d live working deed
-did-as limit live working d to h deed f = (h .0 ∙ ap (λ (x : Deed). inMemory limit (x .then)) (sym f), h .1 ∙ ap (λ (x : Deed). x .updates) (sym f))
+-- a session and how many updates finished, as decided
+pub did : (limit : ℕ) (live working : List ℕ) (q : Session) (n : ℕ) (to : Deed) → Stands limit q live working (to .then) → n ≡ to .updates → (deed : Deed) → to ≡ deed → Did limit (record { session = q; updates = n }) live working deed
+did limit live working q n to h k deed f = (h ∙ ap (λ (x : Deed). inMemory limit (x .then)) f, k ∙ ap (λ (x : Deed). x .updates) f)

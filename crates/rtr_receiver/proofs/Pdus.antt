@@ -23,27 +23,19 @@ use Rattle.rtr_models.specs.declared.RtrProtocolVersion.{RtrProtocolVersion}
 use Rattle.rtr_models.proofs.RtrPdu as pdu-enum
 use Rattle.rtr_room.specs.declared.Record.{Record}
 use Rattle.rtr_room.specs.Table.{ipv4Record, ipv6Record}
-use Rattle.rtr_receiver.specs.Contents.{Rooms}
 use Rattle.rtr_receiver.specs.Receiver.{Receiver, Deed, isDue, stop, onSerialNotify, onRecord, noUpdate, deedOf, onKind, ofVersion, onPdu, listens}
-use Rattle.rtr_receiver.specs.Promises.{receiverOf, leaves}
-use Rattle.rtr_receiver.specs.Private.{BothRooms, Stands, responseIn, recordIn, keyIn, resetIn, endIn, carriedBy, goesOnIn, afterPdu}
+use Rattle.rtr_receiver.specs.Promises.{isLoading}
+use Rattle.rtr_receiver.specs.Private.{responseIn, recordIn, keyIn, resetIn, endIn, carriedBy, carriedOut, placed, Decides, Updates, goesOnIn, afterPdu}
 use Rattle.rtr_receiver.specs.declared.Carried.{Carried}
-use Rattle.rtr_receiver.specs.declared.Note.{Note}
+use Rattle.rtr_receiver.specs.declared.Doing.{Doing}
+use Rattle.rtr_receiver.specs.declared.Stop.{Stop}
+use Rattle.rtr_receiver.specs.declared.LiveTable.{LiveTable}
 use Rattle.rtr_receiver.specs.declared.Phase.{Phase}
 use Rattle.rtr_receiver.specs.declared.Then.{Then}
 use Rattle.rtr_receiver.specs.declared.DeedDone.{DeedDone}
-use Rattle.rtr_receiver.specs.declared.Session.{Session}
 use Rattle.rtr_receiver.proofs.Phase as phase-enum
-use Rattle.rtr_receiver.proofs.Deeds.{kept-stands}
-use Rattle.rtr_receiver.proofs.Turns.{notify-due, never-due, prefixes-alike}
-
--- a Serial Notify changes the note alone
-pub notify-stands : (limit : ℕ) (s : Session) (live working : Rooms) → BothRooms limit s live working → (id serial : ℕ) →
-    (q : Session) → q ≡ record { life = s .life; phase = s .phase; table = s .table; note = Note.Noted id serial; live = s .live; working = s .working; held = s .held } →
-    Stands limit q live working (onSerialNotify id serial (receiverOf s live working []))
-notify-stands limit s live working b id serial q f =
-    ap (λ (x : Session). leaves x live working []) f
-    ∙ kept-stands limit s live working b (record { life = s .life; phase = s .phase; table = s .table; note = Note.Noted id serial; live = s .live; working = s .working; held = s .held }) refl refl refl refl
+use Rattle.rtr_receiver.proofs.Doing as doing-enum
+use Rattle.rtr_receiver.proofs.Turns.{notify-due, never-due, prefixes-alike, load-turn}
 
 -- no update either way
 no-update-either : (b : Bool) (x y : Receiver) → cond b (noUpdate x) (noUpdate y) ≡ noUpdate (cond b x y)
@@ -173,6 +165,46 @@ of-version limit r pdu h v e same f known k =
     by-version limit r pdu h
     ∙ ap (λ (x : RtrProtocolVersion). ofVersion x r (onKind limit pdu r)) (sym e)
     ∙ ap (λ (x : Bool). cond x (onKind limit pdu r) (noUpdate (stop 14 [] r))) (sym f ∙ k)
+
+-- ---- what is decided
+
+-- in turn, else 13
+in-turn : (limit : ℕ) (r : Receiver) (doing : Doing) (to : Receiver) (due : Bool) → carriedOut limit doing r ≡ noUpdate to →
+    carriedOut limit (cond due doing (Doing.Stops Stop.OutOfTurn)) r ≡ noUpdate (cond due to (stop 13 [] r))
+in-turn limit r doing to true e = e
+in-turn limit r doing to false e = refl
+
+-- a record, and a Router Key, in a load and out of one
+module _ (phase : Phase) (table : LiveTable) (pdu : RtrPdu) (d : Doing) where
+  pub takes-record : (announced : Bool) (x : Record) → carriedBy pdu ≡ Carried.Record announced x → d ≡ cond (isLoading phase) (Doing.Takes announced x) (Doing.Stops Stop.OutOfTurn) →
+      Decides phase table d (λ limit r. onKind limit pdu r)
+  takes-record announced x e f limit r =
+      let q = placed phase table r in
+      ap (λ (y : Doing). carriedOut limit y q) f
+      ∙ in-turn limit q (Doing.Takes announced x) (onRecord limit announced x q) (isLoading phase) refl
+      ∙ ap (λ (b : Bool). noUpdate (cond b (onRecord limit announced x q) (stop 13 [] q))) (load-turn phase .0)
+      ∙ sym (kind-record limit q pdu announced x e)
+
+  pub passes-key : (p : RtrRouterKey) → pdu ≡ RouterKey p → d ≡ cond (isLoading phase) Doing.Passes (Doing.Stops Stop.OutOfTurn) →
+      Decides phase table d (λ limit r. onKind limit pdu r)
+  passes-key p e f limit r =
+      let q = placed phase table r in
+      ap (λ (y : Doing). carriedOut limit y q) f
+      ∙ in-turn limit q Doing.Passes q (isLoading phase) refl
+      ∙ ap (λ (b : Bool). noUpdate (cond b q (stop 13 [] q))) (load-turn phase .1)
+      ∙ sym (kind-key limit q pdu p e)
+
+-- what finishes no update
+pub none-finished : (d : Doing) → OneOf (0 ∷ 1 ∷ 2 ∷ 3 ∷ 4 ∷ 5 ∷ []) (tagOf doing-enum.the-type d) → Updates d 0
+none-finished Doing.Passes h limit r = refl
+none-finished (Doing.Notes id serial) h limit r = refl
+none-finished Doing.Resets h limit r = refl
+none-finished (Doing.Stops why) h limit r = refl
+none-finished (Doing.Begins kind id) h limit r = refl
+none-finished (Doing.Takes announced x) h limit r = refl
+none-finished (Doing.Finishes p) h limit r = absurd (miss (0 ∷ 1 ∷ 2 ∷ 3 ∷ 4 ∷ 5 ∷ []) 6 tt h)
+
+-- ---- after a PDU
 
 -- every phase but Stopped goes on
 pub goes-on : (p : Phase) → OneOf (0 ∷ 1 ∷ 2 ∷ 3 ∷ 4 ∷ []) (tagOf phase-enum.the-type p) → goesOnIn p ≡ Then.Again

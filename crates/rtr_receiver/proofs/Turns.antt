@@ -2,16 +2,22 @@
 -- Assumes nothing.
 use Prim.Native.Nat.{ℕ}
 use mathlib.Core.Bool.{Bool, true, false, cond, false≢true}
-use mathlib.Core.List.{List, []}
+use mathlib.Core.List.{List, [], _∷_}
 use mathlib.Core.Path.{_≡_, refl}
+use denote.Enum.Declared.{tagOf}
+use types.Run.{OneOf, miss}
 use lib.Dec.{eqb}
 use Rattle.rtr_models.specs.Codes.{versionNumber}
 use Rattle.rtr_models.specs.Values.{typeOf, versionOf}
 use Rattle.rtr_models.specs.declared.RtrPduType.{RtrPduType}
 use Rattle.rtr_models.specs.declared.RtrPdu.{RtrPdu}
 use Rattle.rtr_models.specs.declared.RtrPdu.the-variants.{SerialNotify, SerialQuery, ResetQuery, CacheResponse, IPv4Prefix, IPv6Prefix, EndOfData, CacheReset, RouterKey, ErrorReport}
+use Rattle.rtr_codec.specs.Read.{Verdict}
 use Rattle.rtr_receiver.specs.Receiver.{Stage, Receiver, Deed, isDue, stop, noUpdate, deedOf, onKind, onPdu, listens}
 use Rattle.rtr_receiver.specs.Receiver.Stage.{idle, mustReset, askedFull, askedChange, loading, stopped}
+use Rattle.rtr_receiver.specs.Promises.{isLoading, stopSaid, stoppedBy, stageOf}
+use Rattle.rtr_receiver.specs.declared.Phase.{Phase}
+use Rattle.rtr_receiver.proofs.Phase as phase-enum
 
 -- a Serial Notify is due in any phase but Stopped
 pub notify-due : (stage : Stage) → listens stage ≡ true → isDue RtrPduType.SerialNotify stage ≡ true
@@ -39,6 +45,27 @@ prefixes-alike askedFull = refl
 prefixes-alike askedChange = refl
 prefixes-alike (loading kind session) = refl
 prefixes-alike (stopped number values) = refl
+
+-- records and Router Keys are due in a load
+pub load-turn : (p : Phase) → (isLoading p ≡ isDue RtrPduType.IPv4Prefix (stageOf p)) × (isLoading p ≡ isDue RtrPduType.RouterKey (stageOf p))
+load-turn Phase.Idle = (refl, refl)
+load-turn Phase.MustReset = (refl, refl)
+load-turn Phase.AskedFull = (refl, refl)
+load-turn Phase.AskedChange = (refl, refl)
+load-turn (Phase.Loading kind session) = (refl, refl)
+load-turn (Phase.Stopped why) = go (stopSaid why)
+  where
+    go : (v : Verdict) → (false ≡ isDue RtrPduType.IPv4Prefix (stoppedBy v)) × (false ≡ isDue RtrPduType.RouterKey (stoppedBy v))
+    go (Verdict.accepted pdu n) = (refl, refl)
+    go (Verdict.refused n v) = (refl, refl)
+
+pub not-loading : (p : Phase) → OneOf (0 ∷ 1 ∷ 2 ∷ 3 ∷ 5 ∷ []) (tagOf phase-enum.the-type p) → isLoading p ≡ false
+not-loading Phase.Idle h = refl
+not-loading Phase.MustReset h = refl
+not-loading Phase.AskedFull h = refl
+not-loading Phase.AskedChange h = refl
+not-loading (Phase.Loading kind session) h = absurd (miss (0 ∷ 1 ∷ 2 ∷ 3 ∷ 5 ∷ []) 4 tt h)
+not-loading (Phase.Stopped why) h = refl
 
 -- an Error Report first, then the version, then the turn, then the deed
 module _ (limit : ℕ) (r : Receiver) (P : Deed → Type 0) where

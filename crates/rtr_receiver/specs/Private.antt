@@ -4,27 +4,32 @@ use mathlib.Core.Bool.{Bool, true, not, cond, _&&_, _||_}
 use mathlib.Core.List.{List, []}
 use mathlib.Core.Path.{_≡_}
 use lib.Dec.{eqb}
-use lib.ListN.{length, drop}
+use lib.ListN.{length, drop, replicate}
 use Rattle.rtr_models.specs.Values.{announces}
 use Rattle.rtr_models.specs.declared.RtrEndOfData.{RtrEndOfData}
 use Rattle.rtr_models.specs.declared.RtrPduType.{RtrPduType}
 use Rattle.rtr_models.specs.declared.RtrPdu.{RtrPdu}
 use Rattle.rtr_models.specs.declared.RtrPdu.the-variants.{SerialNotify, SerialQuery, ResetQuery, CacheResponse, IPv4Prefix, IPv6Prefix, EndOfData, CacheReset, RouterKey, ErrorReport}
-use Rattle.rtr_receiver.specs.Contents.{Rooms, areRooms}
+use Rattle.rtr_receiver.specs.Contents.{Rooms, nothing, areRooms}
 use Rattle.rtr_room.specs.Table.{ipv4Record, ipv6Record}
+use Rattle.rtr_room.specs.Room.{copied}
 use Rattle.rtr_room.specs.declared.Record.{Record}
-use Rattle.rtr_receiver.specs.Receiver.{Stage, Receiver, Deed, Feed, isDue, kindIn, sessionIn, inStage, stop, onCacheResponse, onRecord, noUpdate, onEndOfData, listens, onPiece}
+use Rattle.rtr_receiver.specs.Receiver.{Stage, Receiver, Deed, Feed, isDue, kindIn, sessionIn, inStage, stop, onSerialNotify, startLoad, onCacheResponse, onRecord, finish, noUpdate, onEndOfData, onPdu, listens, onPiece}
 use Rattle.rtr_receiver.specs.Receiver.Stage.{mustReset}
 use Rattle.rtr_receiver.specs.History.{hasTable}
-use Rattle.rtr_receiver.specs.Promises.{changeUnderWay, isLoading, isStopped, stageOf, receiverOf, isReceiver, leaves, inMemory, fedTo, fedSaidBy}
+use Rattle.rtr_receiver.specs.Promises.{changeUnderWay, isLoading, isStopped, stopSaid, stoppedBy, stageOf, receiverOf, isReceiver, leaves, inMemory, fedTo, fedSaidBy}
 use Rattle.rtr_encode.specs.declared.EncodeAnswer.{EncodeAnswer}
+use Rattle.rtr_receiver.specs.declared.LoadKind.{LoadKind}
 use Rattle.rtr_receiver.specs.declared.Stop.{Stop}
 use Rattle.rtr_receiver.specs.declared.Phase.{Phase}
+use Rattle.rtr_receiver.specs.declared.LiveTable.{LiveTable}
+use Rattle.rtr_receiver.specs.declared.Counts.{Counts}
 use Rattle.rtr_receiver.specs.declared.Session.{Session}
 use Rattle.rtr_receiver.specs.declared.AskError.{AskError}
 use Rattle.rtr_receiver.specs.declared.AskAnswer.{AskAnswer}
 use Rattle.rtr_receiver.specs.declared.AskedSession.{AskedSession}
 use Rattle.rtr_receiver.specs.declared.Carried.{Carried}
+use Rattle.rtr_receiver.specs.declared.Doing.{Doing}
 use Rattle.rtr_receiver.specs.declared.DeedDone.{DeedDone}
 use Rattle.rtr_receiver.specs.declared.FeedAnswer.{FeedAnswer}
 use Rattle.rtr_receiver.specs.declared.Then.{Then}
@@ -87,6 +92,48 @@ carriedBy (EndOfData p) = Carried.Nothing
 carriedBy (CacheReset p) = Carried.Nothing
 carriedBy (RouterKey p) = Carried.Nothing
 carriedBy (ErrorReport p) = Carried.Nothing
+
+-- a load begun: the working table starts empty, or as the live one
+abbrev pub begun : LoadKind → ℕ → Receiver → Receiver
+begun LoadKind.Full session r = startLoad LoadKind.Full session nothing r
+begun LoadKind.Change session r = startLoad LoadKind.Change session (r .live) r
+
+-- what carrying out a decision makes of a receiver
+abbrev pub carriedOut : ℕ → Doing → Receiver → Deed
+carriedOut limit Doing.Passes r = noUpdate r
+carriedOut limit (Doing.Notes session serial) r = noUpdate (onSerialNotify session serial r)
+carriedOut limit Doing.Resets r = noUpdate (inStage mustReset r)
+carriedOut limit (Doing.Stops why) r =
+    noUpdate (record { version = r .version; stage = stoppedBy (stopSaid why); table = r .table; note = r .note; live = r .live; working = nothing; held = [] })
+carriedOut limit (Doing.Begins kind session) r = noUpdate (begun kind session r)
+carriedOut limit (Doing.Takes announced x) r = noUpdate (onRecord limit announced x r)
+carriedOut limit (Doing.Finishes p) r = record { then = finish p r; updates = 1 }
+
+-- the decision does what the definition does, and finishes so many updates
+abbrev pub Makes : Doing → (ℕ → Receiver → Deed) → Type 0
+Makes doing to = (limit : ℕ) (r : Receiver) → carriedOut limit doing r ≡ to limit r
+
+abbrev pub Updates : Doing → ℕ → Type 0
+Updates doing n = (limit : ℕ) (r : Receiver) → n ≡ carriedOut limit doing r .updates
+
+-- the receiver in a phase of the session record, with a table of it
+abbrev pub placed : Phase → LiveTable → Receiver → Receiver
+placed phase table r =
+    record { version = r .version; stage = stageOf phase; table = table; note = r .note; live = r .live; working = r .working; held = r .held }
+
+-- in this phase and with this table the decision is what the definition does, whatever else the receiver has
+abbrev pub Decides : Phase → LiveTable → Doing → (ℕ → Receiver → Deed) → Type 0
+Decides phase table doing to = (limit : ℕ) (r : Receiver) → carriedOut limit doing (placed phase table r) ≡ to limit (placed phase table r)
+
+-- on this session the decision is what the definition does with the PDU, whatever is in the rooms
+abbrev pub DecidesOn : Session → RtrPdu → Doing → Type 0
+DecidesOn s pdu doing =
+    (limit : ℕ) (live working : Rooms) → carriedOut limit doing (receiverOf s live working []) ≡ onPdu limit pdu (receiverOf s live working [])
+
+-- the working room and its counts at the beginning of a load
+abbrev pub Filled : LoadKind → Counts → Rooms → Rooms → Counts → Rooms → Type 0
+Filled LoadKind.Full inLive live working n to = (n ≡ record { records = 0 }) × (to ≡ replicate (length working) 0)
+Filled LoadKind.Change inLive live working n to = (n ≡ inLive) × (to ≡ copied live working)
 
 -- the feed from here: what the piece from a place on makes of it
 abbrev pub feedHere : ℕ → Session → Rooms → Rooms → List ℕ → List ℕ → ℕ → ℕ → Feed

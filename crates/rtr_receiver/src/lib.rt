@@ -22,6 +22,7 @@ use rtr_stream::is_stream;
 use rtr_stream::search;
 ghost use mathlib.Core.Path.{_≡_};
 ghost use mathlib.Core.List.{[]};
+ghost use mathlib.Core.Bool.{true, cond};
 ghost use Prim.Native.Nat.{_+_, _<_};
 ghost use lib.ListN.{length, replicate};
 ghost use lib.Dec.{eqb};
@@ -29,9 +30,9 @@ ghost use Rattle.rtr_models.specs.Codes.{versionNumber};
 ghost use Rattle.rtr_codec.specs.Answers.{numberOf};
 ghost use Rattle.rtr_room.specs.Table.{enter, leave};
 ghost use Rattle.rtr_room.specs.Room.{records};
-ghost use Rattle.rtr_receiver.specs.Receiver.{onChangeResponse, changedTo, finish, onKind, onPdu, compared};
-ghost use Rattle.rtr_receiver.specs.Promises.{NotifySays, stopSaid, changeUnderWay, stageOf, receiverOf, inOrder, isReceiver, feedSays, fedSaid, startSays, startSaid, fullAskSays, changeAskSays, askSaid, reconnectSays, reconnectSaid, notifySays, notifySaid, recordLimit, isLimit};
-ghost use Rattle.rtr_receiver.specs.Private.{tabled, cleared, BothRooms, Stands, Did, responseIn, recordIn, keyIn, resetIn, endIn, stoppedSession, askedFor, afterPdu, feedHere, StepAsks, Stepped, carriedBy};
+ghost use Rattle.rtr_receiver.specs.Receiver.{changedTo, finish, noUpdate, onKind, onPdu, listens, compared};
+ghost use Rattle.rtr_receiver.specs.Promises.{NotifySays, stopSaid, changeUnderWay, isLoading, stageOf, receiverOf, inOrder, isReceiver, feedSays, fedSaid, startSays, startSaid, fullAskSays, changeAskSays, askSaid, reconnectSays, reconnectSaid, notifySays, notifySaid, recordLimit, isLimit};
+ghost use Rattle.rtr_receiver.specs.Private.{tabled, cleared, BothRooms, Stands, Did, responseIn, resetIn, endIn, carriedBy, carriedOut, Makes, Updates, Decides, DecidesOn, Filled, stoppedSession, askedFor, afterPdu, feedHere, StepAsks, Stepped};
 
 // How many records a room has at the most.
 pub const RECORD_LIMIT: usize = 1024;
@@ -556,40 +557,6 @@ fn loading(s: Session, kind: LoadKind, session_id: u16, working: Counts) -> Sess
     }
 }
 
-fn on_cache_response(s: Session, live: &[u32], working: &mut [u32], session_id: u16) -> Session
-    requires { ⌜ BothRooms (s .life .limit) s (now live) (now working) ⌝ }
-    ensures { λ r. ⌜ Stands (s .life .limit) r (now (live .entry)) (now (working .exit)) (responseIn (stageOf (s .phase)) «session_id» (receiverOf s (now (live .entry)) (now (working .entry)) [])) ⌝ }
-{
-    let phase = s.phase;
-    match phase {
-        Phase::AskedFull => {
-            empty(working);
-            loading(s, LoadKind::Full, session_id, Counts { records: 0 })
-        }
-        Phase::AskedChange => on_change_response(s, live, working, session_id),
-        _ => stop_with(s, working, Stop::OutOfTurn),
-    }
-}
-
-// The session must be the table's; the working room starts as the live one.
-fn on_change_response(s: Session, live: &[u32], working: &mut [u32], session_id: u16) -> Session
-    requires { ⌜ BothRooms (s .life .limit) s (now live) (now working) ⌝ }
-    ensures { λ r. ⌜ Stands (s .life .limit) r (now (live .entry)) (now (working .exit)) (onChangeResponse (s .table) «session_id» (receiverOf s (now (live .entry)) (now (working .entry)) [])) ⌝ }
-{
-    let table = s.table;
-    match table {
-        LiveTable::NoTable => stop_with(s, working, Stop::OtherSession),
-        LiveTable::Known(t) => {
-            if session_id != t.session {
-                return stop_with(s, working, Stop::OtherSession);
-            }
-            copy(live, working);
-            let in_live = s.live;
-            loading(s, LoadKind::Change, session_id, in_live)
-        }
-    }
-}
-
 // The session with so many records in the working room.
 fn with_working(s: Session, count: usize) -> Session
     ensures { λ r. ⌜ r ≡ record { life = s .life; phase = s .phase; table = s .table; note = s .note; live = s .live; working = record { records = count }; held = s .held } ⌝ }
@@ -639,44 +606,6 @@ fn on_withdrawal(s: Session, live: &[u32], working: &mut [u32], r: Record) -> Se
     }
 }
 
-fn on_record(s: Session, live: &[u32], working: &mut [u32], announced: bool, r: Record) -> Session
-    requires { ⌜ BothRooms (s .life .limit) s (now live) (now working) ⌝ }
-    ensures { λ t. ⌜ Stands (s .life .limit) t (now (live .entry)) (now (working .exit)) (recordIn (s .life .limit) (stageOf (s .phase)) announced r (receiverOf s (now (live .entry)) (now (working .entry)) [])) ⌝ }
-{
-    let phase = s.phase;
-    match phase {
-        Phase::Loading(_, _) => {
-            if announced {
-                return on_announcement(s, live, working, r);
-            }
-            on_withdrawal(s, live, working, r)
-        }
-        _ => stop_with(s, working, Stop::OutOfTurn),
-    }
-}
-
-fn on_router_key(s: Session, live: &[u32], working: &mut [u32]) -> Session
-    requires { ⌜ BothRooms (s .life .limit) s (now live) (now working) ⌝ }
-    ensures { λ t. ⌜ Stands (s .life .limit) t (now (live .entry)) (now (working .exit)) (keyIn (stageOf (s .phase)) (receiverOf s (now (live .entry)) (now (working .entry)) [])) ⌝ }
-{
-    let phase = s.phase;
-    match phase {
-        Phase::Loading(_, _) => s,
-        _ => stop_with(s, working, Stop::OutOfTurn),
-    }
-}
-
-fn on_cache_reset(s: Session, live: &[u32], working: &mut [u32]) -> Session
-    requires { ⌜ BothRooms (s .life .limit) s (now live) (now working) ⌝ }
-    ensures { λ t. ⌜ Stands (s .life .limit) t (now (live .entry)) (now (working .exit)) (resetIn (stageOf (s .phase)) (receiverOf s (now (live .entry)) (now (working .entry)) [])) ⌝ }
-{
-    let phase = s.phase;
-    match phase {
-        Phase::AskedChange => in_phase(s, Phase::MustReset),
-        _ => stop_with(s, working, Stop::OutOfTurn),
-    }
-}
-
 // The working room becomes the live one, whole, and is emptied: the one place where the live room is written after the start.
 fn finish(s: Session, live: &mut [u32], working: &mut [u32], p: RtrEndOfData) -> Session
     requires { ⌜ BothRooms (s .life .limit) s (now live) (now working) ⌝ }
@@ -701,45 +630,6 @@ fn finish(s: Session, live: &mut [u32], working: &mut [u32], p: RtrEndOfData) ->
         live: in_working,
         working: Counts { records: 0 },
         held: s.held,
-    }
-}
-
-fn on_end_of_data(s: Session, live: &mut [u32], working: &mut [u32], p: RtrEndOfData) -> DeedDone
-    requires { ⌜ BothRooms (s .life .limit) s (now live) (now working) ⌝ }
-    ensures { λ d. ⌜ Did (s .life .limit) d (now (live .exit)) (now (working .exit)) (endIn (stageOf (s .phase)) p (receiverOf s (now (live .entry)) (now (working .entry)) [])) ⌝ }
-{
-    let phase = s.phase;
-    match phase {
-        Phase::Loading(_, session) => {
-            if p.session_id == session {
-                let session = finish(s, live, working, p);
-                return DeedDone {
-                    session,
-                    updates: 1,
-                };
-            }
-            let session = stop_with(s, working, Stop::OtherSession);
-            DeedDone {
-                session,
-                updates: 0,
-            }
-        }
-        _ => {
-            let session = stop_with(s, working, Stop::OutOfTurn);
-            DeedDone {
-                session,
-                updates: 0,
-            }
-        }
-    }
-}
-
-fn no_update(session: Session) -> DeedDone
-    ensures { λ d. ⌜ d ≡ record { session = session; updates = 0 } ⌝ }
-{
-    DeedDone {
-        session,
-        updates: 0,
     }
 }
 
@@ -780,54 +670,182 @@ fn carried_by(pdu: RtrPdu) -> Carried
     }
 }
 
-// A PDU that carries no record: by what it is.
-fn on_other_kind(s: Session, live: &mut [u32], working: &mut [u32], pdu: RtrPdu) -> DeedDone
-    requires { ⌜ BothRooms (s .life .limit) s (now live) (now working) × (carriedBy pdu ≡ Carried.Nothing) ⌝ }
-    ensures { λ d. ⌜ Did (s .life .limit) d (now (live .exit)) (now (working .exit)) (onKind (s .life .limit) pdu (receiverOf s (now (live .entry)) (now (working .entry)) [])) ⌝ }
+// What a PDU asks for, decided without the rooms: nothing; a note; a reset; a stop; a load, from the empty table or the live one; a record,
+// announced or withdrawn; the end of a load.
+enum Doing {
+    Passes,
+    Notes(u16, u32),
+    Resets,
+    Stops(Stop),
+    Begins(LoadKind, u16),
+    Takes(bool, Record),
+    Finishes(RtrEndOfData),
+}
+
+// In a load this, else 13.
+fn in_load(phase: Phase, doing: Doing) -> Doing
+    ensures { λ d. ⌜ d ≡ cond (isLoading phase) doing (Doing.Stops Stop.OutOfTurn) ⌝ }
 {
-    match pdu {
-        RtrPdu::SerialNotify(p) => no_update(on_serial_notify(s, p.session_id, p.serial_number)),
-        RtrPdu::CacheResponse(p) => no_update(on_cache_response(s, live, working, p.session_id)),
-        RtrPdu::EndOfData(p) => on_end_of_data(s, live, working, p),
-        RtrPdu::CacheReset(_) => no_update(on_cache_reset(s, live, working)),
-        RtrPdu::RouterKey(_) => no_update(on_router_key(s, live, working)),
-        _ => no_update(stop_with(s, working, Stop::OutOfTurn)),
+    match phase {
+        Phase::Loading(_, _) => doing,
+        _ => Doing::Stops(Stop::OutOfTurn),
     }
 }
 
-// A PDU of the receiver's version that is no Error Report: a record of either family in one place, so that the compiler keeps the session
-// where it is; any other by what it is.
-fn on_kind(s: Session, live: &mut [u32], working: &mut [u32], pdu: RtrPdu) -> DeedDone
-    requires { ⌜ BothRooms (s .life .limit) s (now live) (now working) ⌝ }
-    ensures { λ d. ⌜ Did (s .life .limit) d (now (live .exit)) (now (working .exit)) (onKind (s .life .limit) pdu (receiverOf s (now (live .entry)) (now (working .entry)) [])) ⌝ }
+// A change's response must be of the table's session.
+fn at_response(phase: Phase, table: LiveTable, session_id: u16) -> Doing
+    ensures { λ d. ⌜ Decides phase table d (λ limit r. noUpdate (responseIn (stageOf phase) «session_id» r)) ⌝ }
+{
+    match phase {
+        Phase::AskedFull => Doing::Begins(LoadKind::Full, session_id),
+        Phase::AskedChange => match table {
+            LiveTable::NoTable => Doing::Stops(Stop::OtherSession),
+            LiveTable::Known(t) => {
+                if session_id != t.session {
+                    return Doing::Stops(Stop::OtherSession);
+                }
+                Doing::Begins(LoadKind::Change, session_id)
+            }
+        },
+        _ => Doing::Stops(Stop::OutOfTurn),
+    }
+}
+
+fn at_cache_reset(phase: Phase) -> Doing
+    ensures { λ d. ⌜ Makes d (λ limit r. noUpdate (resetIn (stageOf phase) r)) ⌝ }
+{
+    match phase {
+        Phase::AskedChange => Doing::Resets,
+        _ => Doing::Stops(Stop::OutOfTurn),
+    }
+}
+
+// An End of Data must be of the load's session.
+fn at_end_of_data(phase: Phase, p: RtrEndOfData) -> Doing
+    ensures { λ d. ⌜ Makes d (λ limit r. endIn (stageOf phase) p r) ⌝ }
+{
+    match phase {
+        Phase::Loading(_, session) => {
+            if p.session_id == session {
+                return Doing::Finishes(p);
+            }
+            Doing::Stops(Stop::OtherSession)
+        }
+        _ => Doing::Stops(Stop::OutOfTurn),
+    }
+}
+
+// A PDU that carries no record: by what it is.
+fn decide_other(phase: Phase, table: LiveTable, pdu: RtrPdu) -> Doing
+    requires { ⌜ (listens (stageOf phase) ≡ true) × (carriedBy pdu ≡ Carried.Nothing) ⌝ }
+    ensures { λ d. ⌜ Decides phase table d (λ limit r. onKind limit pdu r) ⌝ }
+{
+    match pdu {
+        RtrPdu::SerialNotify(p) => Doing::Notes(p.session_id, p.serial_number),
+        RtrPdu::CacheResponse(p) => at_response(phase, table, p.session_id),
+        RtrPdu::EndOfData(p) => at_end_of_data(phase, p),
+        RtrPdu::CacheReset(_) => at_cache_reset(phase),
+        RtrPdu::RouterKey(_) => in_load(phase, Doing::Passes),
+        _ => Doing::Stops(Stop::OutOfTurn),
+    }
+}
+
+// A PDU of the receiver's version that is no Error Report: a record of either family in one place, any other by what it is.
+fn decide_kind(phase: Phase, table: LiveTable, pdu: RtrPdu) -> Doing
+    requires { ⌜ listens (stageOf phase) ≡ true ⌝ }
+    ensures { λ d. ⌜ Decides phase table d (λ limit r. onKind limit pdu r) ⌝ }
 {
     let carried = carried_by(pdu);
     match carried {
-        Carried::Record(announced, record) => {
-            no_update(on_record(s, live, working, announced, record))
-        }
-        Carried::Nothing => on_other_kind(s, live, working, pdu),
+        Carried::Record(announced, record) => in_load(phase, Doing::Takes(announced, record)),
+        Carried::Nothing => decide_other(phase, table, pdu),
     }
 }
 
-// One PDU: an Error Report of either version stops first, then another version, then what it is decides.
-fn on_pdu(s: Session, live: &mut [u32], working: &mut [u32], pdu: RtrPdu) -> DeedDone
-    requires { ⌜ BothRooms (s .life .limit) s (now live) (now working) ⌝ }
-    ensures { λ d. ⌜ Did (s .life .limit) d (now (live .exit)) (now (working .exit)) (onPdu (s .life .limit) pdu (receiverOf s (now (live .entry)) (now (working .entry)) [])) ⌝ }
+// An Error Report of either version stops first (19), then another version (14), then what it is decides.
+fn decide_pdu(s: Session, pdu: RtrPdu) -> Doing
+    requires { ⌜ listens (stageOf (s .phase)) ≡ true ⌝ }
+    ensures { λ d. ⌜ DecidesOn s pdu d ⌝ }
 {
     match pdu {
         RtrPdu::ErrorReport(p) => {
             let code = p.error_code;
-            no_update(stop_with(s, working, Stop::ErrorReport(code)))
+            Doing::Stops(Stop::ErrorReport(code))
         }
         _ => {
             let life = s.life;
             let version = life.version;
             if !is_version(pdu.version(), version) {
-                return no_update(stop_with(s, working, Stop::OtherVersion));
+                return Doing::Stops(Stop::OtherVersion);
             }
-            on_kind(s, live, working, pdu)
+            let phase = s.phase;
+            let table = s.table;
+            decide_kind(phase, table, pdu)
         }
+    }
+}
+
+// What a load starts from is put into the working room: nothing, or the live one.
+fn fill(live: &[u32], working: &mut [u32], kind: LoadKind, in_live: Counts) -> Counts
+    ensures { λ n. ⌜ Filled kind «in_live» (now (live .entry)) (now (working .entry)) n (now (working .exit)) ⌝ }
+{
+    match kind {
+        LoadKind::Full => {
+            empty(working);
+            Counts { records: 0 }
+        }
+        LoadKind::Change => {
+            copy(live, working);
+            in_live
+        }
+    }
+}
+
+// What was decided is done: for a PDU the one place where the rooms are written.
+fn carry_out(s: Session, live: &mut [u32], working: &mut [u32], doing: Doing) -> Session
+    requires { ⌜ BothRooms (s .life .limit) s (now live) (now working) ⌝ }
+    ensures { λ t. ⌜ Stands (s .life .limit) t (now (live .exit)) (now (working .exit)) (carriedOut (s .life .limit) doing (receiverOf s (now (live .entry)) (now (working .entry)) []) .then) ⌝ }
+{
+    match doing {
+        Doing::Passes => s,
+        Doing::Notes(session_id, serial_number) => on_serial_notify(s, session_id, serial_number),
+        Doing::Resets => in_phase(s, Phase::MustReset),
+        Doing::Stops(stop) => stop_with(s, working, stop),
+        Doing::Begins(kind, session_id) => {
+            let in_live = s.live;
+            let in_working = fill(live, working, kind, in_live);
+            loading(s, kind, session_id, in_working)
+        }
+        Doing::Takes(announced, record) => {
+            if announced {
+                return on_announcement(s, live, working, record);
+            }
+            on_withdrawal(s, live, working, record)
+        }
+        Doing::Finishes(p) => finish(s, live, working, p),
+    }
+}
+
+// How many updates are finished by it.
+fn finished_by(doing: Doing) -> usize
+    ensures { λ n. ⌜ Updates doing n ⌝ }
+{
+    match doing {
+        Doing::Finishes(_) => 1,
+        _ => 0,
+    }
+}
+
+// One PDU: it is decided on the session alone and then carried out.
+fn on_pdu(s: Session, live: &mut [u32], working: &mut [u32], pdu: RtrPdu) -> DeedDone
+    requires { ⌜ BothRooms (s .life .limit) s (now live) (now working) ⌝ }
+    ensures { λ d. ⌜ Did (s .life .limit) d (now (live .exit)) (now (working .exit)) (onPdu (s .life .limit) pdu (receiverOf s (now (live .entry)) (now (working .entry)) [])) ⌝ }
+{
+    let doing = decide_pdu(s, pdu);
+    let updates = finished_by(doing);
+    DeedDone {
+        session: carry_out(s, live, working, doing),
+        updates,
     }
 }
 
