@@ -65,7 +65,7 @@ stop-stands limit s live working k b why stage e w w′ n z r q =
     ∙ left-alike (with-limit k) e refl refl (with-records (sym (l .1))) refl refl (l .0) (zeros-stand limit w w′ n z) refl
 
 -- both rooms as they were, in another phase, with another table and note
-pub kept-stands : (limit : ℕ) (s : Session) (live working : Rooms) → BothRooms limit s live working → (r : Session) → r .life .limit ≡ s .life .limit → r .live ≡ s .live → r .working ≡ s .working → r .held ≡ s .held →
+kept-stands : (limit : ℕ) (s : Session) (live working : Rooms) → BothRooms limit s live working → (r : Session) → r .life .limit ≡ s .life .limit → r .live ≡ s .live → r .working ≡ s .working → r .held ≡ s .held →
     Stands limit r live working (record { version = r .life .version; stage = stageOf (r .phase); table = r .table; note = r .note; live = records (s .live .records) live; working = records (s .working .records) working; held = take (r .held) [] })
 kept-stands limit s live working b r k lc wc hc =
     let l = room-stands limit (s .live .records) live (b .0) in

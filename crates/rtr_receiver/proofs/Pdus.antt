@@ -1,7 +1,7 @@
--- A PDU by what it is: what the definition makes of each kind, and what the code's answer to it stands for. By the cases of the PDU. Assumes nothing.
+-- A PDU by what it is: what the definition makes of each kind, and that the code decides the same. By the cases of the PDU. Assumes nothing.
 use Prim.Native.Nat.{ℕ, _+_}
 use mathlib.Core.Bool.{Bool, true, false, cond, false≢true}
-use mathlib.Core.List.{List, [], _∷_}
+use mathlib.Core.List.{[], _∷_}
 use mathlib.Core.Path.{_≡_, refl, sym, ap, ap₂, _∙_}
 use denote.Enum.Declared.{tagOf}
 use types.Run.{OneOf, miss}

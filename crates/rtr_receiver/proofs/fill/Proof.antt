@@ -3,7 +3,6 @@ use mathlib.Core.Path.{refl, sym, subst}
 use denote.Ref.{now}
 use Rattle.rtr_receiver.specs.Private.{Filled}
 use Rattle.rtr_receiver.specs.declared.LoadKind.{LoadKind}
-use Rattle.rtr_receiver.specs.declared.Counts.{Counts}
 use borrow.Author.Needs.{needs}
 use Rattle.rtr_receiver.proofs.fill.Statement.{statement}
 use Rattle.rtr_receiver.proofs.fill.Tie as tie

@@ -1,6 +1,5 @@
 -- `finished_by` counts the end of a load. Assumes nothing.
-use mathlib.Core.Path.{refl, sym, ap}
-use Prim.Native.Nat.{ℕ}
+use mathlib.Core.Path.{sym, ap}
 use Rattle.rtr_receiver.specs.Private.{carriedOut}
 use Rattle.rtr_receiver.specs.declared.Doing.{Doing}
 use Rattle.rtr_receiver.proofs.Pdus.{none-finished}
