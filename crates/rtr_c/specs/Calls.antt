@@ -9,16 +9,13 @@ use Rattle.rtr_models.specs.Codes.{typeNumber, versionFound}
 use Rattle.rtr_models.specs.declared.VersionFound.{VersionFound}
 use Rattle.rtr_codec.specs.Reading.{inUse}
 use Rattle.rtr_codec.specs.Read.{Verdict, read}
-use Rattle.rtr_codec.specs.Answers as codec
 use Rattle.rtr_encode.specs.Encode.{Writing, Encoded, encode}
 use Rattle.rtr_encode.specs.Answers.{numberOf}
 use Rattle.rtr_listing.specs.Promises.{listingSays}
 use Rattle.rtr_walk.specs.Walk.{End, WalkVerdict, walk}
 use Rattle.rtr_receiver.specs.Receiver.{Notified}
-use Rattle.rtr_receiver.specs.Promises.{Ending, FeedSays, StartSays, AskSays, ReconnectSays, NotifySays, stopSaid, feedSays, startSays, fullAskSays, changeAskSays, reconnectSays, notifySays, recordLimit}
+use Rattle.rtr_receiver.specs.Promises.{Ending, FeedSays, StartSays, AskSays, ReconnectSays, NotifySays, feedSays, startSays, fullAskSays, changeAskSays, reconnectSays, notifySays, recordLimit}
 use Rattle.rtr_receiver.specs.declared.Session.{Session}
-use Rattle.rtr_receiver.specs.declared.FeedAnswer.{FeedAnswer}
-use Rattle.rtr_receiver.specs.declared.NotifyAnswer.{NotifyAnswer}
 use Rattle.rtr_numbers.specs.Numbers.{leftNumbers, sessionSize}
 use Rattle.rtr_pdu_numbers.specs.Numbers.{pduNumbers}
 use Rattle.rtr_numbers.specs.Back.{sessionOf}

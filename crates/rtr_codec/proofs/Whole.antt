@@ -2,7 +2,7 @@
 -- to 8. `Whole` says so of a verdict; a check (`need`) keeps it, so each kind follows from its last line. Assumes nothing.
 use Prim.Native.Nat.{ℕ, _≤_, _+_}
 use mathlib.Core.Bool.{Bool, true, false, _&&_}
-use mathlib.Core.List.{List, []}
+use mathlib.Core.List.{List}
 use mathlib.Core.Path.{_≡_, refl}
 use native.Mathlib.Omega.{arith}
 use borrow.Author.Tests.{eqb-true, leb-true}

@@ -11,7 +11,7 @@ use Rattle.rtr_room.specs.Room.{room, records, isRoom}
 use Rattle.rtr_room.specs.declared.Record.{Record}
 use Rattle.rtr_receiver.specs.declared.Counts.{Counts}
 
--- what a table holds, in table order
+-- what a table holds, in table order (document 01, "Stream and receiver": records ascend strictly)
 abbrev pub Contents : Type 0
 Contents = List Record
 
@@ -23,11 +23,11 @@ nothing = []
 abbrev pub Entry : Type 0
 Entry = Record
 
--- the contents with one entry more, or 17 where it is in, then 18 where as many as the limit are in
+-- the contents with one entry more, or 17 where it is in, then 18 where as many as the limit are in (document 01, "Refusal numbers")
 abbrev pub enterIn : ℕ → Entry → Contents → Change
 enterIn limit entry t = enter limit entry t
 
--- the contents without it, or 16 where it is not in
+-- the contents without it, or 16 where it is not in (document 01, "Refusal numbers")
 abbrev pub leaveIn : Entry → Contents → Change
 leaveIn entry t = leave entry t
 
@@ -39,7 +39,7 @@ Rooms = List ℕ
 abbrev pub countsOf : Contents → Counts
 countsOf t = record { records = length t }
 
--- the rooms of contents, zeros behind them
+-- the rooms of contents: "six per record", "spare numbers are 0"
 abbrev pub roomsOf : ℕ → Contents → Rooms
 roomsOf limit t = room limit t
 
@@ -51,7 +51,7 @@ contents n rooms = records (n .records) rooms
 abbrev pub areRooms : ℕ → Counts → Rooms → Bool
 areRooms limit n rooms = isRoom limit (n .records) rooms
 
--- rooms have the size of the limit: six numbers for each record
+-- rooms have the size of the limit, six numbers for each record (1,024 make 6,144)
 abbrev pub areSized : ℕ → Rooms → Bool
 areSized limit rooms = eqb (length rooms) (6 * limit)
 

@@ -35,13 +35,6 @@ use Rattle.rtr_receiver.specs.declared.FeedAnswer.{FeedAnswer}
 use Rattle.rtr_receiver.specs.declared.Then.{Then}
 use Rattle.rtr_receiver.specs.declared.Step.{Step}
 
--- the two halves of `inOrder`
-abbrev pub tabled : Session → Bool
-tabled s = hasTable (s .table) || (eqb (s .live .records) 0 && not (changeUnderWay (s .phase)))
-
-abbrev pub cleared : Session → Bool
-cleared s = (isLoading (s .phase) || eqb (s .working .records) 0) && (not (isStopped (s .phase)) || eqb (s .held) 0)
-
 -- both rooms keep the rules, nothing is held (a whole PDU has just been taken out of the hold), the receiver has not stopped, and the
 -- limit is the session's
 abbrev pub BothRooms : ℕ → Session → Rooms → Rooms → Type 0

@@ -1,7 +1,7 @@
 -- A session record and lent memory stand for a receiver; what each call promises of them: document 01, "Refusal numbers" (22) and "How tight the
 -- promises are". Definitions are over any record limit, and the calls promise them of the limit that the session record holds. 22 asks that a receiver may have that limit (`isLimit`): of
 -- any other, what supposes receiver shape says nothing.
-use Prim.Native.Nat.{ℕ, _*_, _<_}
+use Prim.Native.Nat.{ℕ, _<_}
 use mathlib.Core.Bool.{Bool, true, false, not, cond, _&&_, _||_}
 use mathlib.Core.List.{List, [], _∷_}
 use mathlib.Core.Path.{_≡_}
@@ -101,16 +101,23 @@ isStopped Phase.AskedChange = false
 isStopped (Phase.Loading kind session) = false
 isStopped (Phase.Stopped stop) = true
 
--- a live record or a change has its table; the working room is empty outside Loading; nothing is held in Stopped
-abbrev pub inOrder : Session → Bool
-inOrder s =
-    (hasTable (s .table) || (isNone (s .live) && not (changeUnderWay (s .phase))))
-    && ((isLoading (s .phase) || isNone (s .working)) && (not (isStopped (s .phase)) || eqb (s .held) 0))
+-- live records and a change under way have their table (document 01, "Refusal numbers", 22)
+abbrev pub tabled : Session → Bool
+tabled s = hasTable (s .table) || (isNone (s .live) && not (changeUnderWay (s .phase)))
 
--- "at most 1,024 records": the limit that a start gives, and the only one that a receiver may have
+-- the working room is empty outside Loading, and nothing is held in Stopped (the same)
+abbrev pub cleared : Session → Bool
+cleared s = (isLoading (s .phase) || isNone (s .working)) && (not (isStopped (s .phase)) || eqb (s .held) 0)
+
+-- what 22 asks of the session record alone
+abbrev pub inOrder : Session → Bool
+inOrder s = tabled s && cleared s
+
+-- "at most 1,024 records" (document 01, "Stream and receiver"): the limit that a start gives, and the only one that a receiver may have
 abbrev pub recordLimit : ℕ
 recordLimit = 1024
 
+-- a limit that a receiver may have
 abbrev pub isLimit : ℕ → Bool
 isLimit limit = eqb limit recordLimit
 

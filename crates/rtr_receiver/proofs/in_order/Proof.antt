@@ -1,7 +1,7 @@
 -- `in_order` is its two halves. Assumes nothing.
 use mathlib.Core.Bool.{Bool, _&&_}
 use mathlib.Core.Path.{sym, ap, _∙_}
-use Rattle.rtr_receiver.specs.Private.{cleared}
+use Rattle.rtr_receiver.specs.Promises.{cleared}
 use Rattle.rtr_receiver.proofs.Memory.{fails, holds}
 use borrow.Author.Needs.{needs}
 use Rattle.rtr_receiver.proofs.in_order.Statement.{statement}
