@@ -1,9 +1,8 @@
 -- What the private functions of src/lib.rt promise each other; no public promise rests on this page.
 use Prim.Native.Nat.{ℕ, _+_, _≤_, _<_}
-use mathlib.Core.Bool.{Bool, true, not, cond, _&&_, _||_}
+use mathlib.Core.Bool.{Bool, true, cond}
 use mathlib.Core.List.{List, []}
 use mathlib.Core.Path.{_≡_}
-use lib.Dec.{eqb}
 use lib.ListN.{length, drop, replicate}
 use Rattle.rtr_models.specs.Values.{announces}
 use Rattle.rtr_models.specs.declared.RtrEndOfData.{RtrEndOfData}
@@ -16,8 +15,7 @@ use Rattle.rtr_room.specs.Room.{copied}
 use Rattle.rtr_room.specs.declared.Record.{Record}
 use Rattle.rtr_receiver.specs.Receiver.{Stage, Receiver, Deed, Feed, isDue, kindIn, sessionIn, inStage, stop, onSerialNotify, startLoad, onCacheResponse, onRecord, finish, noUpdate, onEndOfData, onPdu, listens, onPiece}
 use Rattle.rtr_receiver.specs.Receiver.Stage.{mustReset}
-use Rattle.rtr_receiver.specs.History.{hasTable}
-use Rattle.rtr_receiver.specs.Promises.{changeUnderWay, isLoading, isStopped, stopSaid, stoppedBy, stageOf, receiverOf, isReceiver, leaves, inMemory, fedTo, fedSaidBy}
+use Rattle.rtr_receiver.specs.Promises.{stopSaid, stoppedBy, stageOf, receiverOf, isReceiver, leaves, inMemory, fedTo, fedSaidBy}
 use Rattle.rtr_encode.specs.declared.EncodeAnswer.{EncodeAnswer}
 use Rattle.rtr_receiver.specs.declared.LoadKind.{LoadKind}
 use Rattle.rtr_receiver.specs.declared.Stop.{Stop}
