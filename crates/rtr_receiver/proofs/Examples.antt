@@ -1,4 +1,4 @@
--- Small histories with their updates and tables computed, for the reader of specs/History.antt; the bytes are those of document 01's listing. First: the bytes of a
+-- Small histories with their updates, places and tables computed, for the reader of specs/History.antt; the bytes are those of document 01's listing. First: the bytes of a
 -- PDU come to that PDU, and without the last of them to nothing. Assumes nothing.
 use Prim.Native.Nat.{ℕ, _≤_, _<_}
 use mathlib.Core.Bool.{true, false}
@@ -7,7 +7,8 @@ use mathlib.Core.Path.{_≡_, refl, sym, ap, _∙_, subst}
 use native.Mathlib.Omega.{arith}
 use lib.ListN.{length, take}
 use Rattle.rtr_models.specs.declared.RtrPdu.{RtrPdu}
-use Rattle.rtr_models.specs.declared.RtrProtocolVersion.the-variants.{V1}
+use Rattle.rtr_models.specs.declared.RtrProtocolVersion.the-variants.{V0, V1}
+use Rattle.rtr_models.specs.declared.Interval.the-variants.{Absent}
 use Rattle.rtr_codec.specs.Reading.{inUse}
 use Rattle.rtr_codec.specs.Read.{Verdict, read}
 use Rattle.rtr_codec.proofs.Samples.{responseBytes, prefixBytes, endBytes, responsePdu, prefixPdu, endPdu, response-read, announced-read, withdrawn-read, end-read, later-end-read, other-end-read}
@@ -16,7 +17,7 @@ use Rattle.rtr_stream.proofs.Laws.{pdu-is-heard, front-waits}
 use Rattle.rtr_room.specs.Table.{Change, ipv4Record, leave}
 use Rattle.rtr_room.specs.declared.Record.{Record}
 use Rattle.rtr_room.proofs.Laws.{enter-first, leave-first, leave-empty}
-use Rattle.rtr_receiver.specs.History.{Event, Update, Live, Item, Place, noTable, kept, withAll, withUpdates, tableOf, itemsBy, items, takenIn, updates, finished}
+use Rattle.rtr_receiver.specs.History.{Event, Update, Live, Item, Place, noTable, kept, withAll, withUpdates, tableOf, itemsBy, items, takenIn, Outcome, after, outcome, finished}
 use Rattle.rtr_receiver.specs.Receiver.{Notified, notified}
 use Rattle.rtr_receiver.specs.Runs.{bytes}
 use Rattle.rtr_receiver.specs.declared.LoadKind.{LoadKind}
@@ -121,15 +122,21 @@ module _ (limit H : ℕ) (some : 1 ≤ limit) (size : 24 ≤ H) where
 
   -- ---- a load so far, with what is still to come
 
+  -- what a history comes to
+  abbrev comes : List Event → Outcome
+  comes es = outcome limit V1 noTable Place.idle (items H [] es)
+
+  -- in a load that was told the prefix
+  abbrev told : List Item → Outcome
+  told is = outcome limit V1 noTable (Place.loading LoadKind.Full 4660 (record { announced = true; what = prefix } ∷ [])) is
+
   -- asked, answered and told one prefix
-  began : (es : List Event) →
-      finished limit H V1 (fullAsk (response (announced es)))
-      ≡ updates limit V1 noTable (Place.loading LoadKind.Full 4660 (record { announced = true; what = prefix } ∷ [])) (items H [] es)
-  unfolding items updates withAll
+  began : (es : List Event) → comes (fullAsk (response (announced es))) ≡ told (items H [] es)
+  unfolding items outcome withAll
   began es =
-      ap (updates limit V1 noTable (Place.asked LoadKind.Full)) (response-items (announced es))
-      ∙ ap (updates limit V1 noTable (Place.loading LoadKind.Full 4660 [])) (announced-items es)
-      ∙ ap (λ (c : Change). updates limit V1 noTable (takenIn LoadKind.Full 4660 [] true prefix c) (items H [] es)) (enter-first limit prefix some)
+      ap (outcome limit V1 noTable (Place.asked LoadKind.Full)) (response-items (announced es))
+      ∙ ap (outcome limit V1 noTable (Place.loading LoadKind.Full 4660 [])) (announced-items es)
+      ∙ ap (λ (c : Change). outcome limit V1 noTable (takenIn LoadKind.Full 4660 [] true prefix c) (items H [] es)) (enter-first limit prefix some)
 
   -- the table after the load
   abbrev first : Live
@@ -139,74 +146,92 @@ module _ (limit H : ℕ) (some : 1 ≤ limit) (size : 24 ≤ H) where
   unfolding withUpdates withAll
   loaded-is = ap (λ (c : Change). record { info = LiveTable.Known (said 7); records = kept [] c }) (enter-first limit prefix some)
 
-  after-load : (es : List Event) → finished limit H V1 (load es) ≡ loaded ∷ updates limit V1 first Place.idle (items H [] es)
-  unfolding updates withUpdates
+  after-load : (es : List Event) → comes (load es) ≡ after (loaded ∷ []) (outcome limit V1 first Place.idle (items H [] es))
+  unfolding outcome withUpdates
   after-load es =
       began (ended 7 es)
-      ∙ ap (updates limit V1 noTable (Place.loading LoadKind.Full 4660 (record { announced = true; what = prefix } ∷ []))) (ended-items es)
-      ∙ ap (λ (l : Live). loaded ∷ updates limit V1 l Place.idle (items H [] es)) loaded-is
+      ∙ ap told (ended-items es)
+      ∙ ap (λ (l : Live). after (loaded ∷ []) (outcome limit V1 l Place.idle (items H [] es))) loaded-is
 
-  -- 1. the load alone: one update, and the table of document 01's listing
-  pub listing : finished limit H V1 (load []) ≡ loaded ∷ []
-  unfolding items updates
+  -- 1. the load alone: one update, the connection idle, and the table of document 01's listing
+  pub listing : comes (load []) ≡ record { updates = loaded ∷ []; place = Place.idle }
+  unfolding items outcome
   listing = after-load []
 
   pub listing-table : tableOf limit (finished limit H V1 (load [])) ≡ record { info = LiveTable.Known (said 7); records = prefix ∷ [] }
-  listing-table = ap (tableOf limit) listing ∙ loaded-is
+  listing-table = ap (λ (o : Outcome). tableOf limit (o .updates)) listing ∙ loaded-is
 
-  -- 2. without its last byte: no update, and no table
-  pub listing-cut : finished limit H V1 (fullAsk (response (announced (bytes (take 23 (endBytes 0x12 0x34 7)))))) ≡ []
-  unfolding updates
+  -- 2. without its last byte: no update, no table, and the load goes on
+  pub listing-cut :
+      comes (fullAsk (response (announced (bytes (take 23 (endBytes 0x12 0x34 7))))))
+      ≡ record { updates = []; place = Place.loading LoadKind.Full 4660 (record { announced = true; what = prefix } ∷ []) }
+  unfolding outcome
   listing-cut =
       began (bytes (take 23 (endBytes 0x12 0x34 7)))
-      ∙ ap (updates limit V1 noTable (Place.loading LoadKind.Full 4660 (record { announced = true; what = prefix } ∷ [])))
-      (cut-off H (take 23 (endBytes 0x12 0x34 7)) (0x20 ∷ []) (endPdu 4660 7) (omega arith) (omega arith, omega arith, end-read))
+      ∙ ap told (cut-off H (take 23 (endBytes 0x12 0x34 7)) (0x20 ∷ []) (endPdu 4660 7) (omega arith) (omega arith, omega arith, end-read))
 
-  -- 3. with another session in its End of Data: none either
-  pub other-session : finished limit H V1 (fullAsk (response (announced (bytes (endBytes 0x12 0x35 7) ++ [])))) ≡ []
-  unfolding items updates
+  -- 3. with another session in its End of Data: none either, and the connection is lost by 15
+  pub other-session : comes (fullAsk (response (announced (bytes (endBytes 0x12 0x35 7) ++ [])))) ≡ record { updates = []; place = Place.lost 15 [] }
+  unfolding items outcome
   other-session =
       began (bytes (endBytes 0x12 0x35 7) ++ [])
-      ∙ ap (updates limit V1 noTable (Place.loading LoadKind.Full 4660 (record { announced = true; what = prefix } ∷ [])))
-      (heard (endBytes 0x12 0x35 7) (endPdu 4661 7) (omega arith) (omega arith) other-end-read [])
+      ∙ ap told (heard (endBytes 0x12 0x35 7) (endPdu 4661 7) (omega arith) (omega arith) other-end-read [])
 
   -- ---- a change after it
 
+  -- in a change that withdrew the prefix
+  abbrev withdrew : List Item → Outcome
+  withdrew is = after (loaded ∷ []) (outcome limit V1 first (Place.loading LoadKind.Change 4660 (record { announced = false; what = prefix } ∷ [])) is)
+
+  -- where its next record leads
+  abbrev again : Change → List Item → Outcome
+  again c is = after (loaded ∷ []) (outcome limit V1 first (takenIn LoadKind.Change 4660 (record { announced = false; what = prefix } ∷ []) false prefix c) is)
+
   -- asked, answered, and the prefix withdrawn
-  changing : (es : List Event) →
-      finished limit H V1 (load (changeAsk (response (withdrawn es))))
-      ≡ loaded ∷ updates limit V1 first (Place.loading LoadKind.Change 4660 (record { announced = false; what = prefix } ∷ [])) (items H [] es)
-  unfolding items updates withAll
+  changing : (es : List Event) → comes (load (changeAsk (response (withdrawn es)))) ≡ withdrew (items H [] es)
+  unfolding items outcome withAll
   changing es =
       after-load (changeAsk (response (withdrawn es)))
-      ∙ ap (_∷_ loaded)
-      (ap (updates limit V1 first (Place.asked LoadKind.Change)) (response-items (withdrawn es))
-      ∙ ap (updates limit V1 first (Place.loading LoadKind.Change 4660 [])) (withdrawn-items es)
-      ∙ ap (λ (c : Change). updates limit V1 first (takenIn LoadKind.Change 4660 [] false prefix c) (items H [] es)) (leave-first prefix []))
+      ∙ ap (after (loaded ∷ []))
+      (ap (outcome limit V1 first (Place.asked LoadKind.Change)) (response-items (withdrawn es))
+      ∙ ap (outcome limit V1 first (Place.loading LoadKind.Change 4660 [])) (withdrawn-items es)
+      ∙ ap (λ (c : Change). outcome limit V1 first (takenIn LoadKind.Change 4660 [] false prefix c) (items H [] es)) (leave-first prefix []))
 
   -- 4. a change that withdraws the prefix: two updates, and an empty table of serial 8
-  pub change : finished limit H V1 (load (changeAsk (response (withdrawn (ended 8 []))))) ≡ loaded ∷ emptied ∷ []
-  unfolding items updates
-  change =
-      changing (ended 8 [])
-      ∙ ap (λ (is : List Item). loaded ∷ updates limit V1 first (Place.loading LoadKind.Change 4660 (record { announced = false; what = prefix } ∷ [])) is) (later-ended-items [])
+  pub change : comes (load (changeAsk (response (withdrawn (ended 8 []))))) ≡ record { updates = loaded ∷ emptied ∷ []; place = Place.idle }
+  unfolding items outcome
+  change = changing (ended 8 []) ∙ ap withdrew (later-ended-items [])
 
   pub change-table : tableOf limit (finished limit H V1 (load (changeAsk (response (withdrawn (ended 8 [])))))) ≡ record { info = LiveTable.Known (said 8); records = [] }
   unfolding withUpdates withAll
   change-table =
-      ap (tableOf limit) change
+      ap (λ (o : Outcome). tableOf limit (o .updates)) change
       ∙ ap (λ (l : Live). withUpdates limit l (emptied ∷ [])) loaded-is
       ∙ ap (λ (c : Change). record { info = LiveTable.Known (said 8); records = kept (prefix ∷ []) c }) (leave-first prefix [])
 
-  -- 5. a change that is refused half-way (the prefix withdrawn twice): the table stays the load's, though an End of Data follows
-  pub refused-change : finished limit H V1 (load (changeAsk (response (withdrawn (withdrawn (ended 8 [])))))) ≡ loaded ∷ []
-  unfolding items updates withAll
+  -- 5. a change that is refused half-way (the prefix withdrawn twice): the table stays the load's and the connection is lost by 16, though an End of Data follows
+  pub refused-change : comes (load (changeAsk (response (withdrawn (withdrawn (ended 8 [])))))) ≡ record { updates = loaded ∷ []; place = Place.lost 16 [] }
+  unfolding items outcome withAll
   refused-change =
       changing (withdrawn (ended 8 []))
-      ∙ ap (λ (is : List Item). loaded ∷ updates limit V1 first (Place.loading LoadKind.Change 4660 (record { announced = false; what = prefix } ∷ [])) is) (withdrawn-items (ended 8 []))
-      ∙ ap (λ (c : Change). loaded ∷ updates limit V1 first (takenIn LoadKind.Change 4660 (record { announced = false; what = prefix } ∷ []) false prefix (leave prefix (kept (prefix ∷ []) c))) (items H [] (ended 8 []))) (leave-first prefix [])
-      ∙ ap (λ (c : Change). loaded ∷ updates limit V1 first (takenIn LoadKind.Change 4660 (record { announced = false; what = prefix } ∷ []) false prefix c) (items H [] (ended 8 []))) (leave-empty prefix)
-      ∙ ap (λ (is : List Item). loaded ∷ updates limit V1 first Place.lost is) (later-ended-items [])
+      ∙ ap withdrew (withdrawn-items (ended 8 []))
+      ∙ ap (λ (c : Change). again (leave prefix (kept (prefix ∷ []) c)) (items H [] (ended 8 []))) (leave-first prefix [])
+      ∙ ap (λ (c : Change). again c (items H [] (ended 8 []))) (leave-empty prefix)
+      ∙ ap (again (Change.refused 16)) (later-ended-items [])
+
+-- 6. in version 0 an End of Data has no intervals: the update has the defaults (document 01, "Modules": 3600, 600 and 7200)
+abbrev versionZero : List Item
+versionZero =
+    Item.asks LoadKind.Full 8
+    ∷ Item.told (RtrPdu.CacheResponse (record { version = V0; «session_id» = 4660 }))
+    ∷ Item.told
+    (RtrPdu.EndOfData
+    (record { version = V0; «session_id» = 4660; «serial_number» = 7; «refresh_interval» = Absent; «retry_interval» = Absent; «expire_interval» = Absent }))
+    ∷ []
+
+pub version-zero : (limit : ℕ) → outcome limit V0 noTable Place.idle versionZero ≡ record { updates = record { kind = LoadKind.Full; records = []; end = said 7 } ∷ []; place = Place.idle }
+unfolding outcome
+version-zero limit = refl
 
 -- document 01's edges of the notify comparison: a serial just past the largest is newer, one halfway round is undefined
 abbrev tabled : ℕ → LiveTable

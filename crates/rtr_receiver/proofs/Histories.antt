@@ -20,8 +20,8 @@ use Rattle.rtr_encode.proofs.Laws.{reset-query-says, serial-query-says}
 use Rattle.rtr_stream.specs.Stream.{Heard, judge}
 use Rattle.rtr_room.specs.Table.{Change, enter, leave, ipv4Record, ipv6Record}
 use Rattle.rtr_room.specs.declared.Record.{Record}
-use Rattle.rtr_receiver.specs.Receiver.{Stage, Receiver, Deed, Feed, isDue, kindIn, sessionIn, noUpdate, holding, stop, startLoad, onChangeResponse, onCacheResponse, changedTo, onRecord, finish, onEndOfData, deedOf, onPdu, heard, listens, onByte, onPiece, inStage, Query, resetQuery, fullQuery, serialQuery, changeQuery, askedBy, ask, reconnected}
-use Rattle.rtr_receiver.specs.History.{Event, Changed, Update, Live, Item, Place, Next, applied, kept, withAll, base, updated, withUpdates, itemsBy, items, onAsk, ofSession, isDueAt, kindAt, onResponse, takenIn, onPrefix, endSays, onEnd, onTold, ofVersion, onItem, orFinished, updates}
+use Rattle.rtr_receiver.specs.Receiver.{Stage, Receiver, Deed, Feed, isDue, kindIn, sessionIn, noUpdate, holding, stop, startLoad, onChangeResponse, onCacheResponse, changedTo, onRecord, finish, onEndOfData, deedOf, onKind, onPdu, heard, listens, onByte, onPiece, inStage, Query, resetQuery, fullQuery, serialQuery, changeQuery, askedBy, ask, reconnected}
+use Rattle.rtr_receiver.specs.History.{Event, Changed, Update, Live, Item, Place, Next, applied, kept, withAll, base, updated, withUpdates, itemsBy, items, onAsk, ofSession, isDueAt, kindAt, onResponse, takenIn, onPrefix, endSays, onEnd, onTold, ofVersion, onPduAt, unlessLost, onItem, Outcome, after, orFinished, outcome}
 use Rattle.rtr_receiver.specs.History.Next.{goes, finishes}
 use Rattle.rtr_receiver.specs.Runs.{bytes}
 use Rattle.rtr_receiver.specs.declared.LoadKind.{LoadKind}
@@ -29,7 +29,6 @@ use Rattle.rtr_receiver.specs.declared.Table.{Table}
 use Rattle.rtr_receiver.specs.declared.LiveTable.{LiveTable}
 use Rattle.rtr_receiver.proofs.Feeds.{from}
 use Rattle.rtr_receiver.proofs.Kept.{pdu-keeps, told-drops}
-use Rattle.rtr_receiver.proofs.Turns.{pdu-by}
 
 -- the live table of a receiver
 abbrev pub liveOf : Receiver → Live
@@ -49,14 +48,14 @@ module _ (limit H : ℕ) where
     at-full : r .stage ≡ Stage.askedFull → At r (Place.asked LoadKind.Full)
     at-change : r .stage ≡ Stage.askedChange → At r (Place.asked LoadKind.Change)
     at-load : {kind : LoadKind} {session : ℕ} {cs : List Changed} → r .stage ≡ Stage.loading kind session → r .working ≡ withAll limit (base kind (r .live)) cs → At r (Place.loading kind session cs)
-    at-lost : listens (r .stage) ≡ false → At r Place.lost
+    at-lost : {number : ℕ} {values : List ℕ} → r .stage ≡ Stage.stopped number values → At r (Place.lost number values)
 
   -- what an item makes of a receiver, and the updates that it counts, are what the page says
   data Follows (r : Receiver) (d : Deed) : Next → Type 0 where
     onward : {p : Place} → At (d .then) p → liveOf (d .then) ≡ liveOf r → d .updates ≡ 0 → Follows r d (goes p)
     done : {u : Update} → d .then .stage ≡ Stage.idle → liveOf (d .then) ≡ updated limit (liveOf r) u → d .updates ≡ 1 → Follows r d (finishes u)
 
-  stopped-lost : (number : ℕ) (values : List ℕ) (r : Receiver) → Follows r (noUpdate (stop number values r)) (goes Place.lost)
+  stopped-lost : (number : ℕ) (values : List ℕ) (r : Receiver) → Follows r (noUpdate (stop number values r)) (goes (Place.lost number values))
   stopped-lost number values r = onward (at-lost refl) refl refl
 
   never : (r : Receiver) {A : Type 0} → listens (r .stage) ≡ true → listens (r .stage) ≡ false → A
@@ -71,7 +70,7 @@ module _ (limit H : ℕ) where
   due-alike type r (Place.asked LoadKind.Full) on (at-full e) = ap (isDue type) e
   due-alike type r (Place.asked LoadKind.Change) on (at-change e) = ap (isDue type) e
   due-alike type r (Place.loading kind session cs) on (at-load e w) = ap (isDue type) e
-  due-alike type r Place.lost on (at-lost e) = never r on e
+  due-alike type r (Place.lost number values) on (at-lost e) = ap (isDue type) e
 
   response-follows : (session : ℕ) (r : Receiver) (p : Place) → isDueAt RtrPduType.CacheResponse p ≡ true → At r p → Follows r (noUpdate (onCacheResponse (kindIn (r .stage)) session r)) (goes (onResponse (r .table) (kindAt p) session))
   unfolding withAll
@@ -81,16 +80,16 @@ module _ (limit H : ℕ) where
   response-follows session r (Place.asked LoadKind.Full) due (at-full e) =
       subst (λ (s : Stage). Follows r (noUpdate (onCacheResponse (kindIn s) session r)) (goes (Place.loading LoadKind.Full session []))) (sym e) (onward (at-load refl refl) refl refl)
   response-follows session r (Place.asked LoadKind.Change) due (at-change e) =
-      subst (λ (s : Stage). Follows r (noUpdate (onCacheResponse (kindIn s) session r)) (goes (cond (ofSession (r .table) session) (Place.loading LoadKind.Change session []) Place.lost))) (sym e) (table (r .table) refl)
+      subst (λ (s : Stage). Follows r (noUpdate (onCacheResponse (kindIn s) session r)) (goes (cond (ofSession (r .table) session) (Place.loading LoadKind.Change session []) (Place.lost 15 [])))) (sym e) (table (r .table) refl)
     where
-      table : (t : LiveTable) → r .table ≡ t → Follows r (noUpdate (onChangeResponse t session r)) (goes (cond (ofSession t session) (Place.loading LoadKind.Change session []) Place.lost))
+      table : (t : LiveTable) → r .table ≡ t → Follows r (noUpdate (onChangeResponse t session r)) (goes (cond (ofSession t session) (Place.loading LoadKind.Change session []) (Place.lost 15 [])))
       table LiveTable.NoTable q = stopped-lost 15 [] r
       table (LiveTable.Known t) q = go (eqb session (t .session))
         where
-          go : (b : Bool) → Follows r (noUpdate (cond b (startLoad LoadKind.Change session (r .live) r) (stop 15 [] r))) (goes (cond b (Place.loading LoadKind.Change session []) Place.lost))
+          go : (b : Bool) → Follows r (noUpdate (cond b (startLoad LoadKind.Change session (r .live) r) (stop 15 [] r))) (goes (cond b (Place.loading LoadKind.Change session []) (Place.lost 15 [])))
           go true = onward (at-load refl refl) refl refl
           go false = stopped-lost 15 [] r
-  response-follows session r Place.lost due a = absurd (false≢true due)
+  response-follows session r (Place.lost number values) due a = absurd (false≢true due)
 
   -- a record in a load
   record-taken : (announced : Bool) (x : Record) (r : Receiver) (kind : LoadKind) (session : ℕ) (cs : List Changed) (c : Change) →
@@ -112,7 +111,7 @@ module _ (limit H : ℕ) where
   record-follows false x r (Place.loading kind session cs) due (at-load e w) =
       subst (λ (t : List Record). Follows r (noUpdate (changedTo (leave x t) r)) (goes (onPrefix limit (r .live) (Place.loading kind session cs) false x))) (sym w)
       (record-taken false x r kind session cs (leave x (withAll limit (base kind (r .live)) cs)) e refl)
-  record-follows announced x r Place.lost due a = absurd (false≢true due)
+  record-follows announced x r (Place.lost number values) due a = absurd (false≢true due)
 
   -- prefixes of both families are due at the same places
   prefixes-alike : (p : Place) → isDueAt RtrPduType.IPv6Prefix p ≡ isDueAt RtrPduType.IPv4Prefix p
@@ -121,7 +120,7 @@ module _ (limit H : ℕ) where
   prefixes-alike (Place.asked LoadKind.Full) = refl
   prefixes-alike (Place.asked LoadKind.Change) = refl
   prefixes-alike (Place.loading kind session cs) = refl
-  prefixes-alike Place.lost = refl
+  prefixes-alike (Place.lost number values) = refl
 
   end-follows : (q : RtrEndOfData) (r : Receiver) (p : Place) → isDueAt RtrPduType.EndOfData p ≡ true → At r p → Follows r (onEndOfData (sessionIn (r .stage)) q r) (onEnd p (q .«session_id») (endSays q))
   end-follows q r Place.idle due a = absurd (false≢true due)
@@ -133,10 +132,10 @@ module _ (limit H : ℕ) where
     where
       go : (b : Bool) →
           Follows r (cond b (record { then = finish q r; updates = 1 }) (noUpdate (stop 15 [] r)))
-          (cond b (finishes (record { kind = kind; records = cs; end = endSays q })) (goes Place.lost))
+          (cond b (finishes (record { kind = kind; records = cs; end = endSays q })) (goes (Place.lost 15 [])))
       go true = done refl (λ i. record { info = LiveTable.Known (endSays q); records = w i }) refl
       go false = stopped-lost 15 [] r
-  end-follows q r Place.lost due a = absurd (false≢true due)
+  end-follows q r (Place.lost number values) due a = absurd (false≢true due)
 
   -- a receiver that keeps its phase and tables stays where it is
   stays : (r r′ : Receiver) (p : Place) → r′ .stage ≡ r .stage → r′ .working ≡ r .working → r′ .live ≡ r .live → At r p → At r′ p
@@ -145,7 +144,7 @@ module _ (limit H : ℕ) where
   stays r r′ (Place.asked LoadKind.Full) s w l (at-full e) = at-full (s ∙ e)
   stays r r′ (Place.asked LoadKind.Change) s w l (at-change e) = at-change (s ∙ e)
   stays r r′ (Place.loading kind session cs) s w l (at-load e q) = at-load (s ∙ e) (w ∙ q ∙ ap (λ (t : List Record). withAll limit (base kind t) cs) (sym l))
-  stays r r′ Place.lost s w l (at-lost e) = at-lost (ap listens s ∙ e)
+  stays r r′ (Place.lost number values) s w l (at-lost e) = at-lost (s ∙ e)
 
   -- what a PDU does where it is due
   deed-follows : (pdu : RtrPdu) (r : Receiver) (p : Place) → isDueAt (typeOf pdu) p ≡ true → At r p → Follows r (deedOf limit pdu r) (onTold limit (liveOf r) p pdu)
@@ -162,35 +161,58 @@ module _ (limit H : ℕ) where
   deed-follows (RouterKey q) r p due a = onward a refl refl
   deed-follows (ErrorReport q) r p due a = stopped-lost 19 _ r
 
-  -- a stop, where the tests of the page say that the connection is lost
-  not-due-lost : (due version : Bool) (k : ℕ) (x : List ℕ) (n : Next) (r : Receiver) → due ≡ false → Follows r (noUpdate (stop k x r)) (cond (due && version) n (goes Place.lost))
-  not-due-lost due version k x n r e = subst (λ (b : Bool). Follows r (noUpdate (stop k x r)) (cond (b && version) n (goes Place.lost))) (sym e) (stopped-lost k x r)
+  -- the version, then the turn
+  tests-follow : (d : Deed) (n : Next) (r : Receiver) (version due : Bool) →
+      (due ≡ true → Follows r d n) →
+      Follows r (cond version (cond due d (noUpdate (stop 13 [] r))) (noUpdate (stop 14 [] r))) (cond version (cond due n (goes (Place.lost 13 []))) (goes (Place.lost 14 [])))
+  tests-follow d n r true true f = f refl
+  tests-follow d n r true false f = stopped-lost 13 [] r
+  tests-follow d n r false due f = stopped-lost 14 [] r
 
-  other-version-lost : (due version : Bool) (n : Next) (r : Receiver) → version ≡ false → Follows r (noUpdate (stop 14 [] r)) (cond (due && version) n (goes Place.lost))
-  other-version-lost true version n r e = subst (λ (b : Bool). Follows r (noUpdate (stop 14 [] r)) (cond b n (goes Place.lost))) (sym e) (stopped-lost 14 [] r)
-  other-version-lost false version n r e = stopped-lost 14 [] r
+  -- of a PDU that is no Error Report
+  turn-follows : (pdu : RtrPdu) (r : Receiver) (p : Place) →
+      listens (r .stage) ≡ true →
+      At r p →
+      Follows r
+      (cond (ofVersion (r .version) pdu) (cond (isDue (typeOf pdu) (r .stage)) (deedOf limit pdu r) (noUpdate (stop 13 [] r))) (noUpdate (stop 14 [] r)))
+      (cond (ofVersion (r .version) pdu) (cond (isDueAt (typeOf pdu) p) (onTold limit (liveOf r) p pdu) (goes (Place.lost 13 []))) (goes (Place.lost 14 [])))
+  turn-follows pdu r p on a =
+      subst
+      (λ (b : Bool). Follows r
+      (cond (ofVersion (r .version) pdu) (cond b (deedOf limit pdu r) (noUpdate (stop 13 [] r))) (noUpdate (stop 14 [] r)))
+      (cond (ofVersion (r .version) pdu) (cond (isDueAt (typeOf pdu) p) (onTold limit (liveOf r) p pdu) (goes (Place.lost 13 []))) (goes (Place.lost 14 []))))
+      (sym (due-alike (typeOf pdu) r p on a))
+      (tests-follow (deedOf limit pdu r) (onTold limit (liveOf r) p pdu) r (ofVersion (r .version) pdu) (isDueAt (typeOf pdu) p) (λ e. deed-follows pdu r p e a))
 
-  due-goes : (due version : Bool) (d : Deed) (n : Next) (r : Receiver) → due ≡ true → version ≡ true → Follows r d n → Follows r d (cond (due && version) n (goes Place.lost))
-  due-goes due version d n r e q f =
-      subst (λ (b : Bool). Follows r d (cond (b && version) n (goes Place.lost))) (sym e) (subst (λ (b : Bool). Follows r d (cond b n (goes Place.lost))) (sym q) f)
+  -- a connection that is not lost goes by what comes
+  not-lost : (r : Receiver) (p : Place) (n : Next) → listens (r .stage) ≡ true → At r p → unlessLost p n ≡ n
+  not-lost r Place.idle n on a = refl
+  not-lost r Place.mustReset n on a = refl
+  not-lost r (Place.asked kind) n on a = refl
+  not-lost r (Place.loading kind session cs) n on a = refl
+  not-lost r (Place.lost number values) n on (at-lost e) = never r on (ap listens e)
+
+  told-follows : (pdu : RtrPdu) (r : Receiver) (p : Place) → listens (r .stage) ≡ true → At r p → Follows r (onPdu limit pdu r) (onPduAt limit (r .version) (liveOf r) p pdu)
+  unfolding onPdu onKind deedOf
+  told-follows (SerialNotify q) r p on a = turn-follows (SerialNotify q) r p on a
+  told-follows (SerialQuery q) r p on a = turn-follows (SerialQuery q) r p on a
+  told-follows (ResetQuery q) r p on a = turn-follows (ResetQuery q) r p on a
+  told-follows (CacheResponse q) r p on a = turn-follows (CacheResponse q) r p on a
+  told-follows (IPv4Prefix q) r p on a = turn-follows (IPv4Prefix q) r p on a
+  told-follows (IPv6Prefix q) r p on a = turn-follows (IPv6Prefix q) r p on a
+  told-follows (EndOfData q) r p on a = turn-follows (EndOfData q) r p on a
+  told-follows (CacheReset q) r p on a = turn-follows (CacheReset q) r p on a
+  told-follows (RouterKey q) r p on a = turn-follows (RouterKey q) r p on a
+  told-follows (ErrorReport q) r p on a = stopped-lost 19 _ r
 
   pdu-follows : (pdu : RtrPdu) (r : Receiver) (p : Place) → listens (r .stage) ≡ true → At r p → Follows r (onPdu limit pdu r) (onItem limit (r .version) (liveOf r) p (Item.told pdu))
-  pdu-follows pdu r p on a =
-      let alike : isDueAt (typeOf pdu) p ≡ isDue (typeOf pdu) (r .stage) = sym (due-alike (typeOf pdu) r p on a) in
-      let due = isDueAt (typeOf pdu) p in
-      let version = ofVersion (r .version) pdu in
-      let n = onTold limit (liveOf r) p pdu in
-      pdu-by limit r (λ d. Follows r d (onItem limit (r .version) (liveOf r) p (Item.told pdu))) pdu
-      (λ e x. not-due-lost due version 19 x n r (alike ∙ e))
-      (λ e. other-version-lost due version n r e)
-      (λ e. not-due-lost due version 13 [] n r (alike ∙ e))
-      (λ q e. due-goes due version (deedOf limit pdu r) n r (alike ∙ e) q (deed-follows pdu r p (alike ∙ e) a))
+  pdu-follows pdu r p on a = subst (Follows r (onPdu limit pdu r)) (sym (not-lost r p (onPduAt limit (r .version) (liveOf r) p pdu) on a)) (told-follows pdu r p on a)
 
   -- ---- What is still to come
 
-  -- the updates that a receiver's future finishes, by the page
-  abbrev pub future : Receiver → Place → List Event → List Update
-  future r p es = updates limit (r .version) (liveOf r) p (items H (r .held) es)
+  -- what a receiver's future comes to, by the page
+  abbrev pub future : Receiver → Place → List Event → Outcome
+  future r p es = outcome limit (r .version) (liveOf r) p (items H (r .held) es)
 
   -- events lead from a receiver and its place to another: with the updates that finish between, which make its table, and before those still to come
   pub record Leads (r : Receiver) (p : Place) (es : List Event) (r′ : Receiver) : Type 0 where
@@ -198,7 +220,7 @@ module _ (limit H : ℕ) where
     pub at : At r′ place
     pub between : List Update
     pub table : liveOf r′ ≡ withUpdates limit (liveOf r) between
-    pub to-come : (later : List Event) → future r p (es ++ later) ≡ between ++ future r′ place later
+    pub to-come : (later : List Event) → future r p (es ++ later) ≡ after between (future r′ place later)
 
   with-none : (live : Live) → live ≡ withUpdates limit live []
   unfolding withUpdates
@@ -224,49 +246,55 @@ module _ (limit H : ℕ) where
         to-come = λ later.
             ap (future r p) (append-assoc es es′ later)
             ∙ one .to-come (es′ ++ later)
-            ∙ ap (λ (us : List Update). one .between ++ us) (two .to-come later)
-            ∙ sym (append-assoc (one .between) (two .between) (future r″ (two .place) later));
+            ∙ ap (after (one .between)) (two .to-come later)
+            ∙ (λ i. record { updates = sym (append-assoc (one .between) (two .between) (future r″ (two .place) later .updates)) i; place = future r″ (two .place) later .place });
       }
 
   -- where nothing comes after
-  pub all-between : {r r′ : Receiver} {p : Place} {es : List Event} (one : Leads r p es r′) → future r p es ≡ one .between
-  unfolding items updates
-  all-between {r} {r′} {p} {es} one = ap (future r p) (sym (append-nil es)) ∙ one .to-come [] ∙ append-nil (one .between)
+  pub all-between : {r r′ : Receiver} {p : Place} {es : List Event} (one : Leads r p es r′) → future r p es .updates ≡ one .between
+  unfolding items outcome
+  all-between {r} {r′} {p} {es} one = ap (λ (es′ : List Event). future r p es′ .updates) (sym (append-nil es)) ∙ ap (λ (o : Outcome). o .updates) (one .to-come []) ∙ append-nil (one .between)
+
+  pub ends-there : {r r′ : Receiver} {p : Place} {es : List Event} (one : Leads r p es r′) → future r p es .place ≡ one .place
+  unfolding items outcome
+  ends-there {r} {r′} {p} {es} one = ap (λ (es′ : List Event). future r p es′ .place) (sym (append-nil es)) ∙ ap (λ (o : Outcome). o .place) (one .to-come [])
 
   -- a lost connection does not listen, whatever it holds
-  lost-forgets : (v : RtrProtocolVersion) (live : Live) (es : List Event) (s s′ : List ℕ) → updates limit v live Place.lost (items H s es) ≡ updates limit v live Place.lost (items H s′ es)
-  unfolding updates items
-  lost-forgets v live [] s s′ = refl
-  lost-forgets v live (Event.byte b ∷ es) s s′ =
-      drops (s ++ b ∷ []) (lost-forgets v live es (s ++ b ∷ []) []) (judge inUse H (s ++ b ∷ []))
-      ∙ sym (drops (s′ ++ b ∷ []) (lost-forgets v live es (s′ ++ b ∷ []) []) (judge inUse H (s′ ++ b ∷ [])))
-    where
-      drops : (t : List ℕ) →
-          updates limit v live Place.lost (items H t es) ≡ updates limit v live Place.lost (items H [] es) →
-          (h : Heard) →
-          updates limit v live Place.lost (itemsBy t h (λ held. items H held es)) ≡ updates limit v live Place.lost (items H [] es)
-      drops t later Heard.waits = later
-      drops t later (Heard.whole pdu) = refl
-      drops t later (Heard.refused number values) = refl
-  lost-forgets v live (Event.ask kind room ∷ es) s s′ = lost-forgets v live es s s′
-  lost-forgets v live (Event.reconnect ∷ es) s s′ = refl
+  module _ (v : RtrProtocolVersion) (live : Live) (number : ℕ) (values : List ℕ) where
+    abbrev still : List Item → Outcome
+    still is = outcome limit v live (Place.lost number values) is
 
-  lost-byte : (v : RtrProtocolVersion) (live : Live) (s : List ℕ) (b : ℕ) (es : List Event) → updates limit v live Place.lost (items H s (Event.byte b ∷ es)) ≡ updates limit v live Place.lost (items H s es)
-  unfolding updates items
-  lost-byte v live s b es = go (judge inUse H (s ++ b ∷ []))
-    where
-      go : (h : Heard) → updates limit v live Place.lost (itemsBy (s ++ b ∷ []) h (λ held. items H held es)) ≡ updates limit v live Place.lost (items H s es)
-      go Heard.waits = lost-forgets v live es (s ++ b ∷ []) s
-      go (Heard.whole pdu) = lost-forgets v live es [] s
-      go (Heard.refused number values) = lost-forgets v live es [] s
+    lost-forgets : (es : List Event) (s s′ : List ℕ) → still (items H s es) ≡ still (items H s′ es)
+    unfolding outcome items
+    lost-forgets [] s s′ = refl
+    lost-forgets (Event.byte b ∷ es) s s′ =
+        drops (s ++ b ∷ []) (lost-forgets es (s ++ b ∷ []) []) (judge inUse H (s ++ b ∷ []))
+        ∙ sym (drops (s′ ++ b ∷ []) (lost-forgets es (s′ ++ b ∷ []) []) (judge inUse H (s′ ++ b ∷ [])))
+      where
+        drops : (t : List ℕ) → still (items H t es) ≡ still (items H [] es) → (h : Heard) → still (itemsBy t h (λ held. items H held es)) ≡ still (items H [] es)
+        drops t later Heard.waits = later
+        drops t later (Heard.whole pdu) = refl
+        drops t later (Heard.refused k x) = refl
+    lost-forgets (Event.ask kind room ∷ es) s s′ = lost-forgets es s s′
+    lost-forgets (Event.reconnect ∷ es) s s′ = refl
 
-  deaf-lost : (r : Receiver) (p : Place) → listens (r .stage) ≡ false → At r p → p ≡ Place.lost
-  deaf-lost r Place.idle off (at-idle e) = never r (ap listens e) off
-  deaf-lost r Place.mustReset off (at-reset e) = never r (ap listens e) off
-  deaf-lost r (Place.asked LoadKind.Full) off (at-full e) = never r (ap listens e) off
-  deaf-lost r (Place.asked LoadKind.Change) off (at-change e) = never r (ap listens e) off
-  deaf-lost r (Place.loading kind session cs) off (at-load e w) = never r (ap listens e) off
-  deaf-lost r Place.lost off (at-lost e) = refl
+    lost-byte : (s : List ℕ) (b : ℕ) (es : List Event) → still (items H s (Event.byte b ∷ es)) ≡ still (items H s es)
+    unfolding outcome items
+    lost-byte s b es = go (judge inUse H (s ++ b ∷ []))
+      where
+        go : (h : Heard) → still (itemsBy (s ++ b ∷ []) h (λ held. items H held es)) ≡ still (items H s es)
+        go Heard.waits = lost-forgets es (s ++ b ∷ []) s
+        go (Heard.whole pdu) = lost-forgets es [] s
+        go (Heard.refused k x) = lost-forgets es [] s
+
+  -- a receiver that does not listen stands at a lost connection, and a byte more leaves it there
+  deaf-byte : (r : Receiver) (p : Place) (b : ℕ) → listens (r .stage) ≡ false → At r p → (later : List Event) → future r p (Event.byte b ∷ later) ≡ future r p later
+  deaf-byte r Place.idle b off (at-idle e) later = never r (ap listens e) off
+  deaf-byte r Place.mustReset b off (at-reset e) later = never r (ap listens e) off
+  deaf-byte r (Place.asked LoadKind.Full) b off (at-full e) later = never r (ap listens e) off
+  deaf-byte r (Place.asked LoadKind.Change) b off (at-change e) later = never r (ap listens e) off
+  deaf-byte r (Place.loading kind session cs) b off (at-load e w) later = never r (ap listens e) off
+  deaf-byte r (Place.lost number values) b off (at-lost e) later = lost-byte (r .version) (liveOf r) number values (r .held) b later
 
   -- an item that was followed: the update that it finishes, if it does, and where it leads
   follow-on : (r : Receiver) (d : Deed) (n : Next) →
@@ -276,10 +304,10 @@ module _ (limit H : ℕ) where
       × At (d .then) p
       × (d .updates ≡ length us)
       × (liveOf (d .then) ≡ withUpdates limit (liveOf r) us)
-      × ((is : List Item) → orFinished limit (liveOf r) n (λ l p′. updates limit (r .version) l p′ is) ≡ us ++ updates limit (r .version) (liveOf (d .then)) p is)
+      × ((is : List Item) → orFinished limit (liveOf r) n (λ l p′. outcome limit (r .version) l p′ is) ≡ after us (outcome limit (r .version) (liveOf (d .then)) p is))
   unfolding withUpdates
-  follow-on r d (goes p) (onward a e c) = ([], p, a, c, e, λ is. ap (λ (l : Live). updates limit (r .version) l p is) (sym e))
-  follow-on r d (finishes u) (done st e c) = (u ∷ [], Place.idle, at-idle st, c, e, λ is. ap (λ (l : Live). u ∷ updates limit (r .version) l Place.idle is) (sym e))
+  follow-on r d (goes p) (onward a e c) = ([], p, a, c, e, λ is. ap (λ (l : Live). outcome limit (r .version) l p is) (sym e))
+  follow-on r d (finishes u) (done st e c) = (u ∷ [], Place.idle, at-idle st, c, e, λ is. ap (λ (l : Live). after (u ∷ []) (outcome limit (r .version) l Place.idle is)) (sym e))
 
   -- a feed, with u updates counted before it, leads on and counts those that finish in it
   abbrev pub Counts : Receiver → Place → List Event → ℕ → Feed → Type 0
@@ -287,14 +315,14 @@ module _ (limit H : ℕ) where
 
   -- a byte
   byte-follows : (r : Receiver) (p : Place) (b k u : ℕ) → At r p → Counts r p (Event.byte b ∷ []) u (onByte limit H (from r k u) b)
-  unfolding onByte items updates
+  unfolding onByte items outcome
   byte-follows r p b k u a = go (listens (r .stage)) refl
     where
       s : List ℕ
       s = r .held ++ b ∷ []
 
-      judged : (h : Heard) → judge inUse H s ≡ h → (later : List Event) → future r p (Event.byte b ∷ later) ≡ updates limit (r .version) (liveOf r) p (itemsBy s h (λ hand. items H hand later))
-      judged h j later = ap (λ (x : Heard). updates limit (r .version) (liveOf r) p (itemsBy s x (λ hand. items H hand later))) j
+      judged : (h : Heard) → judge inUse H s ≡ h → (later : List Event) → future r p (Event.byte b ∷ later) ≡ outcome limit (r .version) (liveOf r) p (itemsBy s h (λ hand. items H hand later))
+      judged h j later = ap (λ (x : Heard). outcome limit (r .version) (liveOf r) p (itemsBy s x (λ hand. items H hand later))) j
 
       by : (h : Heard) → listens (r .stage) ≡ true → judge inUse H s ≡ h → Counts r p (Event.byte b ∷ []) u (heard limit (k + 1) u r s h)
       by Heard.waits on j = (quietly p (stays r (holding s r) p refl refl refl a) refl (judged Heard.waits j), omega arith)
@@ -310,19 +338,19 @@ module _ (limit H : ℕ) where
               to-come = λ later.
                   judged (Heard.whole pdu) j later
                   ∙ g .5 (items H [] later)
-                  ∙ (λ i. g .0 ++ updates limit (sym (pdu-keeps limit pdu here .version) i) (liveOf (deed .then)) (g .1) (items H (sym (told-drops limit pdu r) i) later));
+                  ∙ (λ i. after (g .0) (outcome limit (sym (pdu-keeps limit pdu here .version) i) (liveOf (deed .then)) (g .1) (items H (sym (told-drops limit pdu r) i) later)));
             },
             ap (λ (n : ℕ). u + n) (g .3),
           )
-      by (Heard.refused number values) on j = (quietly Place.lost (at-lost refl) refl (judged (Heard.refused number values) j), omega arith)
+      by (Heard.refused number values) on j = (
+        quietly (Place.lost number values) (at-lost refl) refl
+            (λ later. judged (Heard.refused number values) j later ∙ ap (λ (n : Next). orFinished limit (liveOf r) n (λ l p′. outcome limit (r .version) l p′ (items H [] later))) (not-lost r p (goes (Place.lost number values)) on a)),
+        omega arith,
+      )
 
       go : (t : Bool) → listens (r .stage) ≡ t → Counts r p (Event.byte b ∷ []) u (cond t (heard limit (k + 1) u r s (judge inUse H s)) (from r k u))
       go true e = by (judge inUse H s) e refl
-      go false e = (
-        quietly p a refl
-            (λ later. subst (λ (q : Place). future r q (Event.byte b ∷ later) ≡ future r q later) (sym (deaf-lost r p e a)) (lost-byte (r .version) (liveOf r) (r .held) b later)),
-        omega arith,
-      )
+      go false e = (quietly p a refl (deaf-byte r p b e a), omega arith)
 
   -- a piece
   pub piece-follows : (piece : List ℕ) (r : Receiver) (p : Place) (k u : ℕ) → At r p → Counts r p (bytes piece) u (onPiece limit H (from r k u) piece)
@@ -357,18 +385,9 @@ module _ (limit H : ℕ) where
       ap (λ (w : Writing). askedBy w Stage.askedChange r (e .out) .receiver) (serial-query-says inUse (r .version) (t .session) (t .serial) out)
       ∙ written-if (leb 12 (length out)) 12 Stage.askedChange r (e .out)
 
-  -- a receiver that does not listen has stopped
-  deaf-stopped : (s : Stage) → listens s ≡ false → (number : ℕ) × (values : List ℕ) × (s ≡ Stage.stopped number values)
-  deaf-stopped (Stage.stopped number values) e = (number, values, refl)
-  deaf-stopped Stage.idle e = absurd (let o : _≡_ {A = ℕ} 0 1 = cc in omega arith)
-  deaf-stopped Stage.mustReset e = absurd (let o : _≡_ {A = ℕ} 0 1 = cc in omega arith)
-  deaf-stopped Stage.askedFull e = absurd (let o : _≡_ {A = ℕ} 0 1 = cc in omega arith)
-  deaf-stopped Stage.askedChange e = absurd (let o : _≡_ {A = ℕ} 0 1 = cc in omega arith)
-  deaf-stopped (Stage.loading kind session) e = absurd (let o : _≡_ {A = ℕ} 0 1 = cc in omega arith)
-
   -- an ask that is refused leaves the receiver and its place
   unasked : (r r′ : Receiver) (p : Place) (kind : LoadKind) (room : ℕ) → r′ ≡ r → onAsk (r .table) p kind room ≡ p → At r p → Asks r p kind room r′
-  unfolding items updates
+  unfolding items outcome
   unasked r r′ p kind room e q a = subst (Asks r p kind room) (sym e) (quietly p a refl (λ es. ap (λ (x : Place). future r x es) q))
 
   -- one that is in turn leads to its phase, where there is room for the query
@@ -378,7 +397,7 @@ module _ (limit H : ℕ) where
       At (inStage stage r) p′ →
       At r p →
       Asks r p kind room r′
-  unfolding items updates
+  unfolding items outcome
   asked-if true r r′ p p′ kind room stage e q a′ a = subst (Asks r p kind room) (sym e) (quietly p′ a′ refl (λ es. ap (λ (x : Place). future r x es) q))
   asked-if false r r′ p p′ kind room stage e q a′ a = unasked r r′ p kind room e q a
 
@@ -394,7 +413,7 @@ module _ (limit H : ℕ) where
   full-follows r p out (at-full e) = unasked r _ p LoadKind.Full _ (asking (λ s. fullQuery s r) r out e) refl (at-full e)
   full-follows r p out (at-change e) = unasked r _ p LoadKind.Full _ (asking (λ s. fullQuery s r) r out e) refl (at-change e)
   full-follows r p out (at-load e w) = unasked r _ p LoadKind.Full _ (asking (λ s. fullQuery s r) r out e) refl (at-load e w)
-  full-follows r p out (at-lost e) = unasked r _ p LoadKind.Full _ (asking (λ s. fullQuery s r) r out (deaf-stopped (r .stage) e .2)) refl (at-lost e)
+  full-follows r p out (at-lost e) = unasked r _ p LoadKind.Full _ (asking (λ s. fullQuery s r) r out e) refl (at-lost e)
 
   pub change-follows : (r : Receiver) (p : Place) (out : List ℕ) → At r p → Asks r p LoadKind.Change (length out) (ask (changeQuery (r .stage) r) r out .receiver)
   change-follows r p out (at-idle e) = subst (Asks r p LoadKind.Change (length out)) (sym (asking (λ s. changeQuery s r) r out e)) (table (r .table) refl)
@@ -408,8 +427,8 @@ module _ (limit H : ℕ) where
   change-follows r p out (at-full e) = unasked r _ p LoadKind.Change _ (asking (λ s. changeQuery s r) r out e) refl (at-full e)
   change-follows r p out (at-change e) = unasked r _ p LoadKind.Change _ (asking (λ s. changeQuery s r) r out e) refl (at-change e)
   change-follows r p out (at-load e w) = unasked r _ p LoadKind.Change _ (asking (λ s. changeQuery s r) r out e) refl (at-load e w)
-  change-follows r p out (at-lost e) = unasked r _ p LoadKind.Change _ (asking (λ s. changeQuery s r) r out (deaf-stopped (r .stage) e .2)) refl (at-lost e)
+  change-follows r p out (at-lost e) = unasked r _ p LoadKind.Change _ (asking (λ s. changeQuery s r) r out e) refl (at-lost e)
 
   pub reconnect-follows : (r : Receiver) (p : Place) → Leads r p (Event.reconnect ∷ []) (reconnected r)
-  unfolding items updates
+  unfolding items outcome
   reconnect-follows r p = quietly Place.idle (at-idle refl) refl (λ es. refl)
