@@ -314,7 +314,7 @@ module _ (limit H : ℕ) where
   Counts r p es u f = (way : Leads r p es (f .receiver)) × (f .updates ≡ u + length (way .between))
 
   -- a byte
-  byte-follows : (r : Receiver) (p : Place) (b k u : ℕ) → At r p → Counts r p (Event.byte b ∷ []) u (onByte limit H (from r k u) b)
+  pub byte-follows : (r : Receiver) (p : Place) (b k u : ℕ) → At r p → Counts r p (Event.byte b ∷ []) u (onByte limit H (from r k u) b)
   unfolding onByte items outcome
   byte-follows r p b k u a = go (listens (r .stage)) refl
     where
@@ -365,21 +365,24 @@ module _ (limit H : ℕ) where
   -- ---- Asks and reconnects
 
   -- an ask leads on, and no update finishes by it
+  abbrev pub Quietly : Receiver → Place → List Event → Receiver → Type 0
+  Quietly r p es r′ = (way : Leads r p es r′) × (way .between ≡ [])
+
   abbrev Asks : Receiver → Place → LoadKind → ℕ → Receiver → Type 0
-  Asks r p kind room r′ = Leads r p (Event.ask kind room ∷ []) r′
+  Asks r p kind room r′ = Quietly r p (Event.ask kind room ∷ []) r′
 
   -- a query is written where there is room for it
   written-if : (b : Bool) (n : ℕ) (stage : Stage) (r : Receiver) (out : List ℕ) → askedBy (cond b (Writing.written n) (Writing.refused 9 (n ∷ []))) stage r out .receiver ≡ cond b (inStage stage r) r
   written-if true n stage r out = refl
   written-if false n stage r out = refl
 
-  full-is : (r : Receiver) (out : List ℕ) → ask (resetQuery r) r out .receiver ≡ cond (leb 8 (length out)) (inStage Stage.askedFull r) r
+  pub full-is : (r : Receiver) (out : List ℕ) → ask (resetQuery r) r out .receiver ≡ cond (leb 8 (length out)) (inStage Stage.askedFull r) r
   full-is r out =
       let e = encode inUse (ResetQuery (record { version = r .version })) [] out in
       ap (λ (w : Writing). askedBy w Stage.askedFull r (e .out) .receiver) (reset-query-says inUse (r .version) out)
       ∙ written-if (leb 8 (length out)) 8 Stage.askedFull r (e .out)
 
-  change-is : (r : Receiver) (t : Table) (out : List ℕ) → ask (serialQuery (LiveTable.Known t) r) r out .receiver ≡ cond (leb 12 (length out)) (inStage Stage.askedChange r) r
+  pub change-is : (r : Receiver) (t : Table) (out : List ℕ) → ask (serialQuery (LiveTable.Known t) r) r out .receiver ≡ cond (leb 12 (length out)) (inStage Stage.askedChange r) r
   change-is r t out =
       let e = encode inUse (SerialQuery (record { version = r .version; «session_id» = t .session; «serial_number» = t .serial })) [] out in
       ap (λ (w : Writing). askedBy w Stage.askedChange r (e .out) .receiver) (serial-query-says inUse (r .version) (t .session) (t .serial) out)
@@ -388,7 +391,7 @@ module _ (limit H : ℕ) where
   -- an ask that is refused leaves the receiver and its place
   unasked : (r r′ : Receiver) (p : Place) (kind : LoadKind) (room : ℕ) → r′ ≡ r → onAsk (r .table) p kind room ≡ p → At r p → Asks r p kind room r′
   unfolding items outcome
-  unasked r r′ p kind room e q a = subst (Asks r p kind room) (sym e) (quietly p a refl (λ es. ap (λ (x : Place). future r x es) q))
+  unasked r r′ p kind room e q a = subst (Asks r p kind room) (sym e) (quietly p a refl (λ es. ap (λ (x : Place). future r x es) q), refl)
 
   -- one that is in turn leads to its phase, where there is room for the query
   asked-if : (b : Bool) (r r′ : Receiver) (p p′ : Place) (kind : LoadKind) (room : ℕ) (stage : Stage) →
@@ -398,7 +401,7 @@ module _ (limit H : ℕ) where
       At r p →
       Asks r p kind room r′
   unfolding items outcome
-  asked-if true r r′ p p′ kind room stage e q a′ a = subst (Asks r p kind room) (sym e) (quietly p′ a′ refl (λ es. ap (λ (x : Place). future r x es) q))
+  asked-if true r r′ p p′ kind room stage e q a′ a = subst (Asks r p kind room) (sym e) (quietly p′ a′ refl (λ es. ap (λ (x : Place). future r x es) q), refl)
   asked-if false r r′ p p′ kind room stage e q a′ a = unasked r r′ p kind room e q a
 
   -- the phase decides
@@ -429,6 +432,6 @@ module _ (limit H : ℕ) where
   change-follows r p out (at-load e w) = unasked r _ p LoadKind.Change _ (asking (λ s. changeQuery s r) r out e) refl (at-load e w)
   change-follows r p out (at-lost e) = unasked r _ p LoadKind.Change _ (asking (λ s. changeQuery s r) r out e) refl (at-lost e)
 
-  pub reconnect-follows : (r : Receiver) (p : Place) → Leads r p (Event.reconnect ∷ []) (reconnected r)
+  pub reconnect-follows : (r : Receiver) (p : Place) → Quietly r p (Event.reconnect ∷ []) (reconnected r)
   unfolding items outcome
-  reconnect-follows r p = quietly Place.idle (at-idle refl) refl (λ es. refl)
+  reconnect-follows r p = (quietly Place.idle (at-idle refl) refl (λ es. refl), refl)

@@ -15,5 +15,6 @@ pub mod Unique
 mod Histories
 pub mod Runs
 pub mod Coded
+pub mod Receives
 pub mod Examples
 mod Turns

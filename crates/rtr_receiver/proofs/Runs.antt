@@ -64,7 +64,7 @@ module _ (limit H : ℕ) where
       calm (Stage.loading kind session) e = refl
       calm (Stage.stopped k x) e = absurd (let z : _≡_ {A = ℕ} 0 1 = cc in omega arith)
 
-  byte-sound : (f : Feed) (b : ℕ) → Sound (f .receiver) → Sound (onByte limit H f b .receiver)
+  pub byte-sound : (f : Feed) (b : ℕ) → Sound (f .receiver) → Sound (onByte limit H f b .receiver)
   unfolding onByte
   byte-sound f b sound = go (listens (f .receiver .stage)) refl
     where
@@ -133,7 +133,7 @@ module _ (limit H : ℕ) where
   by-writing (Writing.written n) stage r out sound then = then
   by-writing (Writing.refused number values) stage r out sound then = sound
 
-  full-sound : (r : Receiver) (out : List ℕ) → Sound r → (stage : Stage) → r .stage ≡ stage → Sound (ask (fullQuery stage r) r out .receiver)
+  pub full-sound : (r : Receiver) (out : List ℕ) → Sound r → (stage : Stage) → r .stage ≡ stage → Sound (ask (fullQuery stage r) r out .receiver)
   full-sound r out sound Stage.idle e = let w = encode inUse (ResetQuery (record { version = r .version })) [] out in by-writing (w .says) Stage.askedFull r (w .out) sound (asked-sound r Stage.askedFull sound (ap loadingIn e) (inr refl) refl)
   full-sound r out sound Stage.mustReset e = let w = encode inUse (ResetQuery (record { version = r .version })) [] out in by-writing (w .says) Stage.askedFull r (w .out) sound (asked-sound r Stage.askedFull sound (ap loadingIn e) (inr refl) refl)
   full-sound r out sound Stage.askedFull e = sound
@@ -141,7 +141,7 @@ module _ (limit H : ℕ) where
   full-sound r out sound (Stage.loading kind session) e = sound
   full-sound r out sound (Stage.stopped k x) e = sound
 
-  change-sound : (r : Receiver) (out : List ℕ) → Sound r → (stage : Stage) → r .stage ≡ stage → Sound (ask (changeQuery stage r) r out .receiver)
+  pub change-sound : (r : Receiver) (out : List ℕ) → Sound r → (stage : Stage) → r .stage ≡ stage → Sound (ask (changeQuery stage r) r out .receiver)
   change-sound r out sound Stage.idle e = table (r .table) refl
     where
       table : (t : LiveTable) → r .table ≡ t → Sound (ask (serialQuery t r) r out .receiver)
@@ -153,7 +153,7 @@ module _ (limit H : ℕ) where
   change-sound r out sound (Stage.loading kind session) e = sound
   change-sound r out sound (Stage.stopped k x) e = sound
 
-  reconnect-sound : (r : Receiver) → Sound r → Sound (reconnected r)
+  pub reconnect-sound : (r : Receiver) → Sound r → Sound (reconnected r)
   reconnect-sound r sound =
       let g : Good limit r = sound .good in
       record {
@@ -279,9 +279,9 @@ module _ (limit H : ℕ) where
   leads : (call : Call) (r : Receiver) (p : Place) → At limit H r p → Leads limit H r p (historyOf (call ∷ [])) (after call r)
   unfolding historyOf
   leads (Call.feed piece) r p a = subst (λ (es : List Event). Leads limit H r p es (after (Call.feed piece) r)) (sym (append-nil (bytes piece))) (piece-follows limit H piece r p 0 0 a .0)
-  leads (Call.ask LoadKind.Full out) r p a = full-follows limit H r p out a
-  leads (Call.ask LoadKind.Change out) r p a = change-follows limit H r p out a
-  leads Call.reconnect r p a = reconnect-follows limit H r p
+  leads (Call.ask LoadKind.Full out) r p a = full-follows limit H r p out a .0
+  leads (Call.ask LoadKind.Change out) r p a = change-follows limit H r p out a .0
+  leads Call.reconnect r p a = reconnect-follows limit H r p .0
 
   -- a run so far: memory stands for a receiver, to which the history leads from a fresh start
   pub record Along (v : RtrProtocolVersion) (calls : List Call) (m : Memory) : Type 0 where
@@ -296,32 +296,37 @@ module _ (limit H : ℕ) where
   history-snoc (Call.ask kind out ∷ calls) call = ap (λ (x : List Event). Event.ask kind (length out) ∷ x) (history-snoc calls call)
   history-snoc (Call.reconnect ∷ calls) call = ap (λ (x : List Event). Event.reconnect ∷ x) (history-snoc calls call)
 
-  start-along : (v : RtrProtocolVersion) (m : Memory) (live working : List ℕ) → length (m .hold) ≡ H → startSaid (StartAnswer.Started (m .session)) (m .live) (m .working) (m .hold) ≡ startSays limit v live working (m .hold) → Along v [] m
-  unfolding startSays historyOf withUpdates
-  start-along v m live working size e = go (isLimit limit) (eqb (length live) (6 * limit)) (eqb (length working) (6 * limit)) (leb 8 (length (m .hold))) refl refl e
+  -- a start stands for a fresh receiver
+  pub start-stands : (v : RtrProtocolVersion) (m : Memory) (live working : List ℕ) → length (m .hold) ≡ H → startSaid (StartAnswer.Started (m .session)) (m .live) (m .working) (m .hold) ≡ startSays limit v live working (m .hold) → Stands m (fresh v)
+  unfolding startSays
+  start-stands v m live working size e = go (isLimit limit) (eqb (length live) (6 * limit)) (eqb (length working) (6 * limit)) (leb 8 (length (m .hold))) refl refl e
     where
       go : (k a b c : Bool) →
           isLimit limit ≡ k →
           leb 8 (length (m .hold)) ≡ c →
           StartSays.started (leaves (m .session) (m .live) (m .working) (m .hold)) ≡ cond (k && (a && (b && c))) (StartSays.started (inMemory limit (fresh v))) (StartSays.refusedStart 22 live working) →
-          Along v [] m
+          Stands m (fresh v)
       go true true true true w t q =
           record {
-            receiver = fresh v;
-            stands =
-                record {
-                  known = w;
-                  size = size;
-                  least = omega (arith, size, leb-true 8 (length (m .hold)) t);
-                  left = cc;
-                  sound = record { good = fresh-good limit v; waits = nothing-waits inUse H };
-                };
-            way = record { place = Place.idle; at = At.at-idle refl; between = []; table = refl; to-come = λ es. refl };
+            known = w;
+            size = size;
+            least = omega (arith, size, leb-true 8 (length (m .hold)) t);
+            left = cc;
+            sound = record { good = fresh-good limit v; waits = nothing-waits inUse H };
           }
       go true true true false w t q = absurd (let z : _≡_ {A = ℕ} 0 1 = cc in omega arith)
       go true true false c w t q = absurd (let z : _≡_ {A = ℕ} 0 1 = cc in omega arith)
       go true false b c w t q = absurd (let z : _≡_ {A = ℕ} 0 1 = cc in omega arith)
       go false a b c w t q = absurd (let z : _≡_ {A = ℕ} 0 1 = cc in omega arith)
+
+  start-along : (v : RtrProtocolVersion) (m : Memory) (live working : List ℕ) → length (m .hold) ≡ H → startSaid (StartAnswer.Started (m .session)) (m .live) (m .working) (m .hold) ≡ startSays limit v live working (m .hold) → Along v [] m
+  unfolding historyOf withUpdates
+  start-along v m live working size e =
+      record {
+        receiver = fresh v;
+        stands = start-stands v m live working size e;
+        way = record { place = Place.idle; at = At.at-idle refl; between = []; table = refl; to-come = λ es. refl };
+      }
 
   -- one call more
   step-along : (v : RtrProtocolVersion) (calls : List Call) (call : Call) (m m′ : Memory) → Along v calls m → Step limit m call m′ → Along v (calls ++ call ∷ []) m′

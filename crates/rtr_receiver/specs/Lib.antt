@@ -6,4 +6,5 @@ pub mod History
 pub mod Runs
 pub mod Receiver
 pub mod Promises
+pub mod Receives
 pub mod Private

@@ -1,13 +1,14 @@
 -- Demand 3's other side (the design, section 5): calls one after another, each meeting its promise, from a fresh start. `notify` changes nothing, a refused start begins no run, a second start
 -- begins a new one; H is the same throughout. What a call leaves of the hold past the held count is anything. proofs/Coded.antt: the code's calls are these steps.
 use Prim.Native.Nat.{ℕ}
+use mathlib.Core.Bool.{Bool, true, false}
 use mathlib.Core.List.{List, [], _∷_, _++_}
 use mathlib.Core.Path.{_≡_}
 use lib.ListN.{length}
 use Rattle.rtr_models.specs.declared.RtrProtocolVersion.{RtrProtocolVersion}
 use Rattle.rtr_receiver.specs.Contents.{Rooms, contents}
 use Rattle.rtr_receiver.specs.History.{Event, Live}
-use Rattle.rtr_receiver.specs.Promises.{fedSaid, feedSays, startSaid, startSays, askSaid, fullAskSays, changeAskSays, reconnectSaid, reconnectSays}
+use Rattle.rtr_receiver.specs.Promises.{Left, leaves, fedSaid, feedSays, startSaid, startSays, askSaid, fullAskSays, changeAskSays, reconnectSaid, reconnectSays}
 use Rattle.rtr_receiver.specs.declared.LoadKind.{LoadKind}
 use Rattle.rtr_receiver.specs.declared.Session.{Session}
 use Rattle.rtr_receiver.specs.declared.StartAnswer.{StartAnswer}
@@ -39,6 +40,10 @@ pub record Memory : Type 0 where
   pub working : Rooms
   pub hold : List ℕ
 
+-- what there is of it: all but the hold past the held count
+abbrev pub leftIn : Memory → Left
+leftIn m = leaves (m .session) (m .live) (m .working) (m .hold)
+
 -- a call that meets its promise leads from one memory to the next
 pub data Step (limit : ℕ) (m : Memory) : Call → Memory → Type 0 where
   fed : {piece : List ℕ} (s : Session) (done : Done) (live working : Rooms) (hold : List ℕ) →
@@ -66,3 +71,15 @@ pub data Run (limit : ℕ) (version : RtrProtocolVersion) (H : ℕ) : List Call 
 -- the live table in memory: session, serial and intervals, and the records of the live room
 abbrev pub liveIn : Memory → Live
 liveIn m = record { info = m .session .table; records = contents (m .session .live) (m .live) }
+
+-- calls one after another, from any memory
+pub data Steps (limit : ℕ) (m : Memory) : List Call → Memory → Type 0 where
+  none : Steps limit m [] m
+  more : {calls : List Call} {call : Call} {m′ m″ : Memory} → Steps limit m calls m′ → Step limit m′ call m″ → Steps limit m (calls ++ call ∷ []) m″
+
+-- a reconnect is among calls
+abbrev pub reconnects : List Call → Bool
+reconnects [] = false
+reconnects (feed piece ∷ calls) = reconnects calls
+reconnects (ask kind out ∷ calls) = reconnects calls
+reconnects (reconnect ∷ calls) = true
