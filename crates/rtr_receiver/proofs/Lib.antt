@@ -16,5 +16,6 @@ mod Histories
 pub mod Runs
 pub mod Coded
 pub mod Receives
+pub mod Stops
 pub mod Examples
 mod Turns

@@ -86,7 +86,7 @@ module _ (limit H : ℕ) where
   piece-adds (b ∷ piece) k u f = ap (λ (x : Feed). onPiece limit H x piece) (byte-adds k u f b) ∙ piece-adds piece k u (onByte limit H f b)
 
   -- so a piece adds what it would be fed alone
-  piece-after : (piece : List ℕ) (f : Feed) → onPiece limit H f piece ≡ adding (f .taken) (f .updates) (onPiece limit H (from (f .receiver) 0 0) piece)
+  pub piece-after : (piece : List ℕ) (f : Feed) → onPiece limit H f piece ≡ adding (f .taken) (f .updates) (onPiece limit H (from (f .receiver) 0 0) piece)
   piece-after piece f =
       let k : f .taken ≡ f .taken + 0 = omega arith in
       let u : f .updates ≡ f .updates + 0 = omega arith in
