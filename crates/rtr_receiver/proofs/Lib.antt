@@ -17,5 +17,6 @@ pub mod Runs
 pub mod Coded
 pub mod Receives
 pub mod Stops
+pub mod Updates
 pub mod Examples
 mod Turns
