@@ -358,6 +358,11 @@ pub cut-anywhere : (limit H : ℕ) (v : RtrProtocolVersion) (calls calls′ : Li
 cut-anywhere limit H v calls calls′ m m′ run run′ e =
     history limit H v calls m run ∙ ap (λ (h : List Event). tableOf limit (finished limit H v h)) e ∙ sym (history limit H v calls′ m′ run′)
 
+-- no update makes no table
+pub table-of-none : (limit : ℕ) → tableOf limit [] ≡ noTable
+unfolding withUpdates
+table-of-none limit = refl
+
 -- a table stays a table
 known-stays : (limit : ℕ) (us : List Update) (live : Live) → hasTable (live .info) ≡ true → hasTable (withUpdates limit live us .info) ≡ true
 unfolding withUpdates
