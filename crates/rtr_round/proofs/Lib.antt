@@ -9,3 +9,5 @@ mod Inside
 mod Accepted
 mod Written
 mod ReadBack
+pub mod Rfc
+mod Pictures
