@@ -10,4 +10,5 @@ mod Accepted
 mod Written
 mod ReadBack
 pub mod Rfc
+pub mod RfcSent
 mod Pictures

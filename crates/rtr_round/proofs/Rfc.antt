@@ -37,11 +37,11 @@ use Rattle.rtr_round.proofs.Bytes.{length-part}
 use Rattle.rtr_round.proofs.Pictures.{Each, each-stands, bits8-is, bits16-is, bits32-is}
 
 -- the RFCs' numbers are those of the tables
-same-version : (v : RtrProtocolVersion) → versionNumber v ≡ version v
+pub same-version : (v : RtrProtocolVersion) → versionNumber v ≡ version v
 same-version V0 = refl
 same-version V1 = refl
 
-same-code : (c : RtrErrorCode) → codeNumber c ≡ code c
+pub same-code : (c : RtrErrorCode) → codeNumber c ≡ code c
 same-code CorruptData = refl
 same-code InternalError = refl
 same-code NoDataAvailable = refl
