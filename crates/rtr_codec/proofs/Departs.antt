@@ -1,6 +1,5 @@
--- Two readings that differ only in departures that do not apply to a slice read it alike. The version and the type that were found are the
--- header's (the tables' laws), so each switch is asked only where its departure applies, or where both of its ways give the same test.
--- Assumes nothing.
+-- Two readings that differ only in departures that do not apply to a slice read it alike. A check before a switch has passed where the switch is asked; the version and the type that were found are the header's (the tables' laws), so
+-- each switch is asked only where its departure applies, or where both of its ways give the same test. Assumes nothing.
 use Prim.Native.Nat.{ℕ, _≤_, _+_}
 use mathlib.Core.Bool.{Bool, true, false, _&&_, and-true}
 use mathlib.Core.List.{List}
@@ -9,6 +8,7 @@ use mathlib.Core.Path.{_≡_, refl, sym, ap, _∙_}
 use native.Mathlib.Omega.{arith}
 use borrow.Author.Tests.{eq-eqb, le-leb, leb-true, leb-false, ltb-false, eqb-false, ne-eqb}
 use lib.Dec.{leb, ltb, eqb}
+use lib.ListN.{length}
 use Rattle.rtr_models.specs.Codes.{versionFound, versionNumber, typeFound, typeNumber, codeFound}
 use Rattle.rtr_models.specs.declared.RtrProtocolVersion.{RtrProtocolVersion}
 use Rattle.rtr_models.specs.declared.RtrProtocolVersion.the-variants.{V0, V1}
@@ -21,13 +21,20 @@ use Rattle.rtr_models.specs.declared.CodeFound.{CodeFound}
 use Rattle.rtr_models.proofs.Laws.{version-known, type-known, code-known, code-at-most-8}
 use Rattle.rtr_codec.specs.Bytes.{number}
 use Rattle.rtr_codec.specs.Reading.{Reading}
-use Rattle.rtr_codec.specs.Departures.{Departure, has, applies}
+use Rattle.rtr_codec.specs.Departures.{Departure, has, there, reported, applies}
 use Rattle.rtr_codec.specs.Departures.Departure.{codeEightInV0, bytesBehindText, keyByCrate}
-use Rattle.rtr_codec.specs.Read.{headerLength, ends, lastCode, codeIn, keyFields, readKey, readRouterKey, readText, readEncapsulated, readCode, readErrorReport, readAs, readTyped, readVersioned, read}
+use Rattle.rtr_codec.specs.Read.{Verdict, need, headerLength, ends, lastCode, codeIn, keyFields, readKey, readRouterKey, readText, readEncapsulated, readCode, readErrorReport, readAs, readTyped, readVersioned, read}
 
 -- R and R′ agree on a departure, or it does not apply to s
 abbrev pub Alike : Reading → Reading → List ℕ → Type 0
-Alike R R′ s = (d : Departure) → (has R d ≡ has R′ d) ⊎ (applies d s ≡ false)
+Alike R R′ s = (d : Departure) → (has R d ≡ has R′ d) ⊎ (applies R d s ≡ false)
+
+-- two checks are alike where their tests are, and what comes next is, once the test has passed
+need-alike : (b b′ : Bool) (k : ℕ) (values : List ℕ) (x y : Verdict) → b ≡ b′ → (b ≡ true → x ≡ y) → need b k values x ≡ need b′ k values y
+need-alike true true k values x y e f = f refl
+need-alike true false k values x y e f = let z : _≡_ {A = ℕ} 0 1 = cc in absurd (omega arith)
+need-alike false true k values x y e f = let z : _≡_ {A = ℕ} 0 1 = cc in absurd (omega arith)
+need-alike false false k values x y e f = refl
 
 -- where the text does not end before the PDU does, both ways of the switch are one test
 ends-alike : (b b′ : Bool) (x h : ℕ) → (b ≡ b′) ⊎ (ltb x h ≡ false) → ends b x h ≡ ends b′ x h
@@ -54,53 +61,56 @@ code-alike b b′ v n h (inr e) = one b ∙ sym (one b′)
     one : (c : Bool) → codeIn c v n ≡ true
     one c = simp (listed v e)
 
-module _ (R R′ : Reading) (s : List ℕ) (alike : Alike R R′ s) where
+-- a report of a known version whose code is in the reading's list is reported
+pub reported-is : (R : Reading) (s : List ℕ) (v : RtrProtocolVersion) → number s 0 1 ≡ versionNumber v → number s 1 1 ≡ 10 → codeIn (R .codeEightInV0) v (number s 2 2) ≡ true → reported R s ≡ true
+reported-is R s V0 q t c = simp (q, t, c)
+reported-is R s V1 q t c = simp (q, t, c)
+
+module _ (R R′ : Reading) (s : List ℕ) (alike : Alike R R′ s) (here : there s ≡ true) where
   key-alike : number s 0 1 ≡ 1 → number s 1 1 ≡ 9 → R .keyByCrate ≡ R′ .keyByCrate
   unfolding applies
   key-alike v t = go (alike keyByCrate)
     where
-      go : (R .keyByCrate ≡ R′ .keyByCrate) ⊎ ((eqb (number s 0 1) 1 && eqb (number s 1 1) 9) ≡ false) → R .keyByCrate ≡ R′ .keyByCrate
+      go : (R .keyByCrate ≡ R′ .keyByCrate) ⊎ ((there s && (eqb (number s 0 1) 1 && eqb (number s 1 1) 9)) ≡ false) → R .keyByCrate ≡ R′ .keyByCrate
       go (inl e) = e
-      go (inr e) = let z : true ≡ false = sym (simp (eq-eqb _ _ v, eq-eqb _ _ t)) ∙ e in cc
+      go (inr e) = let z : true ≡ false = sym (simp (here, eq-eqb _ _ v, eq-eqb _ _ t)) ∙ e in cc
 
-  text-alike : number s 1 1 ≡ 10 → (v : RtrProtocolVersion) (c : RtrErrorCode)
+  text-alike : reported R s ≡ true → (v : RtrProtocolVersion) (c : RtrErrorCode)
       → readText R v c (number s 8 4) (number s (12 + number s 8 4) 4) s ≡ readText R′ v c (number s 8 4) (number s (12 + number s 8 4) 4) s
   unfolding readText applies
-  text-alike t v c = simp (ends-alike (R .bytesBehindText) (R′ .bytesBehindText) (16 + number s 8 4 + number s (12 + number s 8 4) 4) (headerLength s) (go (alike bytesBehindText)))
+  text-alike r v c = simp (ends-alike (R .bytesBehindText) (R′ .bytesBehindText) (16 + number s 8 4 + number s (12 + number s 8 4) 4) (headerLength s) (go (alike bytesBehindText)))
     where
-      go : (R .bytesBehindText ≡ R′ .bytesBehindText) ⊎ ((eqb (number s 1 1) 10 && ltb (16 + number s 8 4 + number s (12 + number s 8 4) 4) (headerLength s)) ≡ false)
+      go : (R .bytesBehindText ≡ R′ .bytesBehindText) ⊎ ((there s && reported R s && ltb (16 + number s 8 4 + number s (12 + number s 8 4) 4) (headerLength s)) ≡ false)
           → (R .bytesBehindText ≡ R′ .bytesBehindText) ⊎ (ltb (16 + number s 8 4 + number s (12 + number s 8 4) 4) (headerLength s) ≡ false)
       go (inl e) = inl e
-      go (inr e) = inr (simp (eq-eqb _ _ t) at e)
+      go (inr e) = inr (simp (here, r) at e)
 
-  code-switch : (v : RtrProtocolVersion) → number s 0 1 ≡ versionNumber v → number s 1 1 ≡ 10
+  code-switch : (v : RtrProtocolVersion) → number s 0 1 ≡ versionNumber v → number s 1 1 ≡ 10 → leb 16 (headerLength s) ≡ true
       → (R .codeEightInV0 ≡ R′ .codeEightInV0) ⊎ ((eqb (versionNumber v) 0 && eqb (number s 2 2) 8) ≡ false)
   unfolding applies
-  code-switch v q t = go (alike codeEightInV0)
+  code-switch v q t l = go (alike codeEightInV0)
     where
-      go : (R .codeEightInV0 ≡ R′ .codeEightInV0) ⊎ ((eqb (number s 0 1) 0 && eqb (number s 1 1) 10 && eqb (number s 2 2) 8) ≡ false)
+      go : (R .codeEightInV0 ≡ R′ .codeEightInV0) ⊎ ((there s && (eqb (number s 0 1) 0 && eqb (number s 1 1) 10) && leb 16 (headerLength s) && eqb (number s 2 2) 8) ≡ false)
           → (R .codeEightInV0 ≡ R′ .codeEightInV0) ⊎ ((eqb (versionNumber v) 0 && eqb (number s 2 2) 8) ≡ false)
       go (inl e) = inl e
-      go (inr e) = inr (simp (q, eq-eqb _ _ t, and-true) at e)
+      go (inr e) = inr (simp (here, l, q, eq-eqb _ _ t, and-true) at e)
 
-  encapsulated-alike : number s 1 1 ≡ 10 → (v : RtrProtocolVersion) (c : RtrErrorCode) → readEncapsulated R v c (number s 8 4) s ≡ readEncapsulated R′ v c (number s 8 4) s
+  encapsulated-alike : reported R s ≡ true → (v : RtrProtocolVersion) (c : RtrErrorCode) → readEncapsulated R v c (number s 8 4) s ≡ readEncapsulated R′ v c (number s 8 4) s
   unfolding readEncapsulated
-  encapsulated-alike t v c = simp (text-alike t v c)
+  encapsulated-alike r v c = simp (text-alike r v c)
 
-  by-code : (v : RtrProtocolVersion) → number s 0 1 ≡ versionNumber v → number s 1 1 ≡ 10 → (f : CodeFound) → codeFound (number s 2 2) ≡ f
+  by-code : (v : RtrProtocolVersion) → number s 0 1 ≡ versionNumber v → number s 1 1 ≡ 10 → leb 16 (headerLength s) ≡ true → (f : CodeFound) → codeFound (number s 2 2) ≡ f
       → readCode R v (number s 2 2) f s ≡ readCode R′ v (number s 2 2) f s
   unfolding readCode
-  by-code v q t CodeFound.Unknown e = refl
-  by-code v q t (CodeFound.Known c) e =
+  by-code v q t l CodeFound.Unknown e = refl
+  by-code v q t l (CodeFound.Known c) e =
       let small : number s 2 2 ≤ 8 = omega (arith, code-known (number s 2 2) c .0 e, code-at-most-8 c) in
-      simp (
-        code-alike (R .codeEightInV0) (R′ .codeEightInV0) v (number s 2 2) small (code-switch v q t),
-        encapsulated-alike t v c,
-      )
+      need-alike _ _ 7 _ _ _ (code-alike (R .codeEightInV0) (R′ .codeEightInV0) v (number s 2 2) small (code-switch v q t l))
+      (λ x. encapsulated-alike (reported-is R s v q t x) v c)
 
   report-alike : (v : RtrProtocolVersion) → number s 0 1 ≡ versionNumber v → number s 1 1 ≡ 10 → readErrorReport R v s ≡ readErrorReport R′ v s
   unfolding readErrorReport
-  report-alike v q t = simp (by-code v q t (codeFound (number s 2 2)) refl)
+  report-alike v q t = need-alike _ _ 4 _ _ _ refl (λ l. by-code v q t l (codeFound (number s 2 2)) refl)
 
   as-alike : (v : RtrProtocolVersion) (type : RtrPduType) → number s 0 1 ≡ versionNumber v → number s 1 1 ≡ typeNumber type → readAs R v type s ≡ readAs R′ v type s
   unfolding readAs readRouterKey
@@ -126,6 +136,9 @@ module _ (R R′ : Reading) (s : List ℕ) (alike : Alike R R′ s) where
   by-version VersionFound.Unknown e = refl
   by-version (VersionFound.Known v) e = by-type v (version-known (number s 0 1) v .0 e) (typeFound (number s 1 1)) refl
 
-  pub read-alike : read R s ≡ read R′ s
-  unfolding read
-  read-alike = simp (by-version (versionFound (number s 0 1)) refl)
+pub read-alike : (R R′ : Reading) (s : List ℕ) → Alike R R′ s → read R s ≡ read R′ s
+unfolding read
+read-alike R R′ s alike =
+    need-alike (leb 8 (length s)) _ 1 _ _ _ refl
+    (λ a. need-alike (leb (headerLength s) (length s)) _ 1 _ _ _ refl
+    (λ b. by-version R R′ s alike (cc) (versionFound (number s 0 1)) refl))

@@ -3,7 +3,7 @@
 use Prim.Native.Nat.{ℕ, zero, suc, _+_, _*_, _^_, _≤_, _<_}
 use mathlib.Core.Bool.{Bool, true, false}
 use mathlib.Core.List.{List, [], _∷_, _++_}
-use mathlib.Core.Logic.{_⊎_, inr}
+use mathlib.Core.Logic.{_↔_, _⊎_, inl, inr}
 use mathlib.Core.Path.{_≡_, refl, sym, ap, _∙_, subst}
 use native.Mathlib.Nat.{pow-suc}
 use native.Mathlib.Omega.{arith}
@@ -15,7 +15,8 @@ use Rattle.rtr_models.specs.Codes.{versionFound}
 use Rattle.rtr_models.specs.declared.RtrPdu.{RtrPdu}
 use Rattle.rtr_codec.specs.Bytes.{number}
 use Rattle.rtr_codec.specs.Reading.{Reading, rfc, crate}
-use Rattle.rtr_codec.specs.Departures.{Departure, has, applies}
+use Rattle.rtr_codec.specs.Departures.{Departure, has, only, applies}
+use Rattle.rtr_codec.specs.Departures.Departure.{codeEightInV0, bytesBehindText, keyByCrate}
 use Rattle.rtr_codec.specs.Read.{headerLength, readVersioned, read, needed}
 use Rattle.rtr_codec.specs.Read.Verdict.{accepted, refused}
 use Rattle.rtr_codec.specs.Answers.{refusal, numberOf}
@@ -24,6 +25,7 @@ use Rattle.rtr_codec.specs.declared.RtrError.the-variants.{IncompletePdu
 use Rattle.rtr_codec.proofs.Whole.{Whole, versioned-whole}
 use Rattle.rtr_codec.proofs.Behind.{number-behind, header-behind, versioned-behind}
 use Rattle.rtr_codec.proofs.Departs.{read-alike}
+use Rattle.rtr_codec.proofs.Differ.{agree-alike}
 
 data Reach (s : List ℕ) : Type 0 where
   short : length s < 8 → Reach s
@@ -167,12 +169,57 @@ read-needs-only-consumed R s n p q r =
     ∙ read-behind R (take n s) (drop n s) (omega (arith, needed-large (take n s) (omega arith))))
 
 -- readings that differ only in departures that do not apply to a slice give the same verdict
-pub readings-agree : (R R′ : Reading) (s : List ℕ) → ((d : Departure) → (has R d ≡ has R′ d) ⊎ (applies d s ≡ false)) → read R s ≡ read R′ s
+pub readings-agree : (R R′ : Reading) (s : List ℕ) → ((d : Departure) → (has R d ≡ has R′ d) ⊎ (applies R d s ≡ false)) → read R s ≡ read R′ s
 readings-agree R R′ s h = read-alike R R′ s h
 
 -- where no named departure applies, the crate reads as the RFCs do
-pub read-departs : (s : List ℕ) → ((d : Departure) → applies d s ≡ false) → read crate s ≡ read rfc s
-read-departs s h = readings-agree crate rfc s (λ d. inr (h d))
+pub read-departs : (s : List ℕ) → ((d : Departure) → applies rfc d s ≡ false) → read crate s ≡ read rfc s
+read-departs s h = sym (readings-agree rfc crate s (λ d. inr (h d)))
+
+-- and the other way: readings give the same verdict exactly if each departure in which they differ does not apply
+pub readings-agree-exactly : (R R′ : Reading) (s : List ℕ) → (read R s ≡ read R′ s) ↔ ((d : Departure) → (has R d ≡ has R′ d) ⊎ (applies R d s ≡ false))
+readings-agree-exactly R R′ s = (agree-alike R R′ s, readings-agree R R′ s)
+
+other-way : (b : Bool) → (false ≡ true) ⊎ (b ≡ false) → b ≡ false
+other-way b (inl e) = let z : _≡_ {A = ℕ} 0 1 = cc in absurd (omega arith)
+other-way b (inr e) = e
+
+-- so the crate reads as the RFCs do exactly where no departure applies
+pub read-departs-exactly : (s : List ℕ) → (read crate s ≡ read rfc s) ↔ ((d : Departure) → applies rfc d s ≡ false)
+read-departs-exactly s = (λ e d. differs d (agree-alike rfc crate s (sym e) d), read-departs s)
+  where
+    differs : (d : Departure) → (has rfc d ≡ has crate d) ⊎ (applies rfc d s ≡ false) → applies rfc d s ≡ false
+    differs codeEightInV0 x = other-way _ x
+    differs bytesBehindText x = other-way _ x
+    differs keyByCrate x = other-way _ x
+
+-- in other words: wherever a departure applies to the RFCs' reading, the crate's differs from it
+pub departure-shows : (d : Departure) (s : List ℕ) → applies rfc d s ≡ true → read crate s ≡ read rfc s → ⊥
+departure-shows d s a e =
+    let none : applies rfc d s ≡ false = read-departs-exactly s .0 e d in
+    let z : _≡_ {A = ℕ} 0 1 = cc in
+    omega arith
+
+-- and each departure alone changes the RFCs' reading of exactly the slices to which it applies
+pub each-departs-exactly : (d : Departure) (s : List ℕ) → (read (only d) s ≡ read rfc s) ↔ (applies rfc d s ≡ false)
+each-departs-exactly codeEightInV0 s = (λ e. other-way _ (agree-alike rfc (only codeEightInV0) s (sym e) codeEightInV0), λ h. sym (readings-agree rfc (only codeEightInV0) s (alone h)))
+  where
+    alone : applies rfc codeEightInV0 s ≡ false → (d : Departure) → (has rfc d ≡ has (only codeEightInV0) d) ⊎ (applies rfc d s ≡ false)
+    alone h codeEightInV0 = inr h
+    alone h bytesBehindText = inl refl
+    alone h keyByCrate = inl refl
+each-departs-exactly bytesBehindText s = (λ e. other-way _ (agree-alike rfc (only bytesBehindText) s (sym e) bytesBehindText), λ h. sym (readings-agree rfc (only bytesBehindText) s (alone h)))
+  where
+    alone : applies rfc bytesBehindText s ≡ false → (d : Departure) → (has rfc d ≡ has (only bytesBehindText) d) ⊎ (applies rfc d s ≡ false)
+    alone h codeEightInV0 = inl refl
+    alone h bytesBehindText = inr h
+    alone h keyByCrate = inl refl
+each-departs-exactly keyByCrate s = (λ e. other-way _ (agree-alike rfc (only keyByCrate) s (sym e) keyByCrate), λ h. sym (readings-agree rfc (only keyByCrate) s (alone h)))
+  where
+    alone : applies rfc keyByCrate s ≡ false → (d : Departure) → (has rfc d ≡ has (only keyByCrate) d) ⊎ (applies rfc d s ≡ false)
+    alone h codeEightInV0 = inl refl
+    alone h bytesBehindText = inl refl
+    alone h keyByCrate = inr h
 
 -- an error is a refusal by its number, with some values: whoever only needs that lists no errors
 pub refusal-is : (error : RtrError) → (values : List ℕ) × (refusal error ≡ refused (numberOf (refusal error)) values)

@@ -8,6 +8,7 @@ pub mod Rules
 mod Whole
 mod Behind
 mod Departs
+mod Differ
 mod Runs
 mod Text
 mod Plain

@@ -12,7 +12,7 @@ use Rattle.rtr_models.specs.declared.Interval.{Interval}
 use Rattle.rtr_models.specs.declared.RtrPdu.{RtrPdu}
 use Rattle.rtr_models.specs.declared.RtrPdu.the-variants.{ResetQuery, CacheResponse, IPv4Prefix, EndOfData, RouterKey, ErrorReport}
 use Rattle.rtr_codec.specs.Bytes.{number}
-use Rattle.rtr_codec.specs.Reading.{rfc, crate, inUse}
+use Rattle.rtr_codec.specs.Reading.{Reading, rfc, crate, inUse}
 use Rattle.rtr_codec.specs.Departures.{applies}
 use Rattle.rtr_codec.specs.Departures.Departure.{codeEightInV0, bytesBehindText, keyByCrate}
 use Rattle.rtr_codec.specs.Read.{headerLength, readResetQuery, readCacheResponse, readIPv4Prefix, readEndOfData, readRouterKey, readText, readEncapsulated, readCode, readErrorReport, readAs, readTyped, readVersioned, read}
@@ -77,14 +77,14 @@ unfolding number headerLength readRouterKey readAs readTyped readVersioned read
 key-in-rfc = refl
 
 -- each departure applies to its slice, and not to the like of it that the RFCs allow
-pub departures-apply : (applies codeEightInV0 reportOfEight ≡ true) × (applies bytesBehindText byteBehind ≡ true) × (applies keyByCrate bareKey ≡ true)
+pub departures-apply : (R : Reading) → (applies R codeEightInV0 reportOfEight ≡ true) × (applies R bytesBehindText byteBehind ≡ true) × (applies R keyByCrate bareKey ≡ true)
 unfolding number headerLength applies
-departures-apply = (refl, refl, refl)
+departures-apply R = (refl, refl, refl)
 
-pub departures-spare
-    : (applies codeEightInV0 (1 ∷ drop 1 reportOfEight) ≡ false) × (applies bytesBehindText reportOfEight ≡ false) × (applies keyByCrate (0 ∷ drop 1 bareKey) ≡ false)
+pub departures-spare : (R : Reading)
+    → (applies R codeEightInV0 (1 ∷ drop 1 reportOfEight) ≡ false) × (applies R bytesBehindText (1 ∷ drop 1 reportOfEight) ≡ false) × (applies R keyByCrate (0 ∷ drop 1 bareKey) ≡ false)
 unfolding number headerLength applies
-departures-spare = (refl, refl, refl)
+departures-spare R = (refl, refl, refl)
 
 -- Document 01, Either side of each edge: the lines for reading
 

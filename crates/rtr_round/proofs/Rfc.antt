@@ -87,21 +87,19 @@ module _ (s : List ℕ) (bs : Bytes s) (n : ℕ) (whole : n ≤ length s) where
 
   end-received : (v : RtrProtocolVersion) (p : RtrEndOfData) → number s 0 1 ≡ version v → number s 1 1 ≡ 7 → number s 4 4 ≡ n → n ≡ headerLength s → endStands v p s → EndReceived v p (take n s)
   end-received V0 p v t m h k =
-      let l : n ≡ 12 = h ∙ k .0 in
-      (
+      let l : n ≡ 12 = h ∙ k .0 in (
         stands (endOfDataV0 _ _) .1 (sym l, (one 0 _ (omega arith) .1 v, (one 1 _ (omega arith) .1 t, (two 2 _ (omega arith) .1 (k .1), (four 4 _ (omega arith) .1 (m ∙ l), (four 8 _ (omega arith) .1 (k .2), tt)))))),
         sym (k .3),
         sym (k .4),
         sym (k .5),
       )
   end-received V1 p v t m h k =
-      let l : n ≡ 24 = h ∙ k .0 in
-      (
+      let l : n ≡ 24 = h ∙ k .0 in (
         number s 12 4,
         number s 16 4,
         number s 20 4,
         stands (endOfDataV1 _ _ _ _ _) .1
-        (sym l, (one 0 _ (omega arith) .1 v, (one 1 _ (omega arith) .1 t, (two 2 _ (omega arith) .1 (k .1), (four 4 _ (omega arith) .1 (m ∙ l), (four 8 _ (omega arith) .1 (k .2), (four 12 _ (omega arith) .1 refl, (four 16 _ (omega arith) .1 refl, (four 20 _ (omega arith) .1 refl, tt))))))))),
+            (sym l, (one 0 _ (omega arith) .1 v, (one 1 _ (omega arith) .1 t, (two 2 _ (omega arith) .1 (k .1), (four 4 _ (omega arith) .1 (m ∙ l), (four 8 _ (omega arith) .1 (k .2), (four 12 _ (omega arith) .1 refl, (four 16 _ (omega arith) .1 refl, (four 20 _ (omega arith) .1 refl, tt))))))))),
         sym (k .3),
         sym (k .4),
         sym (k .5),
@@ -136,11 +134,10 @@ module _ (s : List ℕ) (bs : Bytes s) (n : ℕ) (whole : n ≤ length s) where
       stands (serialQuery _ _ _) .1
       (sym l, (one 0 _ (omega arith) .1 (version-at-0 _ k), (one 1 _ (omega arith) .1 (k .type), (two 2 _ (omega arith) .1 (k .kind .1), (four 4 _ (omega arith) .1 (length-at-4 _ k ∙ l), (four 8 _ (omega arith) .1 (k .kind .2), tt))))))
   received (ResetQuery p) k =
-      let l : n ≡ 8 = k .total ∙ k .kind in
-      (
+      let l : n ≡ 8 = k .total ∙ k .kind in (
         number s 2 2,
         stands (resetQuery _ _) .1
-        (sym l, (one 0 _ (omega arith) .1 (version-at-0 _ k), (one 1 _ (omega arith) .1 (k .type), (two 2 _ (omega arith) .1 refl, (four 4 _ (omega arith) .1 (length-at-4 _ k ∙ l), tt))))),
+            (sym l, (one 0 _ (omega arith) .1 (version-at-0 _ k), (one 1 _ (omega arith) .1 (k .type), (two 2 _ (omega arith) .1 refl, (four 4 _ (omega arith) .1 (length-at-4 _ k ∙ l), tt))))),
       )
   received (CacheResponse p) k =
       let l : n ≡ 8 = k .total ∙ k .kind .0 in
@@ -148,33 +145,30 @@ module _ (s : List ℕ) (bs : Bytes s) (n : ℕ) (whole : n ≤ length s) where
       (sym l, (one 0 _ (omega arith) .1 (version-at-0 _ k), (one 1 _ (omega arith) .1 (k .type), (two 2 _ (omega arith) .1 (k .kind .1), (four 4 _ (omega arith) .1 (length-at-4 _ k ∙ l), tt)))))
   received (IPv4Prefix p) k =
       let x = k .kind in
-      let l : n ≡ 20 = k .total ∙ x .0 in
-      (
+      let l : n ≡ 20 = k .total ∙ x .0 in (
         number s 2 2,
         number s 11 1,
         stands (ipv4Prefix _ _ _ _ _ _ _ _) .1
-        (sym l, (one 0 _ (omega arith) .1 (version-at-0 _ k), (one 1 _ (omega arith) .1 (k .type), (two 2 _ (omega arith) .1 refl, (four 4 _ (omega arith) .1 (length-at-4 _ k ∙ l), (one 8 _ (omega arith) .1 (x .1), (one 9 _ (omega arith) .1 (x .2), (one 10 _ (omega arith) .1 (x .3), (one 11 _ (omega arith) .1 refl, (four 12 _ (omega arith) .1 (x .4), (four 16 _ (omega arith) .1 (x .5), tt))))))))))),
+            (sym l, (one 0 _ (omega arith) .1 (version-at-0 _ k), (one 1 _ (omega arith) .1 (k .type), (two 2 _ (omega arith) .1 refl, (four 4 _ (omega arith) .1 (length-at-4 _ k ∙ l), (one 8 _ (omega arith) .1 (x .1), (one 9 _ (omega arith) .1 (x .2), (one 10 _ (omega arith) .1 (x .3), (one 11 _ (omega arith) .1 refl, (four 12 _ (omega arith) .1 (x .4), (four 16 _ (omega arith) .1 (x .5), tt))))))))))),
         x .6,
         x .7,
       )
   received (IPv6Prefix p) k =
       let x = k .kind in
-      let l : n ≡ 32 = k .total ∙ x .0 in
-      (
+      let l : n ≡ 32 = k .total ∙ x .0 in (
         number s 2 2,
         number s 11 1,
         stands (ipv6Prefix _ _ _ _ _ _ _ _ _ _ _) .1
-        (sym l, (one 0 _ (omega arith) .1 (version-at-0 _ k), (one 1 _ (omega arith) .1 (k .type), (two 2 _ (omega arith) .1 refl, (four 4 _ (omega arith) .1 (length-at-4 _ k ∙ l), (one 8 _ (omega arith) .1 (x .1), (one 9 _ (omega arith) .1 (x .2), (one 10 _ (omega arith) .1 (x .3), (one 11 _ (omega arith) .1 refl, (four 12 _ (omega arith) .1 (x .4), (four 16 _ (omega arith) .1 (x .5), (four 20 _ (omega arith) .1 (x .6), (four 24 _ (omega arith) .1 (x .7), (four 28 _ (omega arith) .1 (x .8), tt)))))))))))))),
+            (sym l, (one 0 _ (omega arith) .1 (version-at-0 _ k), (one 1 _ (omega arith) .1 (k .type), (two 2 _ (omega arith) .1 refl, (four 4 _ (omega arith) .1 (length-at-4 _ k ∙ l), (one 8 _ (omega arith) .1 (x .1), (one 9 _ (omega arith) .1 (x .2), (one 10 _ (omega arith) .1 (x .3), (one 11 _ (omega arith) .1 refl, (four 12 _ (omega arith) .1 (x .4), (four 16 _ (omega arith) .1 (x .5), (four 20 _ (omega arith) .1 (x .6), (four 24 _ (omega arith) .1 (x .7), (four 28 _ (omega arith) .1 (x .8), tt)))))))))))))),
         x .9,
         x .10,
       )
   received (EndOfData p) k = end-received (p .version) p (version-at-0 _ k) (k .type) (length-at-4 _ k) (k .total) (k .kind)
   received (CacheReset p) k =
-      let l : n ≡ 8 = k .total ∙ k .kind in
-      (
+      let l : n ≡ 8 = k .total ∙ k .kind in (
         number s 2 2,
         stands (cacheReset _ _) .1
-        (sym l, (one 0 _ (omega arith) .1 (version-at-0 _ k), (one 1 _ (omega arith) .1 (k .type), (two 2 _ (omega arith) .1 refl, (four 4 _ (omega arith) .1 (length-at-4 _ k ∙ l), tt))))),
+            (sym l, (one 0 _ (omega arith) .1 (version-at-0 _ k), (one 1 _ (omega arith) .1 (k .type), (two 2 _ (omega arith) .1 refl, (four 4 _ (omega arith) .1 (length-at-4 _ k ∙ l), tt))))),
       )
   received (RouterKey p) k =
       let x = k .kind in
@@ -184,8 +178,7 @@ module _ (s : List ℕ) (bs : Bytes s) (n : ℕ) (whole : n ≤ length s) where
       let info : List ℕ = take (n - 32) (drop 32 s) in
       let twenty : length identifier ≡ 20 = length-part s 8 20 (omega arith) in
       let long : length info ≡ n - 32 = length-part s 32 (n - 32) (omega arith) in
-      let info-len : headerLength s - 32 ≡ length info = omega arith in
-      (
+      let info-len : headerLength s - 32 ≡ length info = omega arith in (
         number s 3 1,
         identifier,
         info,
@@ -205,8 +198,7 @@ module _ (s : List ℕ) (bs : Bytes s) (n : ℕ) (whole : n ≤ length s) where
       let text : List ℕ = take m (drop (16 + e) s) in
       let c : e ≡ length copy = sym (length-part s 12 e (omega arith)) in
       let d : m ≡ length text = sym (length-part s (16 + e) m (omega arith)) in
-      let small : codeNumber (p .«error_code») ≤ lastCode (p .version) = listed (p .version) (codeNumber (p .«error_code»)) .0 (rw (x .0) at (x .1)) in
-      (
+      let small : codeNumber (p .«error_code») ≤ lastCode (p .version) = listed (p .version) (codeNumber (p .«error_code»)) .0 (rw (x .0) at (x .1)) in (
         copy,
         text,
         report-each (version (p .version)) (code (p .«error_code»)) copy text (omega arith) (version-at-0 _ k) (k .type) (x .0 ∙ same-code (p .«error_code»)) (length-at-4 _ k) c (ap (λ (i : ℕ). take i (drop 12 s)) c) (ap (λ (i : ℕ). number s (12 + i) 4) (sym c) ∙ d) (λ i. take (d i) (drop (16 + c i) s)),
@@ -245,8 +237,7 @@ module _ (s : List ℕ) (bs : Bytes s) (n : ℕ) (whole : n ≤ length s) where
       let w = q .1 in
       let m = four 4 24 (omega arith) .0 (w .1 .1 .1 .0) in
       header-stands (EndOfData p) (omega arith) (one 0 1 (omega arith) .0 (w .0) ∙ ap version v) (one 1 7 (omega arith) .0 (w .1 .0)) (m ∙ l)
-      (rw (← v)
-      (
+      (rw (← v) (
         header-is s ∙ m,
         two 2 _ (omega arith) .0 (w .1 .1 .0),
         four 8 _ (omega arith) .0 (w .1 .1 .1 .1 .0),
@@ -288,8 +279,7 @@ module _ (s : List ℕ) (bs : Bytes s) (n : ℕ) (whole : n ≤ length s) where
       let w = q .1 in
       let m = four 4 20 (omega arith) .0 (w .1 .1 .1 .0) in
       let x = w .1 .1 .1 .1 in
-      header-stands (IPv4Prefix p) (omega arith) (one 0 _ (omega arith) .0 (w .0)) (one 1 4 (omega arith) .0 (w .1 .0)) (m ∙ l)
-      (
+      header-stands (IPv4Prefix p) (omega arith) (one 0 _ (omega arith) .0 (w .0)) (one 1 4 (omega arith) .0 (w .1 .0)) (m ∙ l) (
         header-is s ∙ m,
         one 8 _ (omega arith) .0 (x .0),
         one 9 _ (omega arith) .0 (x .1 .0),
@@ -309,8 +299,7 @@ module _ (s : List ℕ) (bs : Bytes s) (n : ℕ) (whole : n ≤ length s) where
       let m = four 4 32 (omega arith) .0 (w .1 .1 .1 .0) in
       let x = w .1 .1 .1 .1 in
       let y = x .1 .1 .1 .1 in
-      header-stands (IPv6Prefix p) (omega arith) (one 0 _ (omega arith) .0 (w .0)) (one 1 6 (omega arith) .0 (w .1 .0)) (m ∙ l)
-      (
+      header-stands (IPv6Prefix p) (omega arith) (one 0 _ (omega arith) .0 (w .0)) (one 1 6 (omega arith) .0 (w .1 .0)) (m ∙ l) (
         header-is s ∙ m,
         one 8 _ (omega arith) .0 (x .0),
         one 9 _ (omega arith) .0 (x .1 .0),
@@ -340,8 +329,7 @@ module _ (s : List ℕ) (bs : Bytes s) (n : ℕ) (whole : n ≤ length s) where
       let m = four 4 _ (omega arith) .0 (w .1 .1 .1 .1 .0) in
       let x = rw twenty at (w .1 .1 .1 .1 .1 .1) in
       let info-len : length info ≡ headerLength s - 32 = omega (arith, header-is s) in
-      header-stands (RouterKey p) (omega arith) (one 0 1 (omega arith) .0 (w .0) ∙ ap version (sym (r .3))) (one 1 9 (omega arith) .0 (w .1 .0)) (m ∙ l)
-      (
+      header-stands (RouterKey p) (omega arith) (one 0 1 (omega arith) .0 (w .0) ∙ ap version (sym (r .3))) (one 1 9 (omega arith) .0 (w .1 .0)) (m ∙ l) (
         sym (r .3),
         (
           omega (arith, header-is s),
@@ -365,8 +353,7 @@ module _ (s : List ℕ) (bs : Bytes s) (n : ℕ) (whole : n ≤ length s) where
       let there : text ≡ take (length text) (drop (16 + length copy) s) = w .1 .1 .1 .1 .1 .1 .1 .0 ∙ ap (λ (i : ℕ). take (length text) (drop i s)) seat in
       let small : codeNumber (p .«error_code») ≤ lastCode (p .version) = omega (arith, same-code (p .«error_code»), r .3) in
       header-stands (ErrorReport p) (omega arith) (one 0 _ (omega arith) .0 (w .0)) (one 1 10 (omega arith) .0 (w .1 .0)) (m ∙ l)
-      (rw (a, b)
-      (
+      (rw (a, b) (
         c,
         rw c (listed (p .version) (codeNumber (p .«error_code»)) .1 small),
         sym (r .5),
