@@ -6,15 +6,14 @@ use mathlib.Core.List.{List, [], _∷_}
 use mathlib.Core.Logic.{_⊎_, inl, inr}
 use mathlib.Core.Path.{_≡_, refl, sym, ap, _∙_}
 use native.Mathlib.Omega.{arith}
-use borrow.Author.Tests.{eqb-true, leb-true, ltb-true, le-leb, lt-leb, ne-eqb}
+use borrow.Author.Tests.{eqb-true, leb-true, ltb-true, le-leb, ne-eqb}
 use lib.Dec.{leb, ltb, eqb}
 use lib.ListN.{length, take, drop}
 use Rattle.rtr_text.specs.Utf8.{wellFormed}
-use Rattle.rtr_models.specs.Codes.{versionFound, versionNumber, typeFound, codeFound}
-use Rattle.rtr_models.proofs.Laws.{version-known, type-known, code-known, code-unknown}
+use Rattle.rtr_models.specs.Codes.{versionNumber, codeFound}
+use Rattle.rtr_models.proofs.Laws.{version-known, code-known, code-unknown}
 use Rattle.rtr_models.specs.declared.RtrProtocolVersion.{RtrProtocolVersion}
 use Rattle.rtr_models.specs.declared.RtrProtocolVersion.the-variants.{V0, V1}
-use Rattle.rtr_models.specs.declared.RtrPduType.{RtrPduType}
 use Rattle.rtr_models.specs.declared.RtrErrorCode.{RtrErrorCode}
 use Rattle.rtr_models.specs.declared.RtrErrorCode.the-variants.{CorruptData, InternalError, NoDataAvailable, InvalidRequest, UnsupportedProtocolVersion, UnsupportedPduType, WithdrawalOfUnknownRecord, DuplicateAnnouncementReceived, UnexpectedProtocolVersion}
 use Rattle.rtr_models.specs.declared.CodeFound.{CodeFound}
@@ -22,11 +21,11 @@ use Rattle.rtr_models.specs.declared.RtrRouterKey.{RtrRouterKey}
 use Rattle.rtr_models.specs.declared.RtrPdu.{RtrPdu}
 use Rattle.rtr_codec.specs.Bytes.{number}
 use Rattle.rtr_codec.specs.Reading.{Reading}
-use Rattle.rtr_codec.specs.Departures.{Departure, has, headed, there, reported, applies}
+use Rattle.rtr_codec.specs.Departures.{headed, there, reported, applies}
 use Rattle.rtr_codec.specs.Departures.Departure.{codeEightInV0, bytesBehindText, keyByCrate}
 use Rattle.rtr_codec.specs.Answers.{numberOf}
 use Rattle.rtr_codec.specs.Read.{Verdict, need, headerLength, ends, lastCode, codeIn, keyFields, readKey, readRouterKey, readText, readEncapsulated, readCode, readErrorReport, readAs, readTyped, readVersioned, read}
-use Rattle.rtr_codec.specs.Read.Verdict.{accepted, refused}
+use Rattle.rtr_codec.specs.Read.Verdict.{accepted}
 use Rattle.rtr_codec.proofs.Departs.{Alike}
 
 -- a test that holds in both of its parts

@@ -19,13 +19,10 @@ use Rattle.rtr_models.specs.declared.RtrErrorCode.the-variants.{CorruptData, In
 use Rattle.rtr_models.specs.Values.{typeOf, versionOf}
 use Rattle.rtr_models.specs.declared.Interval.the-variants.{Seconds}
 use Rattle.rtr_models.specs.declared.RtrEndOfData.{RtrEndOfData}
-use Rattle.rtr_models.specs.declared.RtrRouterKey.{RtrRouterKey}
-use Rattle.rtr_models.specs.declared.RtrErrorReport.{RtrErrorReport}
 use Rattle.rtr_models.specs.declared.RtrPdu.{RtrPdu}
 use Rattle.rtr_models.specs.declared.RtrPdu.the-variants.{SerialNotify, SerialQuery, ResetQuery, CacheResponse, IPv4Prefix, IPv6Prefix, EndOfData, CacheReset, RouterKey, ErrorReport}
 use Rattle.rtr_codec.specs.Bytes.{number}
 use Rattle.rtr_codec.specs.Reading.{rfc}
-use Rattle.rtr_codec.specs.Layout.{place}
 use Rattle.rtr_codec.specs.Read.{codeIn, headerLength, read}
 use Rattle.rtr_codec.specs.Read.Verdict.{accepted}
 use Rattle.rtr_codec.specs.Stands.{endStands, kindStands, Stands}

@@ -8,7 +8,7 @@ use native.Mathlib.Omega.{arith}
 use borrow.Author.Tests.{eqb-true, leb-true}
 use lib.Dec.{eqb}
 use lib.ListN.{length, take, drop}
-use Rattle.rtr_models.specs.Codes.{versionNumber, typeNumber, codeNumber}
+use Rattle.rtr_models.specs.Codes.{typeNumber}
 use Rattle.rtr_models.specs.Values.{secondsOr, typeOf}
 use Rattle.rtr_models.specs.Parts.{inside, keyInside}
 use Rattle.rtr_models.specs.declared.Place.{Place}

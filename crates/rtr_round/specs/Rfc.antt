@@ -28,7 +28,7 @@ bits16 n = n / 256 ∷ n % 256 ∷ []
 abbrev pub bits32 : ℕ → List ℕ
 bits32 n = bits16 (n / 65536) ++ bits16 (n % 65536)
 
--- a picture is its fields, row by row and from left to right; its bytes are theirs
+-- a picture is its fields, row by row as the RFCs draw them, and from left to right; its bytes are theirs
 abbrev pub Picture : Type 0
 Picture = List (List ℕ)
 
@@ -40,52 +40,92 @@ bytes (field ∷ more) = field ++ bytes more
 
 -- 5.2 Serial Notify
 abbrev pub serialNotify : ℕ → ℕ → ℕ → Picture
-serialNotify version session serial = bits8 version ∷ bits8 0 ∷ bits16 session ∷ bits32 12 ∷ bits32 serial ∷ []
+serialNotify version session serial =
+    bits8 version ∷ bits8 0 ∷ bits16 session ∷
+    bits32 12 ∷
+    bits32 serial ∷ []
 
 -- 5.3 Serial Query
 abbrev pub serialQuery : ℕ → ℕ → ℕ → Picture
-serialQuery version session serial = bits8 version ∷ bits8 1 ∷ bits16 session ∷ bits32 12 ∷ bits32 serial ∷ []
+serialQuery version session serial =
+    bits8 version ∷ bits8 1 ∷ bits16 session ∷
+    bits32 12 ∷
+    bits32 serial ∷ []
 
 -- 5.4 Reset Query
 abbrev pub resetQuery : ℕ → ℕ → Picture
-resetQuery version reserved = bits8 version ∷ bits8 2 ∷ bits16 reserved ∷ bits32 8 ∷ []
+resetQuery version reserved =
+    bits8 version ∷ bits8 2 ∷ bits16 reserved ∷
+    bits32 8 ∷ []
 
 -- 5.5 Cache Response
 abbrev pub cacheResponse : ℕ → ℕ → Picture
-cacheResponse version session = bits8 version ∷ bits8 3 ∷ bits16 session ∷ bits32 8 ∷ []
+cacheResponse version session =
+    bits8 version ∷ bits8 3 ∷ bits16 session ∷
+    bits32 8 ∷ []
 
 -- 5.6 IPv4 Prefix
 abbrev pub ipv4Prefix : ℕ → ℕ → ℕ → ℕ → ℕ → ℕ → ℕ → ℕ → Picture
 ipv4Prefix version reserved flags prefixLength maxLength reserved′ prefix asn =
-    bits8 version ∷ bits8 4 ∷ bits16 reserved ∷ bits32 20 ∷ bits8 flags ∷ bits8 prefixLength ∷ bits8 maxLength ∷ bits8 reserved′ ∷ bits32 prefix ∷ bits32 asn ∷ []
+    bits8 version ∷ bits8 4 ∷ bits16 reserved ∷
+    bits32 20 ∷
+    bits8 flags ∷ bits8 prefixLength ∷ bits8 maxLength ∷ bits8 reserved′ ∷
+    bits32 prefix ∷
+    bits32 asn ∷ []
 
 -- 5.7 IPv6 Prefix: the prefix is 128 bits, four rows
 abbrev pub ipv6Prefix : ℕ → ℕ → ℕ → ℕ → ℕ → ℕ → ℕ → ℕ → ℕ → ℕ → ℕ → Picture
 ipv6Prefix version reserved flags prefixLength maxLength reserved′ prefix0 prefix1 prefix2 prefix3 asn =
-    bits8 version ∷ bits8 6 ∷ bits16 reserved ∷ bits32 32 ∷ bits8 flags ∷ bits8 prefixLength ∷ bits8 maxLength ∷ bits8 reserved′ ∷ bits32 prefix0 ∷ bits32 prefix1 ∷ bits32 prefix2 ∷ bits32 prefix3 ∷ bits32 asn ∷ []
+    bits8 version ∷ bits8 6 ∷ bits16 reserved ∷
+    bits32 32 ∷
+    bits8 flags ∷ bits8 prefixLength ∷ bits8 maxLength ∷ bits8 reserved′ ∷
+    bits32 prefix0 ∷
+    bits32 prefix1 ∷
+    bits32 prefix2 ∷
+    bits32 prefix3 ∷
+    bits32 asn ∷ []
 
 -- RFC 6810, 5.8 End of Data: no intervals
 abbrev pub endOfDataV0 : ℕ → ℕ → Picture
-endOfDataV0 session serial = bits8 0 ∷ bits8 7 ∷ bits16 session ∷ bits32 12 ∷ bits32 serial ∷ []
+endOfDataV0 session serial =
+    bits8 0 ∷ bits8 7 ∷ bits16 session ∷
+    bits32 12 ∷
+    bits32 serial ∷ []
 
 -- 5.8 End of Data
 abbrev pub endOfDataV1 : ℕ → ℕ → ℕ → ℕ → ℕ → Picture
 endOfDataV1 session serial refresh retry expire =
-    bits8 1 ∷ bits8 7 ∷ bits16 session ∷ bits32 24 ∷ bits32 serial ∷ bits32 refresh ∷ bits32 retry ∷ bits32 expire ∷ []
+    bits8 1 ∷ bits8 7 ∷ bits16 session ∷
+    bits32 24 ∷
+    bits32 serial ∷
+    bits32 refresh ∷
+    bits32 retry ∷
+    bits32 expire ∷ []
 
 -- 5.9 Cache Reset
 abbrev pub cacheReset : ℕ → ℕ → Picture
-cacheReset version reserved = bits8 version ∷ bits8 8 ∷ bits16 reserved ∷ bits32 8 ∷ []
+cacheReset version reserved =
+    bits8 version ∷ bits8 8 ∷ bits16 reserved ∷
+    bits32 8 ∷ []
 
 -- 5.10 Router Key (RFC 6810 has none): "Length" is all of it (5.1), so 32 and the key info
 abbrev pub routerKey : ℕ → ℕ → List ℕ → ℕ → List ℕ → Picture
 routerKey flags reserved identifier asn info =
-    bits8 1 ∷ bits8 9 ∷ bits8 flags ∷ bits8 reserved ∷ bits32 (32 + length info) ∷ identifier ∷ bits32 asn ∷ info ∷ []
+    bits8 1 ∷ bits8 9 ∷ bits8 flags ∷ bits8 reserved ∷
+    bits32 (32 + length info) ∷
+    identifier ∷
+    bits32 asn ∷
+    info ∷ []
 
 -- 5.11 Error Report (RFC 6810, 5.10): so 16 and both payloads
 abbrev pub errorReport : ℕ → ℕ → List ℕ → List ℕ → Picture
 errorReport version code copy text =
-    bits8 version ∷ bits8 10 ∷ bits16 code ∷ bits32 (16 + length copy + length text) ∷ bits32 (length copy) ∷ copy ∷ bits32 (length text) ∷ text ∷ []
+    bits8 version ∷ bits8 10 ∷ bits16 code ∷
+    bits32 (16 + length copy + length text) ∷
+    bits32 (length copy) ∷
+    copy ∷
+    bits32 (length text) ∷
+    text ∷ []
 
 -- ---- Numbers
 
