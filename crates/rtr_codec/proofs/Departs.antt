@@ -1,12 +1,12 @@
 -- Two readings that differ only in departures that do not apply to a slice read it alike. A check before a switch has passed where the switch is asked; the version and the type that were found are the header's (the tables' laws), so
 -- each switch is asked only where its departure applies, or where both of its ways give the same test. Assumes nothing.
 use Prim.Native.Nat.{ℕ, _≤_, _+_}
-use mathlib.Core.Bool.{Bool, true, false, _&&_, and-true}
+use mathlib.Core.Bool.{Bool, true, false}
 use mathlib.Core.List.{List}
 use mathlib.Core.Logic.{_⊎_, inl, inr}
 use mathlib.Core.Path.{_≡_, refl, sym, ap, _∙_}
 use native.Mathlib.Omega.{arith}
-use borrow.Author.Tests.{eq-eqb, le-leb, leb-true, leb-false, ltb-false, eqb-false, ne-eqb}
+use borrow.Author.Tests.{eq-eqb, le-leb, leb-true, leb-false, ltb-false, eqb-true, eqb-false, ne-eqb}
 use lib.Dec.{leb, ltb, eqb}
 use lib.ListN.{length}
 use Rattle.rtr_models.specs.Codes.{versionFound, versionNumber, typeFound, typeNumber, codeFound}
@@ -23,7 +23,7 @@ use Rattle.rtr_codec.specs.Bytes.{number}
 use Rattle.rtr_codec.specs.Reading.{Reading}
 use Rattle.rtr_codec.specs.Departures.{Departure, has, there, reported, applies}
 use Rattle.rtr_codec.specs.Departures.Departure.{codeEightInV0, bytesBehindText, keyByCrate}
-use Rattle.rtr_codec.specs.Read.{Verdict, need, headerLength, ends, lastCode, codeIn, keyFields, readKey, readRouterKey, readText, readEncapsulated, readCode, readErrorReport, readAs, readTyped, readVersioned, read}
+use Rattle.rtr_codec.specs.Read.{Verdict, need, headerLength, ends, codeIn, keyFields, readKey, readRouterKey, readText, readEncapsulated, readCode, readErrorReport, readAs, readTyped, readVersioned, read}
 
 -- R and R′ agree on a departure, or it does not apply to s
 abbrev pub Alike : Reading → Reading → List ℕ → Type 0
@@ -37,63 +37,61 @@ need-alike false true k values x y e f = let z : _≡_ {A = ℕ} 0 1 = cc in abs
 need-alike false false k values x y e f = refl
 
 -- where the text does not end before the PDU does, both ways of the switch are one test
-ends-alike : (b b′ : Bool) (x h : ℕ) → (b ≡ b′) ⊎ (ltb x h ≡ false) → ends b x h ≡ ends b′ x h
-ends-alike b b′ x h (inl e) = rw e
-ends-alike b b′ x h (inr e) = one b ∙ sym (one b′)
+ends-alike : (b b′ : Bool) (x h : ℕ) → (ltb x h ≡ true → b ≡ b′) → ends b x h ≡ ends b′ x h
+ends-alike b b′ x h same = go (ltb x h) refl
   where
-    go : (q : Bool) → leb x h ≡ q → leb x h ≡ eqb x h
-    go true p = p ∙ sym (eq-eqb x h (omega (arith, leb-true x h p, ltb-false x h e)))
-    go false p = p ∙ sym (ne-eqb x h (λ i. omega (arith, leb-false x h p)))
+    one : (c : Bool) → ltb x h ≡ false → ends c x h ≡ eqb x h
+    one true e = both (leb x h) refl
+      where
+        both : (q : Bool) → leb x h ≡ q → leb x h ≡ eqb x h
+        both true p = p ∙ sym (eq-eqb x h (omega (arith, leb-true x h p, ltb-false x h e)))
+        both false p = p ∙ sym (ne-eqb x h (λ i. omega (arith, leb-false x h p)))
+    one false e = refl
 
-    one : (c : Bool) → ends c x h ≡ eqb x h
-    one true = go (leb x h) refl
-    one false = refl
+    go : (q : Bool) → ltb x h ≡ q → ends b x h ≡ ends b′ x h
+    go true e = ap (λ (c : Bool). ends c x h) (same e)
+    go false e = one b e ∙ sym (one b′ e)
 
 -- a known code is in every version's list, but for 8 in version 0
-code-alike : (b b′ : Bool) (v : RtrProtocolVersion) (n : ℕ) → n ≤ 8 → (b ≡ b′) ⊎ ((eqb (versionNumber v) 0 && eqb n 8) ≡ false) → codeIn b v n ≡ codeIn b′ v n
-code-alike b b′ v n h (inl e) = rw e
-code-alike b b′ v n h (inr e) = one b ∙ sym (one b′)
+code-alike : (b b′ : Bool) (v : RtrProtocolVersion) (n : ℕ) → n ≤ 8 → (versionNumber v ≡ 0 → n ≡ 8 → b ≡ b′) → codeIn b v n ≡ codeIn b′ v n
+code-alike b b′ V1 n h same = let listed : leb n 8 ≡ true = le-leb n 8 h in simp listed
+code-alike b b′ V0 n h same = go (eqb n 8) refl
   where
-    listed : (w : RtrProtocolVersion) → (eqb (versionNumber w) 0 && eqb n 8) ≡ false → leb n (lastCode w) ≡ true
-    listed V0 q = le-leb n 7 (omega (arith, eqb-false n 8 q))
-    listed V1 q = le-leb n 8 h
-
-    one : (c : Bool) → codeIn c v n ≡ true
-    one c = simp (listed v e)
+    go : (q : Bool) → eqb n 8 ≡ q → codeIn b V0 n ≡ codeIn b′ V0 n
+    go true e = ap (λ (c : Bool). codeIn c V0 n) (same refl (eqb-true n 8 e))
+    go false e = let listed : leb n 7 ≡ true = le-leb n 7 (omega (arith, eqb-false n 8 e)) in simp listed
 
 -- a report of a known version whose code is in the reading's list is reported
-pub reported-is : (R : Reading) (s : List ℕ) (v : RtrProtocolVersion) → number s 0 1 ≡ versionNumber v → number s 1 1 ≡ 10 → codeIn (R .codeEightInV0) v (number s 2 2) ≡ true → reported R s ≡ true
+reported-is : (R : Reading) (s : List ℕ) (v : RtrProtocolVersion) → number s 0 1 ≡ versionNumber v → number s 1 1 ≡ 10 → codeIn (R .codeEightInV0) v (number s 2 2) ≡ true → reported R s ≡ true
 reported-is R s V0 q t c = simp (q, t, c)
 reported-is R s V1 q t c = simp (q, t, c)
 
+-- a departure applies where its switch is asked and matters
+key-applies : (R : Reading) (s : List ℕ) → there s ≡ true → number s 0 1 ≡ 1 → number s 1 1 ≡ 9 → applies R keyByCrate s ≡ true
+unfolding applies
+key-applies R s here v t = simp (here, v, t)
+
+code-applies : (R : Reading) (s : List ℕ) → there s ≡ true → number s 0 1 ≡ 0 → number s 1 1 ≡ 10 → leb 16 (headerLength s) ≡ true → number s 2 2 ≡ 8 → applies R codeEightInV0 s ≡ true
+unfolding applies
+code-applies R s here v t l c = simp (here, v, t, l, c)
+
+text-applies : (R : Reading) (s : List ℕ) → there s ≡ true → reported R s ≡ true → ltb (16 + number s 8 4 + number s (12 + number s 8 4) 4) (headerLength s) ≡ true → applies R bytesBehindText s ≡ true
+unfolding applies
+text-applies R s here r e = simp (here, r, e)
+
 module _ (R R′ : Reading) (s : List ℕ) (alike : Alike R R′ s) (here : there s ≡ true) where
-  key-alike : number s 0 1 ≡ 1 → number s 1 1 ≡ 9 → R .keyByCrate ≡ R′ .keyByCrate
-  unfolding applies
-  key-alike v t = go (alike keyByCrate)
+  switch : (d : Departure) → applies R d s ≡ true → has R d ≡ has R′ d
+  switch d a = go (alike d)
     where
-      go : (R .keyByCrate ≡ R′ .keyByCrate) ⊎ ((there s && (eqb (number s 0 1) 1 && eqb (number s 1 1) 9)) ≡ false) → R .keyByCrate ≡ R′ .keyByCrate
+      go : (has R d ≡ has R′ d) ⊎ (applies R d s ≡ false) → has R d ≡ has R′ d
       go (inl e) = e
-      go (inr e) = let z : true ≡ false = sym (simp (here, eq-eqb _ _ v, eq-eqb _ _ t)) ∙ e in cc
+      go (inr e) = cc
 
   text-alike : reported R s ≡ true → (v : RtrProtocolVersion) (c : RtrErrorCode)
       → readText R v c (number s 8 4) (number s (12 + number s 8 4) 4) s ≡ readText R′ v c (number s 8 4) (number s (12 + number s 8 4) 4) s
-  unfolding readText applies
-  text-alike r v c = simp (ends-alike (R .bytesBehindText) (R′ .bytesBehindText) (16 + number s 8 4 + number s (12 + number s 8 4) 4) (headerLength s) (go (alike bytesBehindText)))
-    where
-      go : (R .bytesBehindText ≡ R′ .bytesBehindText) ⊎ ((there s && reported R s && ltb (16 + number s 8 4 + number s (12 + number s 8 4) 4) (headerLength s)) ≡ false)
-          → (R .bytesBehindText ≡ R′ .bytesBehindText) ⊎ (ltb (16 + number s 8 4 + number s (12 + number s 8 4) 4) (headerLength s) ≡ false)
-      go (inl e) = inl e
-      go (inr e) = inr (simp (here, r) at e)
-
-  code-switch : (v : RtrProtocolVersion) → number s 0 1 ≡ versionNumber v → number s 1 1 ≡ 10 → leb 16 (headerLength s) ≡ true
-      → (R .codeEightInV0 ≡ R′ .codeEightInV0) ⊎ ((eqb (versionNumber v) 0 && eqb (number s 2 2) 8) ≡ false)
-  unfolding applies
-  code-switch v q t l = go (alike codeEightInV0)
-    where
-      go : (R .codeEightInV0 ≡ R′ .codeEightInV0) ⊎ ((there s && (eqb (number s 0 1) 0 && eqb (number s 1 1) 10) && leb 16 (headerLength s) && eqb (number s 2 2) 8) ≡ false)
-          → (R .codeEightInV0 ≡ R′ .codeEightInV0) ⊎ ((eqb (versionNumber v) 0 && eqb (number s 2 2) 8) ≡ false)
-      go (inl e) = inl e
-      go (inr e) = inr (simp (here, l, q, eq-eqb _ _ t, and-true) at e)
+  unfolding readText
+  text-alike r v c =
+      simp (ends-alike (R .bytesBehindText) (R′ .bytesBehindText) (16 + number s 8 4 + number s (12 + number s 8 4) 4) (headerLength s) (λ e. switch bytesBehindText (text-applies R s here r e)))
 
   encapsulated-alike : reported R s ≡ true → (v : RtrProtocolVersion) (c : RtrErrorCode) → readEncapsulated R v c (number s 8 4) s ≡ readEncapsulated R′ v c (number s 8 4) s
   unfolding readEncapsulated
@@ -105,7 +103,7 @@ module _ (R R′ : Reading) (s : List ℕ) (alike : Alike R R′ s) (here : ther
   by-code v q t l CodeFound.Unknown e = refl
   by-code v q t l (CodeFound.Known c) e =
       let small : number s 2 2 ≤ 8 = omega (arith, code-known (number s 2 2) c .0 e, code-at-most-8 c) in
-      need-alike _ _ 7 _ _ _ (code-alike (R .codeEightInV0) (R′ .codeEightInV0) v (number s 2 2) small (code-switch v q t l))
+      need-alike _ _ 7 _ _ _ (code-alike (R .codeEightInV0) (R′ .codeEightInV0) v (number s 2 2) small (λ z c. switch codeEightInV0 (code-applies R s here (q ∙ z) t l c)))
       (λ x. encapsulated-alike (reported-is R s v q t x) v c)
 
   report-alike : (v : RtrProtocolVersion) → number s 0 1 ≡ versionNumber v → number s 1 1 ≡ 10 → readErrorReport R v s ≡ readErrorReport R′ v s
@@ -123,7 +121,7 @@ module _ (R R′ : Reading) (s : List ℕ) (alike : Alike R R′ s) (here : ther
   as-alike v EndOfData q t = refl
   as-alike v CacheReset q t = refl
   as-alike V0 RouterKey q t = refl
-  as-alike V1 RouterKey q t = ap (λ (b : Bool). readKey (keyFields b) s) (key-alike q t)
+  as-alike V1 RouterKey q t = ap (λ (b : Bool). readKey (keyFields b) s) (switch keyByCrate (key-applies R s here q t))
   as-alike v ErrorReport q t = report-alike v q t
 
   by-type : (v : RtrProtocolVersion) → number s 0 1 ≡ versionNumber v → (f : TypeFound) → typeFound (number s 1 1) ≡ f → readTyped R v (number s 1 1) f s ≡ readTyped R′ v (number s 1 1) f s
