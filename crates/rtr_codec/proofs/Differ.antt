@@ -1,7 +1,7 @@
 -- Where a departure applies, readings that differ in it differ in their verdicts: the converse of Departs. Where it applies, the checks before its switch have passed, so the verdict is what the switch gives: another length expected or
 -- another place for a key, 7 for a code, 4 for bytes behind a text. Assumes nothing.
 use Prim.Native.Nat.{ℕ, _+_, _≤_}
-use mathlib.Core.Bool.{Bool, true, false, cond, _&&_, _||_}
+use mathlib.Core.Bool.{Bool, true, false, cond, _&&_, _||_, and-false}
 use mathlib.Core.List.{List, [], _∷_}
 use mathlib.Core.Logic.{_⊎_, inl, inr}
 use mathlib.Core.Path.{_≡_, refl, sym, ap, _∙_}
@@ -21,17 +21,17 @@ use Rattle.rtr_models.specs.declared.RtrRouterKey.{RtrRouterKey}
 use Rattle.rtr_models.specs.declared.RtrPdu.{RtrPdu}
 use Rattle.rtr_codec.specs.Bytes.{number}
 use Rattle.rtr_codec.specs.Reading.{Reading}
-use Rattle.rtr_codec.specs.Departures.{headed, there, reported, applies}
+use Rattle.rtr_codec.specs.Departures.{reported, applies}
 use Rattle.rtr_codec.specs.Departures.Departure.{codeEightInV0, bytesBehindText, keyByCrate}
 use Rattle.rtr_codec.specs.Answers.{numberOf}
 use Rattle.rtr_codec.specs.Read.{Verdict, need, headerLength, ends, lastCode, codeIn, keyFields, readKey, readRouterKey, readText, readEncapsulated, readCode, readErrorReport, readAs, readTyped, readVersioned, read}
 use Rattle.rtr_codec.specs.Read.Verdict.{accepted}
 use Rattle.rtr_codec.proofs.Departs.{Alike}
 
--- a test that holds in both of its parts
-both : (a b : Bool) → (a && b) ≡ true → (a ≡ true) × (b ≡ true)
-both true b e = (refl, e)
-both false b e = let z : _≡_ {A = ℕ} 0 1 = cc in absurd (omega arith)
+-- a test passes where its failing is absurd
+must : (b : Bool) → (b ≡ false → false ≡ true) → b ≡ true
+must true f = refl
+must false f = f refl
 
 -- ---- A key
 
@@ -187,46 +187,47 @@ or-fails : {A : Type 0} (b : Bool) → (b ≡ true → A) → A ⊎ (b ≡ false
 or-fails true f = inl (f refl)
 or-fails false f = inr refl
 
-either : (a b : Bool) → (a || b) ≡ true → (a ≡ true) ⊎ (b ≡ true)
-either true b e = inl refl
-either false b e = inr e
+-- a report that is reported is of version 0 or 1, and its code is in the reading's list
+reported-comes : (R : Reading) (s : List ℕ) → reported R s ≡ true → (v : RtrProtocolVersion) × (number s 0 1 ≡ versionNumber v) × (number s 1 1 ≡ 10) × (codeIn (R .codeEightInV0) v (number s 2 2) ≡ true)
+reported-comes R s r = go (eqb (number s 0 1) 0) refl
+  where
+    type : number s 1 1 ≡ 10
+    type = eqb-true (number s 1 1) 10 (must (eqb (number s 1 1) 10) (λ z. simp (z, and-false) at r))
+
+    go : (b : Bool) → eqb (number s 0 1) 0 ≡ b → (v : RtrProtocolVersion) × (number s 0 1 ≡ versionNumber v) × (number s 1 1 ≡ 10) × (codeIn (R .codeEightInV0) v (number s 2 2) ≡ true)
+    go true e =
+        let version : number s 0 1 ≡ 0 = eqb-true (number s 0 1) 0 e in
+        (V0, version, type, must (codeIn (R .codeEightInV0) V0 (number s 2 2)) (λ z. simp (z, version, type) at r))
+    go false e =
+        let version : number s 0 1 ≡ 1 = eqb-true (number s 0 1) 1 (must (eqb (number s 0 1) 1) (λ z. simp (e, z) at r)) in
+        (V1, version, type, must (codeIn (R .codeEightInV0) V1 (number s 2 2)) (λ z. simp (z, version, type) at r))
 
 pub agree-alike : (R R′ : Reading) (s : List ℕ) → read R s ≡ read R′ s → Alike R R′ s
 unfolding applies
 agree-alike R R′ s agree keyByCrate =
-    or-fails (there s && headed 1 9 s)
-    (λ e.
-    let a = both (there s) (headed 1 9 s) e in
-    let b = both (leb 8 (length s)) (leb (headerLength s) (length s)) (a .0) in
-    let c = both (eqb (number s 0 1) 1) (eqb (number s 1 1) 9) (a .1) in
-    keys-alike s (b .0) (b .1) R R′ agree (eqb-true (number s 0 1) 1 (c .0)) (eqb-true (number s 1 1) 9 (c .1)))
+    or-fails (applies R keyByCrate s)
+    (λ a.
+    let header = must (leb 8 (length s)) (λ z. simp z at a) in
+    let whole = must (leb (headerLength s) (length s)) (λ z. simp (header, z) at a) in
+    let version = must (eqb (number s 0 1) 1) (λ z. simp (header, whole, z) at a) in
+    let type = must (eqb (number s 1 1) 9) (λ z. simp (header, whole, version, z) at a) in
+    keys-alike s header whole R R′ agree (eqb-true (number s 0 1) 1 version) (eqb-true (number s 1 1) 9 type))
 agree-alike R R′ s agree codeEightInV0 =
-    or-fails (there s && headed 0 10 s && leb 16 (headerLength s) && eqb (number s 2 2) 8)
-    (λ e.
-    let x = both (there s && headed 0 10 s && leb 16 (headerLength s)) (eqb (number s 2 2) 8) e in
-    let y = both (there s && headed 0 10 s) (leb 16 (headerLength s)) (x .0) in
-    let a = both (there s) (headed 0 10 s) (y .0) in
-    let b = both (leb 8 (length s)) (leb (headerLength s) (length s)) (a .0) in
-    let c = both (eqb (number s 0 1) 0) (eqb (number s 1 1) 10) (a .1) in
-    codes-alike s (b .0) (b .1) R R′ agree (eqb-true (number s 0 1) 0 (c .0)) (eqb-true (number s 1 1) 10 (c .1)) (y .1) (eqb-true (number s 2 2) 8 (x .1)))
+    or-fails (applies R codeEightInV0 s)
+    (λ a.
+    let header = must (leb 8 (length s)) (λ z. simp z at a) in
+    let whole = must (leb (headerLength s) (length s)) (λ z. simp (header, z) at a) in
+    let version = must (eqb (number s 0 1) 0) (λ z. simp (header, whole, z) at a) in
+    let type = must (eqb (number s 1 1) 10) (λ z. simp (header, whole, version, z) at a) in
+    let long = must (leb 16 (headerLength s)) (λ z. simp (header, whole, version, type, z) at a) in
+    let code = must (eqb (number s 2 2) 8) (λ z. simp (header, whole, version, type, long, z) at a) in
+    codes-alike s header whole R R′ agree (eqb-true (number s 0 1) 0 version) (eqb-true (number s 1 1) 10 type) long (eqb-true (number s 2 2) 8 code))
 agree-alike R R′ s agree bytesBehindText =
-    let h : ℕ = headerLength s in
-    let end : ℕ = 16 + number s 8 4 + number s (12 + number s 8 4) 4 in
-    or-fails (there s && reported R s && ltb end h)
-    (λ e.
-    let x = both (there s && reported R s) (ltb end h) e in
-    let y = both (there s) (reported R s) (x .0) in
-    let b = both (leb 8 (length s)) (leb (headerLength s) (length s)) (y .0) in
-    by-version (b .0) (b .1) (x .1) (either (headed 0 10 s && codeIn (R .codeEightInV0) V0 (number s 2 2)) (headed 1 10 s && codeIn (R .codeEightInV0) V1 (number s 2 2)) (y .1)))
-  where
-    by-version : leb 8 (length s) ≡ true → leb (headerLength s) (length s) ≡ true → ltb (16 + number s 8 4 + number s (12 + number s 8 4) 4) (headerLength s) ≡ true
-        → ((headed 0 10 s && codeIn (R .codeEightInV0) V0 (number s 2 2)) ≡ true) ⊎ ((headed 1 10 s && codeIn (R .codeEightInV0) V1 (number s 2 2)) ≡ true)
-        → R .bytesBehindText ≡ R′ .bytesBehindText
-    by-version header whole end (inl e) =
-        let x = both (headed 0 10 s) (codeIn (R .codeEightInV0) V0 (number s 2 2)) e in
-        let y = both (eqb (number s 0 1) 0) (eqb (number s 1 1) 10) (x .0) in
-        texts-alike s header whole R R′ agree V0 (eqb-true (number s 0 1) 0 (y .0)) (eqb-true (number s 1 1) 10 (y .1)) (x .1) end
-    by-version header whole end (inr e) =
-        let x = both (headed 1 10 s) (codeIn (R .codeEightInV0) V1 (number s 2 2)) e in
-        let y = both (eqb (number s 0 1) 1) (eqb (number s 1 1) 10) (x .0) in
-        texts-alike s header whole R R′ agree V1 (eqb-true (number s 0 1) 1 (y .0)) (eqb-true (number s 1 1) 10 (y .1)) (x .1) end
+    or-fails (applies R bytesBehindText s)
+    (λ a.
+    let header = must (leb 8 (length s)) (λ z. simp z at a) in
+    let whole = must (leb (headerLength s) (length s)) (λ z. simp (header, z) at a) in
+    let known = must (reported R s) (λ z. simp (header, whole, z) at a) in
+    let end = must (ltb (16 + number s 8 4 + number s (12 + number s 8 4) 4) (headerLength s)) (λ z. simp (header, whole, known, z) at a) in
+    let x = reported-comes R s known in
+    texts-alike s header whole R R′ agree (x .0) (x .1) (x .2) (x .3) end)
