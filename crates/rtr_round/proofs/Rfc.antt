@@ -22,11 +22,12 @@ use Rattle.rtr_models.specs.declared.RtrEndOfData.{RtrEndOfData}
 use Rattle.rtr_models.specs.declared.RtrPdu.{RtrPdu}
 use Rattle.rtr_models.specs.declared.RtrPdu.the-variants.{SerialNotify, SerialQuery, ResetQuery, CacheResponse, IPv4Prefix, IPv6Prefix, EndOfData, CacheReset, RouterKey, ErrorReport}
 use Rattle.rtr_codec.specs.Bytes.{number}
-use Rattle.rtr_codec.specs.Reading.{rfc}
+use Rattle.rtr_codec.specs.Reading.{rfc, inUse}
+use Rattle.rtr_codec.specs.Departures.{Departure, applies}
 use Rattle.rtr_codec.specs.Read.{codeIn, headerLength, read}
 use Rattle.rtr_codec.specs.Read.Verdict.{accepted}
 use Rattle.rtr_codec.specs.Stands.{endStands, kindStands, Stands}
-use Rattle.rtr_codec.proofs.Laws.{header-is}
+use Rattle.rtr_codec.proofs.Laws.{header-is, read-departs}
 use Rattle.rtr_codec.proofs.Exactly.{stands-read, reads-standing}
 use Rattle.rtr_round.specs.RoundTrip.{Bytes}
 use Rattle.rtr_round.specs.Rfc.{Picture, bits8, bits16, bits32, bytes, serialNotify, serialQuery, resetQuery, cacheResponse, ipv4Prefix, ipv6Prefix, endOfDataV0, endOfDataV1, cacheReset, routerKey, errorReport, version, code, lastCode, placed, EndReceived, Received, Begins}
@@ -365,3 +366,8 @@ rfc-exactly s pdu n bs = (
   λ e. let k = stands-read rfc s pdu n e in (k .whole, received s bs n (k .whole) pdu k),
   λ b. reads-standing rfc s pdu n (standing s bs n (b .0) pdu (b .1)),
 )
+
+-- and so is what the program reads, where no named departure applies
+pub in-use-exactly : (s : List ℕ) (pdu : RtrPdu) (n : ℕ) → Bytes s → ((d : Departure) → applies rfc d s ≡ false) → (read inUse s ≡ accepted pdu n) ↔ Begins s pdu n
+in-use-exactly s pdu n bs none =
+    (λ e. rfc-exactly s pdu n bs .0 (sym (read-departs s none) ∙ e), λ b. read-departs s none ∙ rfc-exactly s pdu n bs .1 b)
