@@ -1,5 +1,6 @@
--- `RoundTrip`, `Payloads`, `Rule` and `Output` are for readers and other crates; the others are the argument.
+-- `RoundTrip`, `Calls`, `Payloads`, `Rule` and `Output` are for readers and other crates; the others are the argument.
 pub mod RoundTrip
+pub mod Calls
 pub mod Payloads
 pub mod Rule
 pub mod Output
