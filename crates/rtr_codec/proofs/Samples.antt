@@ -125,6 +125,22 @@ pub copy-past-the-end
 unfolding number headerLength readEncapsulated readCode readErrorReport readAs readTyped readVersioned read
 copy-past-the-end = refl
 
+-- a copy, and then a text, of 4,294,967,295 bytes: 16 more do not fit 32 bits, and the expected length is the largest that does; 17 bytes fewer are named as they are
+pub copy-past-32-bits
+    : read inUse (0x01 ∷ 0x0a ∷ 0x00 ∷ 0x00 ∷ 0x00 ∷ 0x00 ∷ 0x00 ∷ 0x10 ∷ 0xff ∷ 0xff ∷ 0xff ∷ 0xff ∷ replicate 4 0) ≡ refused 4 (4294967295 ∷ 16 ∷ 10 ∷ [])
+unfolding number headerLength readEncapsulated readCode readErrorReport readAs readTyped readVersioned read
+copy-past-32-bits = refl
+
+pub text-past-32-bits
+    : read inUse (0x01 ∷ 0x0a ∷ 0x00 ∷ 0x00 ∷ 0x00 ∷ 0x00 ∷ 0x00 ∷ 0x10 ∷ 0x00 ∷ 0x00 ∷ 0x00 ∷ 0x00 ∷ 0xff ∷ 0xff ∷ 0xff ∷ 0xff ∷ []) ≡ refused 4 (4294967295 ∷ 16 ∷ 10 ∷ [])
+unfolding number headerLength readText readEncapsulated readCode readErrorReport readAs readTyped readVersioned read
+text-past-32-bits = refl
+
+pub copy-within-32-bits
+    : read inUse (0x01 ∷ 0x0a ∷ 0x00 ∷ 0x00 ∷ 0x00 ∷ 0x00 ∷ 0x00 ∷ 0x10 ∷ 0xff ∷ 0xff ∷ 0xff ∷ 0xee ∷ replicate 4 0) ≡ refused 4 (4294967294 ∷ 16 ∷ 10 ∷ [])
+unfolding number headerLength readEncapsulated readCode readErrorReport readAs readTyped readVersioned read
+copy-within-32-bits = refl
+
 -- a report about that Reset Query
 pub report-of-query : read inUse
     (0x01 ∷ 0x0a ∷ 0x00 ∷ 0x00 ∷ 0x00 ∷ 0x00 ∷ 0x00 ∷ 0x18 ∷ 0x00 ∷ 0x00 ∷ 0x00 ∷ 0x08

@@ -3,6 +3,7 @@
 pub mod Read
 pub mod Stands
 pub mod Refusals
+pub mod Ignored
 pub mod Reading
 pub mod Departures
 pub mod Layout
