@@ -1,9 +1,9 @@
 -- Demand 2 of the calls: what is proved of `read` and `encoding` (RoundTrip.antt) holds of what `parse_rtr_pdu` and `encode` leave in lent memory. A contract is taken as data, as Rattle reads it off
 -- the source (`Post`), so one that is weakened breaks this file. Of two contracts met one after the other, that the slice's elements are bytes is asked for; of `recode`, the code that makes the two
 -- calls, it is proved. Assumes nothing.
-use Prim.Native.Nat.{ℕ, _+_, _-_, _≤_}
+use Prim.Native.Nat.{ℕ, _+_, _-_, _≤_, _<_}
 use mathlib.Core.Bool.{Bool, true}
-use mathlib.Core.List.{List, _++_}
+use mathlib.Core.List.{List, [], _∷_, _++_}
 use mathlib.Core.Logic.{_↔_}
 use mathlib.Core.Path.{_≡_, refl, sym, ap, _∙_, subst}
 use native.Mathlib.Omega.{arith}
@@ -38,17 +38,18 @@ use Rattle.rtr_codec.proofs.Exactly.{ends-within, stands-read}
 use Rattle.rtr_codec.proofs.parse_rtr_pdu.Reads as parse
 use Rattle.rtr_encode.specs.Encode.{Encoded, layoutOf, encodedLength, encoding}
 use Rattle.rtr_encode.specs.Encode as paper
-use Rattle.rtr_encode.specs.Encode.Writing.{written}
+use Rattle.rtr_encode.specs.Encode.Writing.{written, refused}
 use Rattle.rtr_encode.specs.Answers.{writing, leaves}
 use Rattle.rtr_encode.specs.declared.EncodeError.the-variants.{PlaceOutside, InvalidUtf8, TooLong, OutputShort}
 use Rattle.rtr_encode.specs.declared.EncodeAnswer.{EncodeAnswer}
 use Rattle.rtr_encode.specs.declared.EncodeAnswer.the-variants.{Written, Refused}
 use Rattle.rtr_encode.proofs.Laws.{written-is-encoding}
+use Rattle.rtr_encode.proofs.Refused.{short-refused}
 use Rattle.rtr_encode.proofs.encode.Reads as encode
 use Rattle.rtr_round.specs.RoundTrip.{Bytes, ignoredZero, nothingBehind}
 use Rattle.rtr_round.specs.declared.Recoding.the-variants.{Again}
 use Rattle.rtr_round.proofs.Output.{written-all}
-use Rattle.rtr_round.proofs.RoundTrip.{encode-of-read, encode-accepts-read}
+use Rattle.rtr_round.proofs.RoundTrip.{encode-of-read, read-places-inside, read-fits, encode-accepts-read}
 use Rattle.rtr_round.proofs.recode.Reads as recode
 
 -- the answer that has so many bytes written is that one
@@ -58,6 +59,13 @@ answer-written (Refused PlaceOutside) m e = cc
 answer-written (Refused InvalidUtf8) m e = cc
 answer-written (Refused TooLong) m e = cc
 answer-written (Refused (OutputShort k)) m e = cc
+
+answer-short : (answer : EncodeAnswer) (m : ℕ) → writing answer ≡ refused 9 (m ∷ []) → answer ≡ Refused (OutputShort m)
+answer-short (Written k) m e = cc
+answer-short (Refused PlaceOutside) m e = absurd (let z : _≡_ {A = ℕ} 11 9 = cc in omega arith)
+answer-short (Refused InvalidUtf8) m e = absurd (let z : _≡_ {A = ℕ} 8 9 = cc in omega arith)
+answer-short (Refused TooLong) m e = absurd (let z : _≡_ {A = ℕ} 10 9 = cc in omega arith)
+answer-short (Refused (OutputShort k)) m e = cc
 
 -- ---- What the contracts' equations say of a slice s, and of an output that was `out` and is `left`
 module _ (s out left : List ℕ) (pdu : RtrPdu) (n : ℕ) (answer : EncodeAnswer) (bytes : Bytes s)
@@ -74,6 +82,14 @@ module _ (s out left : List ℕ) (pdu : RtrPdu) (n : ℕ) (answer : EncodeAnswer
   writes room =
       let law = leaving ∙ encode-accepts-read inUse s pdu n bytes (sym reads) out room in
       (answer-written answer (encodedLength inUse pdu) (ap (λ (x : Encoded). x .says) law), ap (λ (x : Encoded). x .out) law)
+
+  -- without room it is refused by 9, with the length that is needed, and the output stays
+  wants : length out < encodedLength inUse pdu → (answer ≡ Refused (OutputShort (encodedLength inUse pdu))) × (left ≡ out)
+  wants short =
+      let inside = read-places-inside inUse s pdu n bytes (sym reads) in
+      let fits = read-fits inUse s pdu n bytes (sym reads) in
+      let law = leaving ∙ short-refused inUse pdu s out (inside .0) (inside .1) (omega (arith, fits .1)) short in
+      (answer-short answer (encodedLength inUse pdu) (ap (λ (x : Encoded). x .says) law), ap (λ (x : Encoded). x .out) law)
 
 -- ---- Of the two contracts, wherever they are met: the PDU encoded is the one read, and its slice has the bytes read
 module _ (κs : _) (a : _) (pdu : RtrPdu) (n : ℕ) (st : _) (κs′ : _) (a′ : _) (answer : EncodeAnswer) (st′ : _)
@@ -100,6 +116,13 @@ module _ (κs : _) (a : _) (pdu : RtrPdu) (n : ℕ) (answer : EncodeAnswer) (st 
   pub call-writes : encodedLength inUse pdu ≤ length (now (a .1 .0))
       → (answer ≡ Written (encodedLength inUse pdu)) × (now (st .1 .0) ≡ encoding inUse pdu (now (a .0)) ++ drop (encodedLength inUse pdu) (now (a .1 .0)))
   call-writes room = writes (now (a .0)) (now (a .1 .0)) (now (st .1 .0)) pdu n answer (calls .0) (calls .1) (calls .2) room
+
+  -- without room it is refused by 9 with the length that is needed, so never by 11, 8 or 10; and no more is needed than was read
+  pub call-short : length (now (a .1 .0)) < encodedLength inUse pdu → (answer ≡ Refused (OutputShort (encodedLength inUse pdu))) × (now (st .1 .0) ≡ now (a .1 .0))
+  call-short short = wants (now (a .0)) (now (a .1 .0)) (now (st .1 .0)) pdu n answer (calls .0) (calls .1) (calls .2) short
+
+  pub call-needs-no-more : encodedLength inUse pdu ≤ n
+  call-needs-no-more = read-fits inUse (now (a .0)) pdu n (calls .0) (sym (calls .1)) .0
 
 -- ---- The parts of what was read, asked for by the four calls, are never refused by 11, and each is that very part of the slice
 answer-part : (r : PartAnswer) (fits : Bool) → fits ≡ true → partNumber r ≡ numberIf fits → r ≡ Part
