@@ -12,7 +12,7 @@ use lib.Dec.{leb, eqb}
 use lib.ListN.{length, take, drop}
 use Rattle.rtr_text.specs.Utf8.{wellFormed}
 use Rattle.rtr_models.specs.Codes.{versionNumber, typeNumber, codeNumber, versionFound, typeFound, codeFound}
-use Rattle.rtr_models.proofs.Laws.{version-known, version-unknown, type-known, type-unknown, code-known, code-unknown, code-at-most-8}
+use Rattle.rtr_models.proofs.Laws.{version-known, version-unknown, type-known, type-unknown, code-known, code-unknown}
 use Rattle.rtr_models.specs.declared.RtrProtocolVersion.{RtrProtocolVersion}
 use Rattle.rtr_models.specs.declared.RtrProtocolVersion.the-variants.{V0, V1}
 use Rattle.rtr_models.specs.declared.VersionFound.{VersionFound}
@@ -28,7 +28,7 @@ use Rattle.rtr_codec.specs.Layout.{lengthOf}
 use Rattle.rtr_codec.specs.Read.{Verdict, need, ends, codeIn, lastCode, headerLength, keyFields, readSerialNotify, readSerialQuery, readResetQuery, readCacheResponse, readIPv4Prefix, readIPv6Prefix, readEndOfData, readCacheReset, readRouterKey, readText, readEncapsulated, readCode, readErrorReport, readAs, readTyped, readVersioned, read}
 use Rattle.rtr_codec.specs.Read.Verdict.{accepted, refused}
 use Rattle.rtr_codec.specs.Answers.{verdict}
-use Rattle.rtr_codec.specs.Refusals.{Complete, Versioned, Typed, Allowed, lengthAt, expected, Sized, lastCodeIn, Coded, textFrom, textTo, Ended, Refusal}
+use Rattle.rtr_codec.specs.Refusals.{Complete, Versioned, Typed, Allowed, lengthAt, expected, Sized, lastCodeIn, Coded, textTo, Refusal}
 use Rattle.rtr_codec.specs.Refusals.Refusal.{noHeader, cutShort, version, typeFive, typeOver, keyInV0, otherLength, tooShort, prefixIPv4, prefixIPv6, code, copyLength, textLength, text}
 use Rattle.rtr_codec.proofs.parse_rtr_pdu.Reads as reads
 

@@ -6,11 +6,10 @@ use mathlib.Core.List.{List, [], _∷_}
 use mathlib.Core.Path.{_≡_, refl, sym, ap, _∙_, subst}
 use borrow.Author.Tests.{eq-eqb}
 use denote.Ref.{now}
-use lib.Dec.{eqb}
 use Rattle.rtr_models.specs.declared.RtrPdu.{RtrPdu}
 use Rattle.rtr_codec.specs.Reading.{inUse}
-use Rattle.rtr_codec.specs.Read.{Verdict, read}
-use Rattle.rtr_codec.specs.Read.Verdict.{accepted, refused}
+use Rattle.rtr_codec.specs.Read.{read}
+use Rattle.rtr_codec.specs.Read.Verdict.{accepted}
 use Rattle.rtr_codec.specs.Answers.{verdict}
 use Rattle.rtr_codec.specs.declared.ReadAnswer.the-variants.{Read}
 use Rattle.rtr_codec.proofs.parse_rtr_pdu.Reads as parse
@@ -21,8 +20,7 @@ use Rattle.rtr_encode.proofs.encode.Reads as encode
 use Rattle.rtr_walk.specs.Walk.{walkSaid}
 use Rattle.rtr_walk.specs.Walk as walks-paper
 use Rattle.rtr_walk.proofs.walk.Reads as walk
-use Rattle.rtr_receiver.specs.Receiver.{Notified, notified, compared}
-use Rattle.rtr_receiver.specs.Receiver.Notified.{otherSession}
+use Rattle.rtr_receiver.specs.Receiver.{notified, compared}
 use Rattle.rtr_receiver.specs.Promises.{isReceiver, notifySaid}
 use Rattle.rtr_receiver.specs.Promises.NotifySays.{compares}
 use Rattle.rtr_receiver.specs.declared.LiveTable.{LiveTable}

@@ -3,19 +3,18 @@
 use Prim.Native.Nat.{ℕ, _≤_, _<_}
 use mathlib.Core.Bool.{true, false}
 use mathlib.Core.List.{List, [], _∷_, _++_}
-use mathlib.Core.Path.{_≡_, refl}
+use mathlib.Core.Path.{_≡_}
 use native.Mathlib.Omega.{arith}
 use borrow.Author.Tests.{le-leb, lt-leb}
 use lib.ListN.{length, drop}
 use Rattle.rtr_text.proofs.Laws.{empty-is-well-formed}
-use Rattle.rtr_models.specs.declared.RtrProtocolVersion.{RtrProtocolVersion}
 use Rattle.rtr_models.specs.declared.RtrProtocolVersion.the-variants.{V0, V1}
 use Rattle.rtr_models.specs.declared.RtrErrorCode.the-variants.{CorruptData}
 use Rattle.rtr_models.specs.declared.RtrRouterKey.{RtrRouterKey}
 use Rattle.rtr_models.specs.declared.RtrPdu.{RtrPdu}
 use Rattle.rtr_models.specs.declared.RtrPdu.the-variants.{RouterKey, ErrorReport}
 use Rattle.rtr_codec.specs.Reading.{Reading, inUse}
-use Rattle.rtr_encode.specs.Encode.{Encoded, placesInside, textIn, encodedLength, encoding, encodeSays, encode}
+use Rattle.rtr_encode.specs.Encode.{placesInside, textIn, encodedLength, encoding, encodeSays, encode}
 use Rattle.rtr_encode.specs.Encode.Writing.{written, refused}
 use Rattle.rtr_encode.proofs.Laws.{tests-write}
 

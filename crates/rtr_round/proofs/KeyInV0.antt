@@ -6,11 +6,9 @@ use mathlib.Core.List.{List, [], _∷_, _++_}
 use mathlib.Core.Path.{_≡_, refl, ap, _∙_}
 use native.Mathlib.Omega.{arith}
 use lib.ListN.{length, getD, drop}
-use Rattle.rtr_models.specs.Codes.{versionNumber, typeNumber}
-use Rattle.rtr_models.specs.Values.{typeOf, versionOf}
+use Rattle.rtr_models.specs.Codes.{versionNumber}
 use Rattle.rtr_models.specs.declared.RtrProtocolVersion.the-variants.{V0}
 use Rattle.rtr_models.specs.declared.RtrRouterKey.{RtrRouterKey}
-use Rattle.rtr_models.specs.declared.RtrPdu.{RtrPdu}
 use Rattle.rtr_models.specs.declared.RtrPdu.the-variants.{RouterKey}
 use Rattle.rtr_codec.specs.Bytes.{number}
 use Rattle.rtr_codec.specs.Reading.{Reading}

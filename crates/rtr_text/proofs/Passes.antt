@@ -6,8 +6,8 @@ use mathlib.Core.Logic.{_↔_}
 use mathlib.Core.Path.{_≡_, refl, sym, subst}
 use native.Mathlib.Omega.{arith}
 use borrow.Author.Tests.{le-leb}
-use lib.ListN.{length, replicate}
-use Rattle.rtr_text.specs.Utf8.{_to_, rows, within, begins, wellFormed, wellFormedUpTo, Characters, none, more}
+use lib.ListN.{replicate}
+use Rattle.rtr_text.specs.Utf8.{_to_, within, begins, wellFormed, Characters, none, more}
 use Rattle.rtr_text.proofs.Laws.{empty-is-well-formed, well-formed-up-to-all, well-formed-is-characters}
 
 -- well formed is a sequence of characters

@@ -22,12 +22,18 @@ same-length : tie.Need-same-length
 same-length c = search needs
 
 returns : tie.Need-returns
-returns c =
-    (λ i. omega (arith, c .before .before .before .before .before .before .before .before .before .shared-slice-known .given i), ap verdict (sym (c .before .before .before .before .before .pdu .given .1)) ∙ c .before .before .before .before .before .before .before .parse-rtr-pdu .ensures, c .before .before .encode .ensures)
+returns c = (
+  λ i. omega (arith, c .before .before .before .before .before .before .before .before .before .shared-slice-known .given i),
+  ap verdict (sym (c .before .before .before .before .before .pdu .given .1)) ∙ c .before .before .before .before .before .before .before .parse-rtr-pdu .ensures,
+  c .before .before .encode .ensures,
+)
 
 returns-2 : tie.Need-returns-2
-returns-2 c =
-    (λ i. omega (arith, c .before .before .before .before .before .shared-slice-known .given i), ap verdict (sym (c .before .error .given .1)) ∙ c .before .before .before .parse-rtr-pdu .ensures, refl)
+returns-2 c = (
+  λ i. omega (arith, c .before .before .before .before .before .shared-slice-known .given i),
+  ap verdict (sym (c .before .error .given .1)) ∙ c .before .before .before .parse-rtr-pdu .ensures,
+  refl,
+)
 
 pub recode-spec : {M : Type 1} → statement M
 recode-spec =
