@@ -32,11 +32,12 @@ use Rattle.rtr_codec.specs.Bytes.{number}
 use Rattle.rtr_codec.specs.Layout.{place}
 use Rattle.rtr_codec.specs.Read.{headerLength, read}
 use Rattle.rtr_codec.specs.Read.Verdict.{accepted}
+use Rattle.rtr_codec.specs.Answers.{verdict}
 use Rattle.rtr_codec.specs.declared.ReadAnswer.the-variants.{Read}
 use Rattle.rtr_codec.specs.Stands.{Stands}
 use Rattle.rtr_codec.proofs.Exactly.{ends-within, stands-read}
 use Rattle.rtr_codec.proofs.parse_rtr_pdu.Reads as parse
-use Rattle.rtr_encode.specs.Encode.{Encoded, layoutOf, encodedLength, encoding}
+use Rattle.rtr_encode.specs.Encode.{Encoded, layoutOf, given, valuesIn, encodedLength, encoding}
 use Rattle.rtr_encode.specs.Encode as paper
 use Rattle.rtr_encode.specs.Encode.Writing.{written, refused}
 use Rattle.rtr_encode.specs.Answers.{writing, leaves}
@@ -46,10 +47,11 @@ use Rattle.rtr_encode.specs.declared.EncodeAnswer.the-variants.{Written, Refuse
 use Rattle.rtr_encode.proofs.Laws.{written-is-encoding}
 use Rattle.rtr_encode.proofs.Refused.{short-refused}
 use Rattle.rtr_encode.proofs.encode.Reads as encode
-use Rattle.rtr_round.specs.RoundTrip.{Bytes, ignoredZero, nothingBehind}
+use Rattle.rtr_round.specs.RoundTrip.{Bytes, ignoredZero, nothingBehind, valuesFit, kindInRule, InRule, readBack}
 use Rattle.rtr_round.specs.declared.Recoding.the-variants.{Again}
 use Rattle.rtr_round.proofs.Output.{written-all}
 use Rattle.rtr_round.proofs.RoundTrip.{encode-of-read, read-places-inside, read-fits, encode-accepts-read}
+use Rattle.rtr_round.proofs.Rule.{read-of-written, read-in-rule, read-back-same}
 use Rattle.rtr_round.proofs.recode.Reads as recode
 
 -- the answer that has so many bytes written is that one
@@ -107,6 +109,16 @@ module _ (κs : _) (a : _) (pdu : RtrPdu) (n : ℕ) (st : _) (κs′ : _) (a′ 
       → (answer ≡ Written (encodedLength inUse pdu)) × (now (st′ .1 .1 .0) ≡ encoding inUse pdu (now (a .0)) ++ drop (encodedLength inUse pdu) (now (a′ .1 .1 .0)))
   contracts-write room = writes (now (a .0)) (now (a′ .1 .1 .0)) (now (st′ .1 .1 .0)) pdu n answer bytes reads leaving room
 
+-- ---- Reading what was encoded, of the two contracts the other way round: what `encode` wrote is read as the PDU, its payloads where the encoding has them, if its values fit and its kind's rules hold
+pub contracts-read-back : (κs : _) (a : _) (m : ℕ) (st : _) → encode.Post κs a (Written m) st → valuesFit (layoutOf inUse (a .0)) (given (valuesIn (a .0))) → kindInRule inUse (a .0)
+    → (κs′ : _) (a′ : _) (r : _) (st′ : _) → parse.Post κs′ a′ r st′ → now (a′ .0) ≡ now (st .1 .1 .0) → verdict r ≡ accepted (readBack inUse (a .0)) m
+contracts-read-back κs a m st writes fits kind κs′ a′ r st′ reads same =
+    let s : List ℕ = now (a .1 .0) in
+    let out : List ℕ = now (a .1 .1 .0) in
+    reads
+    ∙ ap (read inUse) (same ∙ ap (λ (x : Encoded). x .out) writes)
+    ∙ read-of-written inUse (a .0) s out m (sym (ap (λ (x : Encoded). x .says) writes)) fits kind
+
 -- ---- Of the code that makes the two calls, on every lent slice and output
 module _ (κs : _) (a : _) (pdu : RtrPdu) (n : ℕ) (answer : EncodeAnswer) (st : _) (calls : recode.Post κs a (Again pdu n answer) st) where
   pub call-gives-back : (m : ℕ) → answer ≡ Written m
@@ -123,6 +135,18 @@ module _ (κs : _) (a : _) (pdu : RtrPdu) (n : ℕ) (answer : EncodeAnswer) (st 
 
   pub call-needs-no-more : encodedLength inUse pdu ≤ n
   call-needs-no-more = read-fits inUse (now (a .0)) pdu n (calls .0) (sym (calls .1)) .0
+
+  -- what was written is read again as the PDU that was read, in as many bytes as were written
+  pub call-reads-again : (m : ℕ) → answer ≡ Written m → (κs′ : _) (a′ : _) (r : _) (st′ : _) → parse.Post κs′ a′ r st′ → now (a′ .0) ≡ now (st .1 .0) → verdict r ≡ accepted pdu m
+  call-reads-again m e κs′ a′ r st′ again same =
+      let s : List ℕ = now (a .0) in
+      let out : List ℕ = now (a .1 .0) in
+      let rule : InRule inUse pdu s = read-in-rule inUse s pdu n (calls .0) (sym (calls .1)) in
+      let says : paper.encode inUse pdu s out .says ≡ written m = sym (ap (λ (x : Encoded). x .says) (calls .2)) ∙ ap writing e in
+      again
+      ∙ ap (read inUse) (same ∙ ap (λ (x : Encoded). x .out) (calls .2))
+      ∙ read-of-written inUse pdu s out m says (rule .fits) (rule .kind)
+      ∙ ap (λ (p : RtrPdu). accepted p m) (read-back-same inUse s pdu n (calls .0) (sym (calls .1)))
 
 -- ---- The parts of what was read, asked for by the four calls, are never refused by 11, and each is that very part of the slice
 answer-part : (r : PartAnswer) (fits : Bool) → fits ≡ true → partNumber r ≡ numberIf fits → r ≡ Part
