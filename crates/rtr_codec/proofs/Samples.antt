@@ -2,10 +2,12 @@
 -- hex. Then document 01's edges of reading, which rtr_edges cites. Each is computed. Assumes nothing.
 use Prim.Native.Nat.{ℕ}
 use mathlib.Core.Bool.{true, false}
-use mathlib.Core.List.{List, [], _∷_}
+use mathlib.Core.List.{List, [], _∷_, _++_}
 use mathlib.Core.Path.{_≡_, refl}
+use native.Mathlib.Omega.{arith}
 use lib.ListN.{drop, replicate}
 use Rattle.rtr_text.proofs.Laws.{empty-is-well-formed}
+use Rattle.rtr_text.proofs.Passes.{ascii-passes, nul-passes}
 use Rattle.rtr_models.specs.declared.RtrProtocolVersion.the-variants.{V0, V1}
 use Rattle.rtr_models.specs.declared.RtrErrorCode.the-variants.{CorruptData, UnexpectedProtocolVersion}
 use Rattle.rtr_models.specs.declared.Interval.{Interval}
@@ -124,6 +126,30 @@ pub copy-past-the-end
     : read inUse (0x01 ∷ 0x0a ∷ 0x00 ∷ 0x00 ∷ 0x00 ∷ 0x00 ∷ 0x00 ∷ 0x10 ∷ 0x00 ∷ 0x00 ∷ 0x00 ∷ 0x01 ∷ replicate 4 0) ≡ refused 4 (17 ∷ 16 ∷ 10 ∷ [])
 unfolding number headerLength readEncapsulated readCode readErrorReport readAs readTyped readVersioned read
 copy-past-the-end = refl
+
+-- a copy, and then a text, of 4,294,967,295 bytes: 16 more do not fit 32 bits, and the expected length is the largest that does; 17 bytes fewer are named as they are
+pub copy-past-32-bits
+    : read inUse (0x01 ∷ 0x0a ∷ 0x00 ∷ 0x00 ∷ 0x00 ∷ 0x00 ∷ 0x00 ∷ 0x10 ∷ 0xff ∷ 0xff ∷ 0xff ∷ 0xff ∷ replicate 4 0) ≡ refused 4 (4294967295 ∷ 16 ∷ 10 ∷ [])
+unfolding number headerLength readEncapsulated readCode readErrorReport readAs readTyped readVersioned read
+copy-past-32-bits = refl
+
+pub text-past-32-bits
+    : read inUse (0x01 ∷ 0x0a ∷ 0x00 ∷ 0x00 ∷ 0x00 ∷ 0x00 ∷ 0x00 ∷ 0x10 ∷ 0x00 ∷ 0x00 ∷ 0x00 ∷ 0x00 ∷ 0xff ∷ 0xff ∷ 0xff ∷ 0xff ∷ []) ≡ refused 4 (4294967295 ∷ 16 ∷ 10 ∷ [])
+unfolding number headerLength readText readEncapsulated readCode readErrorReport readAs readTyped readVersioned read
+text-past-32-bits = refl
+
+pub copy-within-32-bits
+    : read inUse (0x01 ∷ 0x0a ∷ 0x00 ∷ 0x00 ∷ 0x00 ∷ 0x00 ∷ 0x00 ∷ 0x10 ∷ 0xff ∷ 0xff ∷ 0xff ∷ 0xee ∷ replicate 4 0) ≡ refused 4 (4294967294 ∷ 16 ∷ 10 ∷ [])
+unfolding number headerLength readEncapsulated readCode readErrorReport readAs readTyped readVersioned read
+copy-within-32-bits = refl
+
+-- a report whose text is NUL, a letter and NUL
+pub nul-text-read : read inUse (0x01 ∷ 0x0a ∷ 0x00 ∷ 0x00 ∷ 0x00 ∷ 0x00 ∷ 0x00 ∷ 0x13 ∷ replicate 4 0 ++ (0x00 ∷ 0x00 ∷ 0x00 ∷ 0x03 ∷ 0x00 ∷ 0x61 ∷ 0x00 ∷ []))
+    ≡ accepted
+    (ErrorReport (record { version = V1; «error_code» = CorruptData; «erroneous_pdu» = record { start = 12; len = 0 }; «error_text» = record { start = 16; len = 3 } }))
+    19
+unfolding number headerLength readText readEncapsulated readCode readErrorReport readAs readTyped readVersioned read
+nul-text-read = rw (nul-passes (0x61 ∷ 0x00 ∷ []) (ascii-passes 0x61 (0x00 ∷ []) (omega arith) (nul-passes [] empty-is-well-formed))) refl
 
 -- a report about that Reset Query
 pub report-of-query : read inUse

@@ -1,5 +1,7 @@
--- `RoundTrip`, `Payloads`, `Rule` and `Output` are for readers and other crates; the others are the argument.
+-- `Rfc`, `RfcSent`, `RoundTrip`, `Calls`, `KeyInV0`, `Payloads`, `Rule` and `Output` are for readers and other crates; the others are the argument.
 pub mod RoundTrip
+pub mod Calls
+pub mod KeyInV0
 pub mod Payloads
 pub mod Rule
 pub mod Output

@@ -1,10 +1,11 @@
 -- Each payload of a PDU in rule is read back as the bytes that it was: what stands at its place in the encoding is what stood at its place
 -- in the slice. A key identifier stands among the fixed fields; a key's info, and a report's copy and text, stand behind them (`behind`),
--- whose length is that of their picture. Assumes nothing.
-use Prim.Native.Nat.{ℕ, _+_, _≤_}
-use mathlib.Core.Bool.{Bool, true, false}
+-- whose length is that of their picture. And of a PDU that was read the payloads are the bytes that its picture has for them, so that none is forgotten
+-- (`payloads-read`). Assumes nothing.
+use Prim.Native.Nat.{ℕ, _+_, _-_, _≤_}
+use mathlib.Core.Bool.{Bool, true, false, cond}
 use mathlib.Core.List.{List, [], _∷_, _++_, append-assoc}
-use mathlib.Core.Path.{_≡_, refl, ap, _∙_}
+use mathlib.Core.Path.{_≡_, refl, sym, ap, _∙_}
 use native.Mathlib.Omega.{arith}
 use borrow.Author.Tests.{leb-true, eqb-true}
 use lib.Dec.{eqb}
@@ -21,13 +22,18 @@ use Rattle.rtr_models.specs.declared.RtrPdu.the-variants.{SerialNotify, SerialQ
 use Rattle.rtr_codec.specs.Reading.{Reading}
 use Rattle.rtr_codec.specs.Layout.{Label, lengthOf, placeOf}
 use Rattle.rtr_codec.specs.Layout.Label.{flags, asNumber, keyIdentifier}
-use Rattle.rtr_codec.specs.Read.{keyFields}
+use Rattle.rtr_codec.specs.Bytes.{number}
+use Rattle.rtr_codec.specs.Read.{headerLength, keyFields, read}
+use Rattle.rtr_codec.specs.Read.Verdict.{accepted}
+use Rattle.rtr_codec.specs.Stands.{keyStands, kindStands, Stands}
+use Rattle.rtr_codec.proofs.Exactly.{stands-read}
 use Rattle.rtr_encode.specs.Encode.{at, bytesOf, fieldBytes, layoutOf, given, valuesIn, encodedLength, encoding}
 use Rattle.rtr_encode.proofs.Laws.{encoding-is}
-use Rattle.rtr_round.specs.RoundTrip.{InRule, readBack, payloadsOf}
+use Rattle.rtr_round.specs.RoundTrip.{InRule, readBack, payloadsOf, payloadsAt}
 use Rattle.rtr_round.proofs.Bytes.{length-bytes, length-part}
 use Rattle.rtr_round.proofs.Fields.{length-fields}
 use Rattle.rtr_round.proofs.Inside.{both-true, payloads-inside}
+use Rattle.rtr_round.proofs.RoundTrip.{read-of-encode}
 
 -- the w bytes x behind n others are what stands there
 part-at : (p x q : List ℕ) (n w : ℕ) → length p ≡ n → length x ≡ w → take w (drop n (p ++ (x ++ q))) ≡ x
@@ -108,3 +114,33 @@ payloads-back R (EndOfData p) s rest rule = refl
 payloads-back R (CacheReset p) s rest rule = refl
 payloads-back R (RouterKey p) s rest rule = key-payloads-back R s rest p rule
 payloads-back R (ErrorReport p) s rest rule = report-payloads-back R s rest p rule
+
+-- ---- Of a PDU that was read, the payloads are the bytes of its picture that are payloads: no payload of any kind is forgotten
+module _ (R : Reading) (s : List ℕ) (n : ℕ) where
+  key-payloads : (b : Bool) (p : RtrRouterKey) → n ≡ headerLength s → keyStands b p s
+      → payloadsOf (RouterKey p) s ≡ cond b (take 20 (drop 10 s) ∷ take (n - 34) (drop 34 s) ∷ []) (take 20 (drop 8 s) ∷ take (n - 32) (drop 32 s) ∷ [])
+  key-payloads true p h k = cc (ap (λ (q : Place). at q s) (sym (k .2)), ap (λ (q : Place). at q s) (sym (k .4)), h)
+  key-payloads false p h k = cc (ap (λ (q : Place). at q s) (sym (k .2)), ap (λ (q : Place). at q s) (sym (k .4)), h)
+
+  stand-payloads : (pdu : RtrPdu) → n ≡ headerLength s → number s 1 1 ≡ typeNumber (typeOf pdu) → kindStands R s pdu → payloadsOf pdu s ≡ payloadsAt R n s
+  stand-payloads (SerialNotify p) h t k = simp t
+  stand-payloads (SerialQuery p) h t k = simp t
+  stand-payloads (ResetQuery p) h t k = simp t
+  stand-payloads (CacheResponse p) h t k = simp t
+  stand-payloads (IPv4Prefix p) h t k = simp t
+  stand-payloads (IPv6Prefix p) h t k = simp t
+  stand-payloads (EndOfData p) h t k = simp t
+  stand-payloads (CacheReset p) h t k = simp t
+  stand-payloads (RouterKey p) h t k = simp t (key-payloads (R .keyByCrate) p h (k .1))
+  stand-payloads (ErrorReport p) h t k = simp t (cc (ap (λ (q : Place). at q s) (sym (k .2)), ap (λ (q : Place). at q s) (sym (k .3))))
+
+pub payloads-read : (R : Reading) (s : List ℕ) (pdu : RtrPdu) (n : ℕ) → read R s ≡ accepted pdu n → payloadsOf pdu s ≡ payloadsAt R n s
+payloads-read R s pdu n e =
+    let k : Stands R s pdu n = stands-read R s pdu n e in
+    stand-payloads R s n pdu (k .total) (k .type) (k .kind)
+
+-- and those of a PDU in rule are the payloads of its encoding, whatever follows
+pub payloads-sent : (R : Reading) (pdu : RtrPdu) (s rest : List ℕ) → InRule R pdu s → payloadsOf pdu s ≡ payloadsAt R (encodedLength R pdu) (encoding R pdu s ++ rest)
+payloads-sent R pdu s rest rule =
+    sym (payloads-back R pdu s rest rule)
+    ∙ payloads-read R (encoding R pdu s ++ rest) (readBack R pdu) (encodedLength R pdu) (read-of-encode R pdu s rest rule)

@@ -104,6 +104,12 @@ encode-of-read R s pdu n bs e =
 pub read-places-inside : (R : Reading) (s : List ℕ) (pdu : RtrPdu) (n : ℕ) → Bytes s → read R s ≡ accepted pdu n → (placesInside pdu s ≡ true) × (textIn pdu s ≡ true)
 read-places-inside R s pdu n bs e = (accepted-found R s pdu n bs e .places, accepted-found R s pdu n bs e .text)
 
+-- its encoding is no longer than what was read, and fits 32 bits
+pub read-fits : (R : Reading) (s : List ℕ) (pdu : RtrPdu) (n : ℕ) → Bytes s → read R s ≡ accepted pdu n → (encodedLength R pdu ≤ n) × (encodedLength R pdu ≤ 4294967295)
+read-fits R s pdu n bs e =
+    let found : Found R s pdu n = accepted-found R s pdu n bs e in
+    (found .fits, omega (arith, four-bytes-fit s bs 4, header-is s, found .fits, read-consumes R s pdu n e .0))
+
 -- what was read is encoded: its payloads lie in the slice, its text is UTF-8, and its length fits 32 bits
 pub encode-accepts-read : (R : Reading) (s : List ℕ) (pdu : RtrPdu) (n : ℕ) → Bytes s → read R s ≡ accepted pdu n
     → (out : List ℕ) → encodedLength R pdu ≤ length out

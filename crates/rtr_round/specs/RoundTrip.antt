@@ -1,8 +1,9 @@
 -- When encoding what was read gives back the bytes, and when reading what was encoded gives back the PDU: demand 2.
-use Prim.Native.Nat.{ℕ, _+_, _<_, _≤_, _^_}
+use Prim.Native.Nat.{ℕ, _+_, _-_, _<_, _≤_, _^_}
 use mathlib.Core.List.{List, [], _∷_}
-use mathlib.Core.Bool.{true}
+use mathlib.Core.Bool.{true, cond}
 use mathlib.Core.Path.{_≡_}
+use lib.Dec.{eqb}
 use lib.ListN.{getD, take, drop, replicate}
 use Rattle.rtr_models.specs.Codes.{codeNumber}
 use Rattle.rtr_models.specs.Values.{secondsOr}
@@ -12,6 +13,7 @@ use Rattle.rtr_models.specs.declared.Interval.the-variants.{Absent, Seconds}
 use Rattle.rtr_models.specs.declared.RtrEndOfData.{RtrEndOfData}
 use Rattle.rtr_models.specs.declared.RtrPdu.{RtrPdu}
 use Rattle.rtr_models.specs.declared.RtrPdu.the-variants.{SerialNotify, SerialQuery, ResetQuery, CacheResponse, IPv4Prefix, IPv6Prefix, EndOfData, CacheReset, RouterKey, ErrorReport}
+use Rattle.rtr_codec.specs.Bytes.{number}
 use Rattle.rtr_codec.specs.Reading.{Reading}
 use Rattle.rtr_codec.specs.Layout.{Label, Field, lengthOf, place, placeOf, encapsulatedStart, textStart}
 use Rattle.rtr_codec.specs.Layout.Field.{ignored, total, value, payload}
@@ -134,3 +136,12 @@ payloadsOf (EndOfData p) s = []
 payloadsOf (CacheReset p) s = []
 payloadsOf (RouterKey p) s = at (p .«subject_key_identifier») s ∷ at (p .«subject_public_key_info») s ∷ []
 payloadsOf (ErrorReport p) s = at (p .«erroneous_pdu») s ∷ at (p .«error_text») s ∷ []
+
+-- the payloads among a PDU's n bytes, by its type and where its picture has them (document 01, "Reading"; a Router Key's by its arrangement)
+abbrev pub payloadsAt : Reading → ℕ → List ℕ → List (List ℕ)
+payloadsAt R n s =
+    cond (eqb (number s 1 1) 9)
+    (cond (R .keyByCrate) (take 20 (drop 10 s) ∷ take (n - 34) (drop 34 s) ∷ []) (take 20 (drop 8 s) ∷ take (n - 32) (drop 32 s) ∷ []))
+    (cond (eqb (number s 1 1) 10)
+    (take (number s 8 4) (drop 12 s) ∷ take (number s (12 + number s 8 4) 4) (drop (16 + number s 8 4) s) ∷ [])
+    [])
