@@ -947,14 +947,8 @@ fn next_step(
     let searched = search(hold, Stream { held: s.held }, piece, at);
     let stream = searched.stream;
     let answer = searched.answer;
-    on_heard(
-        s,
-        live,
-        working,
-        hear(s, answer, stream.held),
-        searched.next,
-        updates,
-    )
+    let heard = hear(s, answer, stream.held);
+    on_heard(s, live, working, heard, searched.next, updates)
 }
 
 // A feed that is over says its stop, or that it goes on.

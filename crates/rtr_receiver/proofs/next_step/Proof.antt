@@ -13,7 +13,7 @@ search-requires : tie.Need-search-requires
 search-requires c κs = search needs
 
 hear-requires : tie.Need-hear-requires
-hear-requires c κs = c .before .before .before .before .before .before .before .before .before .before .before .pre .1
+hear-requires c κs = c .before .before .before .before .before .before .before .before .before .pre .1
 
 on-heard-requires : tie.Need-on-heard-requires
 on-heard-requires c κs =
@@ -26,7 +26,7 @@ on-heard-requires c κs =
     let shape = shape-of (a .s .life .limit) (a .s) live working hold (pre .0) in
     let hold′ = c .before .before .before .before .before .before .search .last .0 in
     let same : length hold′ ≡ length hold = omega (arith, c .before .before .before .before .before .hold .given) in
-    (shape .live-room, shape .working-room, pre .1, step-counts (a .s .life .limit) (a .s) live working hold piece (a .at) (a .updates) shape (pre .1) (c .before .before .before .before .before .before .search .result) hold′ same (c .before .before .before .before .before .before .search .ensures) (c .hear .result) (c .hear .ensures) (pre .2) (pre .3) (omega (arith, c .before .before .before .before .before .before .before .before .before .before .before .before .good)))
+    (shape .live-room, shape .working-room, pre .1, step-counts (a .s .life .limit) (a .s) live working hold piece (a .at) (a .updates) shape (pre .1) (c .before .before .before .before .before .before .search .result) hold′ same (c .before .before .before .before .before .before .search .ensures) (c .before .before .hear .result) (c .before .before .hear .ensures) (pre .2) (pre .3) (omega (arith, c .before .before .before .before .before .before .before .before .before .before .before .before .good)))
 
 same-length : tie.Need-same-length
 same-length c = search needs
@@ -48,7 +48,7 @@ returns c =
     let shape = shape-of (a .s .life .limit) (a .s) live working hold (pre .0) in
     let hold′ = c .before .before .before .before .before .before .before .before .before .before .before .search .last .0 in
     let same : length hold′ ≡ length hold = omega (arith, c .before .before .before .before .before .before .before .before .before .before .hold .given) in
-    step-heard (a .s .life .limit) (a .s) live working hold piece (a .at) (a .updates) shape (pre .1) (c .before .before .before .before .before .before .before .before .before .before .before .search .result) hold′ same (c .before .before .before .before .before .before .before .before .before .before .before .search .ensures) (c .before .before .before .before .before .hear .result) (c .before .before .before .before .before .hear .ensures) (pre .2) (pre .3)
+    step-heard (a .s .life .limit) (a .s) live working hold piece (a .at) (a .updates) shape (pre .1) (c .before .before .before .before .before .before .before .before .before .before .before .search .result) hold′ same (c .before .before .before .before .before .before .before .before .before .before .before .search .ensures) (c .before .before .before .before .before .before .before .hear .result) (c .before .before .before .before .before .before .before .hear .ensures) (pre .2) (pre .3)
     (c .before .before .before .before .on-heard .result) (c .before .before .before .before .on-heard .last .1 .0) (c .before .before .before .before .on-heard .last .1 .1 .0) (c .before .before .before .before .on-heard .ensures)
 
 pub next-step-spec : {M : Type 1} → statement M
