@@ -23,16 +23,13 @@ use rtr_stream::search;
 ghost use mathlib.Core.Path.{_≡_};
 ghost use mathlib.Core.List.{[]};
 ghost use mathlib.Core.Bool.{true, cond};
-ghost use Prim.Native.Nat.{_+_, _<_};
 ghost use lib.ListN.{length, replicate};
 ghost use lib.Dec.{eqb};
 ghost use Rattle.rtr_models.specs.Codes.{versionNumber};
 ghost use Rattle.rtr_codec.specs.Answers.{numberOf};
-ghost use Rattle.rtr_room.specs.Table.{enter, leave};
-ghost use Rattle.rtr_room.specs.Room.{records};
-ghost use Rattle.rtr_receiver.specs.Receiver.{changedTo, finish, noUpdate, onKind, onPdu, listens, compared};
-ghost use Rattle.rtr_receiver.specs.Promises.{NotifySays, stopSaid, changeUnderWay, isLoading, stageOf, receiverOf, inOrder, isReceiver, feedSays, fedSaid, startSays, startSaid, fullAskSays, changeAskSays, askSaid, reconnectSays, reconnectSaid, notifySays, notifySaid, recordLimit, isLimit, tabled, cleared};
-ghost use Rattle.rtr_receiver.specs.Private.{BothRooms, Stands, Did, responseIn, resetIn, endIn, carriedBy, carriedOut, Makes, Updates, Decides, DecidesOn, Filled, stoppedSession, askedFor, afterPdu, feedHere, StepAsks, Stepped};
+ghost use Rattle.rtr_receiver.specs.Receiver.{finish, noUpdate, onKind, listens, compared};
+ghost use Rattle.rtr_receiver.specs.Promises.{NotifySays, stopSaid, changeUnderWay, isLoading, isStopped, stageOf, receiverOf, inOrder, isReceiver, feedSays, fedSaid, startSays, startSaid, fullAskSays, changeAskSays, askSaid, reconnectSays, reconnectSaid, notifySays, notifySaid, recordLimit, isLimit, tabled, cleared};
+ghost use Rattle.rtr_receiver.specs.Private.{BothRooms, WorkingRoom, IsSomeRoom, taking, Took, RecordDone, Stands, responseIn, resetIn, endIn, carriedBy, carriedOut, Makes, Updates, Decides, DecidesOn, Filled, stoppedSession, askedFor, mayAskFull, answerIn, HeardAs, HeardAsks, HeardDone, feedHere, StepAsks, Stepped};
 
 // How many records a room has at the most.
 pub const RECORD_LIMIT: usize = 1024;
@@ -356,6 +353,17 @@ fn ask_refused(s: Session, error: AskError) -> AskedSession
     }
 }
 
+// The whole table is asked for in Idle and in MustReset.
+fn may_ask_full(phase: Phase) -> bool
+    ensures { λ r. ⌜ r ≡ mayAskFull phase ⌝ }
+{
+    match phase {
+        Phase::Idle => true,
+        Phase::MustReset => true,
+        _ => false,
+    }
+}
+
 // Asks for the whole table: a Reset Query into the output.
 pub fn full_ask(
     s: Session,
@@ -369,20 +377,14 @@ pub fn full_ask(
     if !is_receiver(s, live, working, hold) {
         return ask_refused(s, AskError::NotAReceiver);
     }
+    let phase = s.phase;
+    if !may_ask_full(phase) {
+        return ask_refused(s, AskError::WrongPhase);
+    }
     let life = s.life;
     let version = life.version;
-    let phase = s.phase;
-    match phase {
-        Phase::Idle => {
-            let answer = encode_reset_query(RtrResetQuery { version }, out);
-            asked(s, answer, Phase::AskedFull)
-        }
-        Phase::MustReset => {
-            let answer = encode_reset_query(RtrResetQuery { version }, out);
-            asked(s, answer, Phase::AskedFull)
-        }
-        _ => ask_refused(s, AskError::WrongPhase),
-    }
+    let answer = encode_reset_query(RtrResetQuery { version }, out);
+    asked(s, answer, Phase::AskedFull)
 }
 
 // Asks for what changed since the table's serial: a Serial Query into the output.
@@ -493,12 +495,6 @@ pub fn notify(s: Session, live: &[u32], working: &[u32], hold: &[u8]) -> NotifyA
 
 // ---- One PDU
 
-// A session and how many updates finished.
-struct DeedDone {
-    session: Session,
-    updates: usize,
-}
-
 // A stop clears the working room and what is held; it keeps the live room and the note.
 fn stop_with(s: Session, working: &mut [u32], stop: Stop) -> Session
     ensures { λ r. ⌜ (r ≡ stoppedSession s stop) × (now (working .exit) ≡ replicate (length (now (working .entry))) 0) ⌝ }
@@ -577,32 +573,44 @@ fn with_working(s: Session, count: usize) -> Session
     }
 }
 
-// An announcement enters: 17 where it is in, then 18 where the room is full.
-fn on_announcement(s: Session, live: &[u32], working: &mut [u32], r: Record) -> Session
-    requires { ⌜ BothRooms (s .life .limit) s (now live) (now working) ⌝ }
-    ensures { λ t. ⌜ Stands (s .life .limit) t (now (live .entry)) (now (working .exit)) (changedTo (enter (s .life .limit) r (records (s .working .records) (now (working .entry)))) (receiverOf s (now (live .entry)) (now (working .entry)) [])) ⌝ }
+// What came of a record in the working room: how many are in it now, or a stop.
+enum Taken {
+    Counted(usize),
+    Refused(Stop),
+}
+
+// An announcement enters: 17 where it is in, then 18 where the room is full. A withdrawal leaves: 16 where it is not in.
+fn take(working: &mut [u32], count: usize, announced: bool, r: Record) -> Taken
+    requires { ⌜ IsSomeRoom count (now working) ⌝ }
+    ensures { λ t. ⌜ Took (taking announced (now (working .entry)) count r) t (now (working .exit)) ⌝ }
 {
-    let in_working = s.working;
-    let answer = enter(working, in_working.records, r);
+    if announced {
+        let answer = enter(working, count, r);
+        return match answer {
+            EnterAnswer::Entered(n) => Taken::Counted(n),
+            EnterAnswer::AlreadyIn => Taken::Refused(Stop::AlreadyIn),
+            EnterAnswer::Full => Taken::Refused(Stop::RoomFull),
+            EnterAnswer::NotARoom => Taken::Refused(Stop::RoomFull),
+        };
+    }
+    let answer = leave(working, count, r);
     match answer {
-        EnterAnswer::Entered(count) => with_working(s, count),
-        EnterAnswer::AlreadyIn => stop_with(s, working, Stop::AlreadyIn),
-        EnterAnswer::Full => stop_with(s, working, Stop::RoomFull),
-        EnterAnswer::NotARoom => stop_with(s, working, Stop::RoomFull),
+        LeaveAnswer::Left(n) => Taken::Counted(n),
+        LeaveAnswer::NotIn => Taken::Refused(Stop::NotIn),
+        LeaveAnswer::NotARoom => Taken::Refused(Stop::NotIn),
     }
 }
 
-// A withdrawal leaves: 16 where it is not in.
-fn on_withdrawal(s: Session, live: &[u32], working: &mut [u32], r: Record) -> Session
-    requires { ⌜ BothRooms (s .life .limit) s (now live) (now working) ⌝ }
-    ensures { λ t. ⌜ Stands (s .life .limit) t (now (live .entry)) (now (working .exit)) (changedTo (leave r (records (s .working .records) (now (working .entry)))) (receiverOf s (now (live .entry)) (now (working .entry)) [])) ⌝ }
+// A record in a load: the working room has it, or has it no more, or the receiver stops.
+fn on_record(s: Session, working: &mut [u32], announced: bool, r: Record) -> Session
+    requires { ⌜ WorkingRoom (s .life .limit) s (now working) ⌝ }
+    ensures { λ t. ⌜ RecordDone (s .life .limit) s announced r (now (working .entry)) t (now (working .exit)) ⌝ }
 {
     let in_working = s.working;
-    let answer = leave(working, in_working.records, r);
-    match answer {
-        LeaveAnswer::Left(count) => with_working(s, count),
-        LeaveAnswer::NotIn => stop_with(s, working, Stop::NotIn),
-        LeaveAnswer::NotARoom => stop_with(s, working, Stop::NotIn),
+    let taken = take(working, in_working.records, announced, r);
+    match taken {
+        Taken::Counted(count) => with_working(s, count),
+        Taken::Refused(stop) => stop_with(s, working, stop),
     }
 }
 
@@ -816,12 +824,7 @@ fn carry_out(s: Session, live: &mut [u32], working: &mut [u32], doing: Doing) ->
             let in_working = fill(live, working, kind, in_live);
             loading(s, kind, session_id, in_working)
         }
-        Doing::Takes(announced, record) => {
-            if announced {
-                return on_announcement(s, live, working, record);
-            }
-            on_withdrawal(s, live, working, record)
-        }
+        Doing::Takes(announced, record) => on_record(s, working, announced, record),
         Doing::Finishes(p) => finish(s, live, working, p),
     }
 }
@@ -836,32 +839,14 @@ fn finished_by(doing: Doing) -> usize
     }
 }
 
-// One PDU: it is decided on the session alone and then carried out.
-fn on_pdu(s: Session, live: &mut [u32], working: &mut [u32], pdu: RtrPdu) -> DeedDone
-    requires { ⌜ BothRooms (s .life .limit) s (now live) (now working) ⌝ }
-    ensures { λ d. ⌜ Did (s .life .limit) d (now (live .exit)) (now (working .exit)) (onPdu (s .life .limit) pdu (receiverOf s (now (live .entry)) (now (working .entry)) [])) ⌝ }
-{
-    let doing = decide_pdu(s, pdu);
-    let updates = finished_by(doing);
-    DeedDone {
-        session: carry_out(s, live, working, doing),
-        updates,
-    }
-}
-
 // ---- Feed
 
-// What is to be done after a step of a feed.
-enum Then {
-    Again,
-    Done(FeedAnswer),
-}
-
+// A step of a feed: whether it was the last.
 struct Step {
     session: Session,
     next: usize,
     updates: usize,
-    then: Then,
+    over: bool,
 }
 
 // The session with another count in the hold.
@@ -885,73 +870,68 @@ fn with_held(s: Session, held: usize) -> Session
     }
 }
 
-// After a PDU the feed goes on, unless it stopped.
-fn after_pdu(d: DeedDone, next: usize, updates: usize) -> Step
-    requires { ⌜ updates + d .updates < 18446744073709551616 ⌝ }
-    ensures { λ r. ⌜ r ≡ afterPdu d next updates ⌝ }
+fn is_stopped(phase: Phase) -> bool
+    ensures { λ r. ⌜ r ≡ isStopped phase ⌝ }
 {
-    let session = d.session;
-    let phase = session.phase;
     match phase {
-        Phase::Stopped(stop) => Step {
-            session,
-            next,
-            updates: updates + d.updates,
-            then: Then::Done(FeedAnswer::Stopped(stop)),
-        },
-        _ => Step {
-            session,
-            next,
-            updates: updates + d.updates,
-            then: Then::Again,
-        },
+        Phase::Stopped(_) => true,
+        _ => false,
     }
 }
 
-// One step: the stream's next PDU, its refusal, or its wish for more.
-fn one_step(
+// What a search came to: so many bytes are held until more comes, or something is to be done.
+enum Heard {
+    Holds(usize),
+    Does(Doing),
+}
+
+// A PDU is decided on, a refusal stops; NotAStream never comes behind the shape test.
+fn hear(s: Session, answer: StreamAnswer, held: usize) -> Heard
+    requires { ⌜ listens (stageOf (s .phase)) ≡ true ⌝ }
+    ensures { λ h. ⌜ HeardAs s answer held h ⌝ }
+{
+    match answer {
+        StreamAnswer::Found(pdu, _) => Heard::Does(decide_pdu(s, pdu)),
+        StreamAnswer::Refused(error) => Heard::Does(Doing::Stops(Stop::Stream(error))),
+        StreamAnswer::More => Heard::Holds(held),
+        StreamAnswer::NotAStream => Heard::Holds(held),
+    }
+}
+
+// What was heard is done: a wish for more ends the feed, else it goes on unless it stopped.
+fn on_heard(
     s: Session,
     live: &mut [u32],
     working: &mut [u32],
-    hold: &mut [u8],
-    piece: &[u8],
-    at: usize,
+    heard: Heard,
+    next: usize,
     updates: usize,
 ) -> Step
-    requires { ⌜ StepAsks (s .life .limit) s (now live) (now working) (now hold) (now piece) at updates ⌝ }
-    ensures { λ r. ⌜ Stepped (s .life .limit) (feedHere (s .life .limit) s (now (live .entry)) (now (working .entry)) (now (hold .entry)) (now (piece .entry)) at updates) (now (piece .entry)) at r (now (live .exit)) (now (working .exit)) (now (hold .exit)) ⌝ }
+    requires { ⌜ HeardAsks (s .life .limit) s (now live) (now working) heard updates ⌝ }
+    ensures { λ r. ⌜ HeardDone (s .life .limit) s (now (live .entry)) (now (working .entry)) heard next updates r (now (live .exit)) (now (working .exit)) ⌝ }
 {
-    let searched = search(hold, Stream { held: s.held }, piece, at);
-    let next = searched.next;
-    let stream = searched.stream;
-    let answer = searched.answer;
-    match answer {
-        StreamAnswer::Found(pdu, _) => {
-            let d = on_pdu(with_held(s, 0), live, working, pdu);
-            after_pdu(d, next, updates)
+    match heard {
+        Heard::Holds(held) => Step {
+            session: with_held(s, held),
+            next,
+            updates,
+            over: true,
+        },
+        Heard::Does(doing) => {
+            let session = carry_out(with_held(s, 0), live, working, doing);
+            let phase = session.phase;
+            Step {
+                session,
+                next,
+                updates: updates + finished_by(doing),
+                over: is_stopped(phase),
+            }
         }
-        StreamAnswer::Refused(error) => Step {
-            session: stop_with(s, working, Stop::Stream(error)),
-            next,
-            updates,
-            then: Then::Done(FeedAnswer::Stopped(Stop::Stream(error))),
-        },
-        StreamAnswer::More => Step {
-            session: with_held(s, stream.held),
-            next,
-            updates,
-            then: Then::Done(FeedAnswer::GoesOn),
-        },
-        StreamAnswer::NotAStream => Step {
-            session: s,
-            next,
-            updates,
-            then: Then::Done(FeedAnswer::NotAReceiver),
-        },
     }
 }
 
-// What a feed does next. Its promise is that of one PDU; any number of them may be taken at once.
+// What a feed does next: the stream's next PDU, its refusal, or its wish for more. Its promise is that of one PDU; any number of them may be
+// taken at once.
 fn next_step(
     s: Session,
     live: &mut [u32],
@@ -964,7 +944,62 @@ fn next_step(
     requires { ⌜ StepAsks (s .life .limit) s (now live) (now working) (now hold) (now piece) at updates ⌝ }
     ensures { λ r. ⌜ Stepped (s .life .limit) (feedHere (s .life .limit) s (now (live .entry)) (now (working .entry)) (now (hold .entry)) (now (piece .entry)) at updates) (now (piece .entry)) at r (now (live .exit)) (now (working .exit)) (now (hold .exit)) ⌝ }
 {
-    one_step(s, live, working, hold, piece, at, updates)
+    let searched = search(hold, Stream { held: s.held }, piece, at);
+    let stream = searched.stream;
+    let answer = searched.answer;
+    let heard = hear(s, answer, stream.held);
+    on_heard(s, live, working, heard, searched.next, updates)
+}
+
+// A feed that is over says its stop, or that it goes on.
+fn answer_in(phase: Phase) -> FeedAnswer
+    ensures { λ r. ⌜ r ≡ answerIn phase ⌝ }
+{
+    match phase {
+        Phase::Stopped(stop) => FeedAnswer::Stopped(stop),
+        _ => FeedAnswer::GoesOn,
+    }
+}
+
+fn fed_by(step: Step) -> Fed
+    ensures { λ r. ⌜ r ≡ record { session = step .session; done = record { taken = step .next; updates = step .updates; answer = answerIn (step .session .phase) } } ⌝ }
+{
+    let session = step.session;
+    let phase = session.phase;
+    Fed {
+        session,
+        done: Done {
+            taken: step.next,
+            updates: step.updates,
+            answer: answer_in(phase),
+        },
+    }
+}
+
+// From PDU to PDU until the piece is taken or a stop; in Stopped none is taken.
+fn feed_on(s: Session, live: &mut [u32], working: &mut [u32], hold: &mut [u8], piece: &[u8]) -> Fed
+    requires { ⌜ isReceiver (s .life .limit) s (now live) (now working) (now hold) ≡ true ⌝ }
+    ensures { λ r. ⌜ fedSaid r (now (live .exit)) (now (working .exit)) (now (hold .exit)) ≡ feedSays (s .life .limit) s (now (live .entry)) (now (working .entry)) (now (hold .entry)) (now (piece .entry)) ⌝ }
+{
+    let phase = s.phase;
+    let mut step = Step {
+        session: s,
+        next: 0,
+        updates: 0,
+        over: is_stopped(phase),
+    };
+    while !step.over {
+        step = next_step(
+            step.session,
+            live,
+            working,
+            hold,
+            piece,
+            step.next,
+            step.updates,
+        );
+    }
+    fed_by(step)
 }
 
 // A piece of any length: it is searched PDU by PDU until it is taken or a stop; in Stopped none is taken and the stop is given again.
@@ -981,36 +1016,5 @@ pub fn feed(s: Session, live: &mut [u32], working: &mut [u32], hold: &mut [u8], 
             },
         };
     }
-    let phase = s.phase;
-    if let Phase::Stopped(stop) = phase {
-        return Fed {
-            session: s,
-            done: Done {
-                taken: 0,
-                updates: 0,
-                answer: FeedAnswer::Stopped(stop),
-            },
-        };
-    }
-    let mut session = s;
-    let mut at = 0;
-    let mut updates = 0;
-    let answer = loop {
-        let step = next_step(session, live, working, hold, piece, at, updates);
-        session = step.session;
-        at = step.next;
-        updates = step.updates;
-        let then = step.then;
-        if let Then::Done(done) = then {
-            break done;
-        }
-    };
-    Fed {
-        session,
-        done: Done {
-            taken: at,
-            updates,
-            answer,
-        },
-    }
+    feed_on(s, live, working, hold, piece)
 }
