@@ -26,7 +26,7 @@ ghost use lib.ListN.{length};
 ghost use Rattle.rtr_codec.specs.Reading.{inUse};
 ghost use Rattle.rtr_codec.specs.Run.{readAt, runSaid};
 ghost use Rattle.rtr_held.specs.Times.{FedTimes};
-ghost use Rattle.rtr_receiver.specs.Promises.{feedSays, fedSaid, fullAskSays, changeAskSays, askSaid, reconnectSays, reconnectSaid, notifySays, notifySaid};
+ghost use Rattle.rtr_receiver.specs.Promises.{FedAs, fullAskSays, changeAskSays, askSaid, reconnectSays, reconnectSaid, notifySays, notifySaid};
 
 // ---- In place
 
@@ -38,7 +38,7 @@ pub fn feed_in_place(
     hold: &mut [u8],
     piece: &[u8],
 ) -> Done
-    ensures { λ r. ⌜ fedSaid (record { session = now (session .exit); done = r }) (now (live .exit)) (now (working .exit)) (now (hold .exit)) ≡ feedSays (now (session .entry) .life .limit) (now (session .entry)) (now (live .entry)) (now (working .entry)) (now (hold .entry)) (now (piece .entry)) ⌝ }
+    ensures { λ r. ⌜ FedAs (now (session .entry) .life .limit) (now (session .entry)) (now (live .entry)) (now (working .entry)) (now (hold .entry)) (now (piece .entry)) (record { session = now (session .exit); done = r }) (now (live .exit)) (now (working .exit)) (now (hold .exit)) ⌝ }
 {
     let fed = feed(*session, live, working, hold, piece);
     *session = fed.session;
@@ -123,7 +123,7 @@ pub fn feed_through(
     hold: &mut [u8],
     piece: &[u8],
 ) -> Fed
-    ensures { λ r. ⌜ fedSaid r (now (live .exit)) (now (working .exit)) (now (hold .exit)) ≡ feedSays (session .life .limit) session (now (live .entry)) (now (working .entry)) (now (hold .entry)) (now (piece .entry)) ⌝ }
+    ensures { λ r. ⌜ FedAs (session .life .limit) session (now (live .entry)) (now (working .entry)) (now (hold .entry)) (now (piece .entry)) r (now (live .exit)) (now (working .exit)) (now (hold .exit)) ⌝ }
 {
     let mut lent = session;
     let done = feed_in_place(&mut lent, live, working, hold, piece);

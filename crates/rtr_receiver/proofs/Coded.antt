@@ -20,12 +20,11 @@ pub start-begins : (κs : _) (a : _) (session : _) (s : _) → start-reads.Post 
 start-begins κs a session s p = Run.started _ (now (a .1 .0)) (now (a .1 .1 .0)) refl p
 
 pub feed-steps : (κs : _) (a : _) (r : _) (s : _) → feed-reads.Post κs a r s →
-    length (now (s .1 .1 .1 .0)) ≡ length (now (a .1 .1 .1 .0)) →
     Step (a .0 .life .limit)
     (record { session = a .0; live = now (a .1 .0); working = now (a .1 .1 .0); hold = now (a .1 .1 .1 .0) })
     (Call.feed (now (a .1 .1 .1 .1 .0)))
     (record { session = r .session; live = now (s .1 .0); working = now (s .1 .1 .0); hold = now (s .1 .1 .1 .0) })
-feed-steps κs a r s p size = Step.fed (r .session) (r .done) _ _ _ size p
+feed-steps κs a r s p = Step.fed (r .session) (r .done) _ _ _ (p .1) (p .0)
 
 pub full-ask-steps : (κs : _) (a : _) (r : _) (s : _) → full-reads.Post κs a r s →
     Step (a .0 .life .limit)

@@ -183,7 +183,7 @@ one-fed r r′ live live′ working working′ hold hold′ given p q =
 
 pub feed-unique : (κs : _) (a : _) (r r′ : _) (s s′ : _) → feed-reads.Post κs a r s → feed-reads.Post κs a r′ s′
     → (r ≡ r′) × (now (s .1 .0) ≡ now (s′ .1 .0)) × (now (s .1 .1 .0) ≡ now (s′ .1 .1 .0)) × (take (r .session .held) (now (s .1 .1 .1 .0)) ≡ take (r′ .session .held) (now (s′ .1 .1 .1 .0)))
-feed-unique κs a r r′ s s′ p q = one-fed r r′ (now (s .1 .0)) (now (s′ .1 .0)) (now (s .1 .1 .0)) (now (s′ .1 .1 .0)) (now (s .1 .1 .1 .0)) (now (s′ .1 .1 .1 .0)) _ p q
+feed-unique κs a r r′ s s′ p q = one-fed r r′ (now (s .1 .0)) (now (s′ .1 .0)) (now (s .1 .1 .0)) (now (s′ .1 .1 .0)) (now (s .1 .1 .1 .0)) (now (s′ .1 .1 .1 .0)) _ (p .0) (q .0)
 
 -- under 22 the whole hold is fixed
 holdIn : FeedSays → List ℕ
@@ -198,7 +198,7 @@ pub feed-unique-refused : (κs : _) (a : _) (r r′ : _) (s s′ : _) → feed-r
 feed-unique-refused κs a r r′ s s′ p q e =
     let same : r ≡ r′ = feed-unique κs a r r′ s s′ p q .0 in
     sym (hold-in (r .done .answer) (r .done .taken) (r .done .updates) (leaves (r .session) (now (s .1 .0)) (now (s .1 .1 .0)) (now (s .1 .1 .1 .0))) (now (s .1 .1 .1 .0)) e)
-    ∙ ap holdIn (p ∙ sym q)
+    ∙ ap holdIn (p .0 ∙ sym (q .0))
     ∙ hold-in (r′ .done .answer) (r′ .done .taken) (r′ .done .updates) (leaves (r′ .session) (now (s′ .1 .0)) (now (s′ .1 .1 .0)) (now (s′ .1 .1 .1 .0))) (now (s′ .1 .1 .1 .0)) (sym (ap (λ (x : Fed). x .done .answer) same) ∙ e)
 
 -- ---- start

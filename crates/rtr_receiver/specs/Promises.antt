@@ -231,6 +231,11 @@ fedSaidBy FeedAnswer.NotAReceiver taken updates left hold = refusedFeed 22 taken
 abbrev pub fedSaid : Fed → Rooms → Rooms → List ℕ → FeedSays
 fedSaid r live working hold = fedSaidBy (r .done .answer) (r .done .taken) (r .done .updates) (leaves (r .session) live working hold) hold
 
+-- the promise: what the answer says of the memory that it leaves is that, and the hold keeps its length
+abbrev pub FedAs : ℕ → Session → Rooms → Rooms → List ℕ → List ℕ → Fed → Rooms → Rooms → List ℕ → Type 0
+FedAs limit s live working hold piece r live′ working′ hold′ =
+    (fedSaid r live′ working′ hold′ ≡ feedSays limit s live working hold piece) × (length hold′ ≡ length hold)
+
 -- ---- start: a fresh receiver in both rooms, or refused by a number, with both rooms as they are left: 22 for a limit, a room's size or H leaves them as they were
 pub data StartSays : Type 0 where
   started : Left → StartSays

@@ -28,7 +28,7 @@ ghost use lib.Dec.{eqb};
 ghost use Rattle.rtr_models.specs.Codes.{versionNumber};
 ghost use Rattle.rtr_codec.specs.Answers.{numberOf};
 ghost use Rattle.rtr_receiver.specs.Receiver.{finish, noUpdate, onKind, listens, compared};
-ghost use Rattle.rtr_receiver.specs.Promises.{NotifySays, stopSaid, changeUnderWay, isLoading, isStopped, stageOf, receiverOf, inOrder, isReceiver, feedSays, fedSaid, startSays, startSaid, fullAskSays, changeAskSays, askSaid, reconnectSays, reconnectSaid, notifySays, notifySaid, recordLimit, isLimit, tabled, cleared};
+ghost use Rattle.rtr_receiver.specs.Promises.{NotifySays, stopSaid, changeUnderWay, isLoading, isStopped, stageOf, receiverOf, inOrder, isReceiver, feedSays, FedAs, fedSaid, startSays, startSaid, fullAskSays, changeAskSays, askSaid, reconnectSays, reconnectSaid, notifySays, notifySaid, recordLimit, isLimit, tabled, cleared};
 ghost use Rattle.rtr_receiver.specs.Private.{BothRooms, WorkingRoom, IsSomeRoom, taking, Took, RecordDone, Stands, responseIn, resetIn, endIn, carriedBy, carriedOut, Makes, Updates, Decides, DecidesOn, Filled, stoppedSession, askedFor, mayAskFull, answerIn, HeardAs, HeardAsks, HeardDone, feedHere, StepAsks, Stepped};
 
 // How many records a room has at the most.
@@ -1004,7 +1004,7 @@ fn feed_on(s: Session, live: &mut [u32], working: &mut [u32], hold: &mut [u8], p
 
 // A piece of any length: it is searched PDU by PDU until it is taken or a stop; in Stopped none is taken and the stop is given again.
 pub fn feed(s: Session, live: &mut [u32], working: &mut [u32], hold: &mut [u8], piece: &[u8]) -> Fed
-    ensures { λ r. ⌜ fedSaid r (now (live .exit)) (now (working .exit)) (now (hold .exit)) ≡ feedSays (s .life .limit) s (now (live .entry)) (now (working .entry)) (now (hold .entry)) (now (piece .entry)) ⌝ }
+    ensures { λ r. ⌜ FedAs (s .life .limit) s (now (live .entry)) (now (working .entry)) (now (hold .entry)) (now (piece .entry)) r (now (live .exit)) (now (working .exit)) (now (hold .exit)) ⌝ }
 {
     if !is_receiver(s, live, working, hold) {
         return Fed {

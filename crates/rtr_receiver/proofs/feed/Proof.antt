@@ -1,4 +1,6 @@
 -- `feed` tests the shape, and goes on through the piece. Assumes nothing.
+use mathlib.Core.Path.{refl}
+use native.Mathlib.Omega.{arith}
 use denote.Ref.{now}
 use borrow.Author.Needs.{needs}
 use Rattle.rtr_receiver.proofs.Memory.{fails, holds}
@@ -21,7 +23,7 @@ same-length-3 c = search needs
 returns : tie.Need-returns
 returns c =
     let a = c .before .before .before .before .before .before .before .before .before .args in
-    feed-refused (a .s .life .limit) (a .s) (now (a .live)) (now (a .working)) (now (a .hold)) (now (a .piece)) (fails (c .before .is-receiver .ensures) (c .if1 .taken))
+    (feed-refused (a .s .life .limit) (a .s) (now (a .live)) (now (a .working)) (now (a .hold)) (now (a .piece)) (fails (c .before .is-receiver .ensures) (c .if1 .taken)), refl)
 
 feed-on-requires : tie.Need-feed-on-requires
 feed-on-requires c κs = holds (c .before .before .before .before .is-receiver .ensures) (c .before .before .before .if1 .left)
@@ -36,7 +38,7 @@ same-length-6 : tie.Need-same-length-6
 same-length-6 c = search needs
 
 returns-2 : tie.Need-returns-2
-returns-2 c = c .before .before .before .before .before .before .feed-on .ensures
+returns-2 c = (c .before .before .before .before .before .before .feed-on .ensures, omega arith)
 
 pub feed-spec : {M : Type 1} → statement M
 feed-spec =
