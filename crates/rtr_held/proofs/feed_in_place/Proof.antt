@@ -34,7 +34,7 @@ use denote.Triple.Clauses.{ensured, lasts}
 use denote.Triple.Table.{entered, cited}
 use denote.Triple.Walked.{says, Stays, stay-ref, gave-slice, stay-none-slice, walkOf, goes-ref, goes-gave-slice, goes-none-slice, Walks, ends-at, walked, walk-meets}
 use denote.Exit.{yes}
-use Rattle.rtr_receiver.specs.Promises.{feedSays, fedSaid}
+use Rattle.rtr_receiver.specs.Promises.{FedAs}
 use Rattle.rtr_receiver.specs.declared.Session.{Session}
 use Rattle.rtr_receiver.specs.declared.Fed.{Fed}
 use Rattle.rtr_receiver.proofs.Session as T
@@ -124,7 +124,7 @@ module _ {M : Type 1} (𝓤 : URA M) (H : Heap 𝓤) (A : Atoms 𝓤) (W : Given
 
   -- what the callee ensures, of what is returned and of the last lists
   abbrev Said : Fed → List ℕ → List ℕ → List ℕ → Type 0
-  Said r z1 z2 z3 = fedSaid r z1 z2 z3 ≡ feedSays (h .life .limit) h (x1 .now) (x2 .now) (x3 .now) (x4 .now)
+  Said r z1 z2 z3 = FedAs (h .life .limit) h (x1 .now) (x2 .now) (x3 .now) (x4 .now) r z1 z2 z3
 
   exits : (r : Fed) → IsWhole feed-answer (r .done) → ent 𝓤 (⋆ 𝓤 H A (‵ (fobs γ (T.the-row .coded .code (r .session))) ∷ ‵ (fbor κ (Body (mem T.the-row) b o γ)) ∷ ‵ (flft κ q) ∷ Toks ∷ raw (Rest r) ∷ Kept ∷ [])) (Post (feed-answer .val (r .done)))
   exits r di =

@@ -34,7 +34,7 @@ use denote.Triple.Clauses.{ensured, lasts}
 use denote.Triple.Table.{entered, cited}
 use denote.Triple.Walked.{says, Stays, stay-none, gave-slice, stay-none-slice, walkOf, goes-none, goes-gave-slice, goes-none-slice, Walks, ends-at, walked, walk-meets}
 use denote.Exit.{yes}
-use Rattle.rtr_receiver.specs.Promises.{feedSays, fedSaid}
+use Rattle.rtr_receiver.specs.Promises.{FedAs}
 use Rattle.rtr_receiver.specs.declared.Session.{Session}
 use Rattle.rtr_receiver.specs.declared.Fed.{Fed}
 use Rattle.rtr_receiver.specs.declared.Done.{Done}
@@ -130,7 +130,7 @@ module _ {M : Type 1} (𝓤 : URA M) (H : Heap 𝓤) (A : Atoms 𝓤) (W : Given
 
   -- what the callee ensures, of what is returned and of the last lists
   abbrev Said : Fed → List ℕ → List ℕ → List ℕ → Type 0
-  Said r z1 z2 z3 = fedSaid r z1 z2 z3 ≡ feedSays (h .life .limit) h (x1 .now) (x2 .now) (x3 .now) (x4 .now)
+  Said r z1 z2 z3 = FedAs (h .life .limit) h (x1 .now) (x2 .now) (x3 .now) (x4 .now) r z1 z2 z3
 
   abbrev Zs : Type 0
   Zs = List ℕ × List ℕ × List ℕ

@@ -38,7 +38,7 @@ use denote.Triple.Clauses.{ensured, lasts}
 use denote.Triple.Table.{entered, cited}
 use denote.Triple.Walked.{says, Stays, stay-ref, stay-slice, stay-none, stay-none-slice, walkOf, goes-ref, goes-slice, goes-none, goes-none-slice, Walks, ends-at, walked, walk-meets}
 use denote.Exit.{yes}
-use Rattle.rtr_receiver.specs.Promises.{feedSays, fedSaid}
+use Rattle.rtr_receiver.specs.Promises.{FedAs, feedSays, fedSaid}
 use Rattle.rtr_receiver.specs.Runs.{Memory as Lent, Step}
 use Rattle.rtr_receiver.specs.declared.Session.{Session}
 use Rattle.rtr_receiver.specs.declared.Done.{Done}
@@ -228,7 +228,7 @@ module _ {M : Type 1} (𝓤 : URA M) (H : Heap 𝓤) (A : Atoms 𝓤) (W : Given
 
   -- what the callee ensures, of its answer, of the record and of the last lists
   abbrev Said : X → Done → Session → List ℕ → List ℕ → List ℕ → Type 0
-  Said x d s z1 z2 z3 = fedSaid (record { session = s; done = d }) z1 z2 z3 ≡ feedSays (x .at .session .life .limit) (x .at .session) (x .at .live) (x .at .working) (x .at .hold) (x4 .now)
+  Said x d s z1 z2 z3 = FedAs (x .at .session .life .limit) (x .at .session) (x .at .live) (x .at .working) (x .at .hold) (x4 .now) (record { session = s; done = d }) z1 z2 z3
 
   abbrev Goes-on : X → X → Type 0
   Goes-on x x′ = (x .left - 1 ≡ x′ .left) × (x′ .left < x .left)
@@ -248,7 +248,7 @@ module _ {M : Type 1} (𝓤 : URA M) (H : Heap 𝓤) (A : Atoms 𝓤) (W : Given
       move ! (9 ∷ 2 ∷ 12 ∷ []) $ use3 W (later (‵ (Own1 κ1 (x1 .name) (zs .1 .0)) ⊛ ‵ (flft κ1 q1))) (again.comes-back-at u32 κ1 (y .ν1 ∷ []) q1 (x1 .name) (x1 .ptr .0) (x1 .ptr .1) (length (x1 .now)) 𝓤 H A W (named 1) (named 1) (x .at .live) (x .size1) (y .δ1) (zs .1 .0) r1 l1) $ await ! tt $ split ! $
       move ! (9 ∷ 4 ∷ 11 ∷ []) $ use3 W (later (‵ (Own2 κ2 (x2 .name) (zs .1 .1 .0)) ⊛ ‵ (flft κ2 q2))) (again.comes-back-at u32 κ2 (y .ν2 ∷ []) q2 (x2 .name) (x2 .ptr .0) (x2 .ptr .1) (length (x2 .now)) 𝓤 H A W (named 2) (named 2) (x .at .working) (x .size2) (y .δ2) (zs .1 .1 .0) r2 l2) $ await ! tt $ split ! $
       move ! (9 ∷ 6 ∷ 10 ∷ []) $ use3 W (later (‵ (Own3 κ3 (x3 .name) (zs .1 .1 .1 .0)) ⊛ ‵ (flft κ3 q3))) (again.comes-back-at u8 κ3 (y .ν3 ∷ []) q3 (x3 .name) (x3 .ptr .0) (x3 .ptr .1) (length (x3 .now)) 𝓤 H A W (named 3) (named 3) (x .at .hold) (x .size3) (y .δ3) (zs .1 .1 .1 .0) r3 l3) $ await ! tt $ split ! $
-      at-once ! $ show ! (λ (x′ : X). mean 𝓤 H A (given (Goes-on x x′) (Held x′))) (next x less d (zs .0) (zs .1 .0) (zs .1 .1 .0) (zs .1 .1 .1 .0) e l1 l2 l3) $ check ! (refl, down (x .left) less) $
+      at-once ! $ show ! (λ (x′ : X). mean 𝓤 H A (given (Goes-on x x′) (Held x′))) (next x less d (zs .0) (zs .1 .0) (zs .1 .1 .0) (zs .1 .1 .1 .0) (e .0) l1 l2 l3) $ check ! (refl, down (x .left) less) $
       move ! (6 ∷ 4 ∷ 2 ∷ 0 ∷ 8 ∷ 7 ∷ 5 ∷ 3 ∷ 1 ∷ 9 ∷ []) $ done !)))))
 
   -- when none is left, the feeds so far are all
