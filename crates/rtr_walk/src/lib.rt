@@ -9,7 +9,7 @@ ghost use mathlib.Core.Path.{_≡_};
 ghost use Prim.Native.Nat.{_-_, _≤_};
 ghost use Rattle.rtr_codec.specs.Reading.{inUse};
 ghost use Rattle.rtr_walk.specs.Walk.{walk, walkFrom, walkSaid};
-ghost use Rattle.rtr_walk.specs.Private.{walkInside};
+ghost use Rattle.rtr_walk.specs.Private.{ReadFrom, walkInside};
 
 // Where a walk ends.
 pub enum WalkEnd {
@@ -35,9 +35,9 @@ pub fn walk(input: &[u8]) -> WalkAnswer
     }
 }
 
-// Only a report has bytes inside; the level is what is used up of the 16.
+// Only a report has bytes inside; the level is what is used up of the 16. The PDU is the slice's own, so a report's part is shorter than the slice.
 fn walk_pdu(pdu: RtrPdu, input: &[u8], left: u8) -> WalkAnswer
-    requires { ⌜ left ≤ 16 ⌝ }
+    requires { ⌜ (left ≤ 16) × ReadFrom inUse pdu (now input) ⌝ }
     ensures { λ r. ⌜ walkSaid r ≡ walkFrom inUse left (16 - left) pdu (now (input .entry)) ⌝ }
 {
     match pdu {

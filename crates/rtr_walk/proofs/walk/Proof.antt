@@ -1,5 +1,6 @@
 -- `walk` gives what the walk of the reading in use says: level 0 is refused, or walked from with all levels left. Assumes nothing.
 use mathlib.Core.Path.{sym, ap, _∙_}
+use native.Mathlib.Omega.{arith}
 use borrow.Author.Needs.{needs}
 use Rattle.rtr_codec.specs.Reading.{inUse}
 use Rattle.rtr_codec.specs.Answers.{verdict}
@@ -14,7 +15,7 @@ enum-known-pdu : tie.Need-enum-known-pdu
 enum-known-pdu c = search needs
 
 walk-pdu-requires : tie.Need-walk-pdu-requires
-walk-pdu-requires c κs = search needs
+walk-pdu-requires c κs = (omega arith, (_, sym (c .before .before .before .parse-rtr-pdu .ensures) ∙ ap verdict (c .before .pdu .given .1)))
 
 enum-known-error : tie.Need-enum-known-error
 enum-known-error c = search needs
