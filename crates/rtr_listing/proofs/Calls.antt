@@ -41,11 +41,11 @@ pub holds : {r b : Bool} → r ≡ b → not r ≡ false → b ≡ true
 holds {r} e h = sym e ∙ not-false r h
 
 -- both parts of a test that holds hold
-first-of : (a b : Bool) → (a && b) ≡ true → a ≡ true
+pub first-of : (a b : Bool) → (a && b) ≡ true → a ≡ true
 first-of true b h = refl
 first-of false b h = h
 
-second-of : (a b : Bool) → (a && b) ≡ true → b ≡ true
+pub second-of : (a b : Bool) → (a && b) ≡ true → b ≡ true
 second-of true b h = h
 second-of false b h = absurd (true≢false (sym h))
 

@@ -1,5 +1,5 @@
 -- What the listing is, for readers and for programs that print it in parts. Assumes nothing.
-use Prim.Native.Nat.{ℕ, _≤_, _<_}
+use Prim.Native.Nat.{ℕ, _+_, _*_, _≤_, _<_}
 use mathlib.Core.Bool.{true, false}
 use mathlib.Core.List.{List, [], _∷_, _++_}
 use mathlib.Core.Path.{_≡_, sym}
@@ -14,7 +14,7 @@ use Rattle.rtr_receiver.specs.Runs.{Call, Memory, Run}
 use Rattle.rtr_receiver.specs.declared.Session.{Session}
 use Rattle.rtr_receiver.proofs.Laws.{shape-kept}
 use Rattle.rtr_listing.specs.declared.Head.{Head}
-use Rattle.rtr_listing.specs.Listing.{digits, decimal, headLines, headOf, addressOf, recordLines, allLines, listing}
+use Rattle.rtr_listing.specs.Listing.{digits, decimal, countDigits, headLines, headOf, addressOf, recordLines, allLines, listing}
 use Rattle.rtr_listing.specs.Promises.{puts, isListed, listingSays}
 use Rattle.rtr_listing.proofs.Digits as digits′
 use Rattle.rtr_listing.proofs.Numbers as numbers
@@ -31,6 +31,30 @@ decimal-is-number = numbers.decimal-is-number
 -- and do not begin with `0`, but for 0 itself
 pub no-leading-zero : (n : ℕ) → 0 < n → n < 4294967296 → getD (decimal n) 0 0 ≡ 48 → ⊥
 no-leading-zero = numbers.no-leading-zero
+
+-- a count's four digits, read as a decimal number, are that number
+pub count-is-number : (n : ℕ) → n < 10000 → numbers.valueOf (digits 10 countDigits n) 0 ≡ n
+count-is-number = numbers.count-is-number
+
+-- there are four of them
+pub count-length : (n : ℕ) → length (digits 10 countDigits n) ≡ 4
+count-length = digits′.digits-length 10 countDigits
+
+-- a number's eight hex digits, read in base 16, are that number
+pub hex-is-number : (n : ℕ) → n < 4294967296 → numbers.hexOf (digits 16 8 n) 0 ≡ n
+hex-is-number = numbers.hex-is-number
+
+-- so are an address's: one number in family 4, else all four, the first the most significant
+pub four-is-number : (r : Record) → familyOf r ≡ 4 → r .w0 < 4294967296 → numbers.hexOf (addressOf r) 0 ≡ r .w0
+four-is-number = numbers.four-is-number
+
+pub other-is-number : (r : Record) → (familyOf r ≡ 4 → ⊥) → r .w0 < 4294967296 → r .w1 < 4294967296 → r .w2 < 4294967296 → r .w3 < 4294967296
+    → numbers.hexOf (addressOf r) 0 ≡ ((r .w0 * 4294967296 + r .w1) * 4294967296 + r .w2) * 4294967296 + r .w3
+other-is-number = numbers.other-is-number
+
+-- each of its bytes is `0` to `9` or `a` to `f`
+pub address-lower-case : (r : Record) → numbers.areDigits (addressOf r) ≡ true
+address-lower-case = numbers.address-lower-case
 
 -- so many digits are asked for, so many there are
 pub digits-length : (b k n : ℕ) → length (digits b k n) ≡ k

@@ -1,5 +1,6 @@
--- `Laws`, `Printed`, `Samples` and `Unique` are for readers and other crates, with `Numbers`' reading of digits; the others are the argument.
+-- `Laws`, `Exactly`, `Printed`, `Samples` and `Unique` are for readers and other crates, with `Numbers`' reading of digits; the others are the argument.
 pub mod Laws
+pub mod Exactly
 pub mod Samples
 pub mod Unique
 pub mod Printed

@@ -1,15 +1,18 @@
 -- "Numbers are decimal without leading zeros": a number's digits, read as a decimal number, are that number, and begin with `0` only where it is 0.
--- The tests of `places` bound the number from both sides. Assumes nothing.
+-- The tests of `places` bound the number from both sides. "count has four digits" and "lower-case hex digits": these are the number too, read in base 10 and 16, and every byte is one of the base's
+-- digits. Assumes nothing.
 use Prim.Native.Nat.{ℕ, zero, suc, _+_, _-_, _*_, _^_, _≤_, _<_, _/_, _%_}
-use mathlib.Core.Bool.{Bool, true, false, cond}
+use mathlib.Core.Bool.{Bool, true, false, cond, _&&_, _||_, or-true, true≢false}
 use mathlib.Core.List.{List, [], _∷_, _++_}
-use mathlib.Core.Path.{_≡_, refl, sym, _∙_}
-use native.Mathlib.Nat.{pow-suc, pow-zero}
+use mathlib.Core.Path.{_≡_, refl, sym, ap, _∙_}
+use native.Mathlib.Nat.{pow-suc, pow-zero, mul-assoc}
 use native.Mathlib.Omega.{arith}
-use borrow.Author.Tests.{lt-ltb, ltb-true, ltb-false}
-use lib.Dec.{ltb}
+use borrow.Author.Tests.{lt-ltb, le-ltb, ltb-true, ltb-false, le-leb, eq-eqb, ne-eqb}
+use lib.Dec.{ltb, leb, eqb}
 use lib.ListN.{getD, List·getD-append}
-use Rattle.rtr_listing.specs.Listing.{glyph, digits, places, decimal}
+use Rattle.rtr_room.specs.Table.{familyOf}
+use Rattle.rtr_room.specs.declared.Record.{Record}
+use Rattle.rtr_listing.specs.Listing.{glyph, digits, places, decimal, countDigits, addressOf}
 use Rattle.rtr_listing.proofs.Digits.{digits-length}
 
 -- the decimal number that bytes stand for, with what was read before them
@@ -79,3 +82,109 @@ no-leading-zero n p h =
     (λ a. by-test P n 10000000 7 _ (first-digit 6 n a)
     (λ a. by-test P n 100000000 8 _ (first-digit 7 n a)
     (λ a. by-test P n 1000000000 9 10 (first-digit 8 n a) (λ a. first-digit 9 n a (omega arith))))))))))
+
+-- ---- "count has four digits"
+
+-- four digits are enough for any count up to 9,999, so for the limit's
+pub count-is-number : (n : ℕ) → n < 10000 → valueOf (digits 10 countDigits n) 0 ≡ n
+count-is-number n h = digits-value countDigits n h
+
+-- ---- "lower-case hex digits"
+
+-- what a digit's byte stands for: `0` to `9`, then `a` to `f`
+abbrev pub hexDigit : ℕ → ℕ
+hexDigit c = cond (ltb c 97) (c - 48) (c - 87)
+
+-- the number that bytes stand for in base 16, with what was read before them
+unfoldable pub hexOf : List ℕ → ℕ → ℕ
+hexOf [] read = read
+hexOf (c ∷ s) read = hexOf s (read * 16 + hexDigit c)
+
+hex-behind : (s t : List ℕ) (read : ℕ) → hexOf (s ++ t) read ≡ hexOf t (hexOf s read)
+unfolding hexOf
+hex-behind [] t read = refl
+hex-behind (c ∷ s) t read = hex-behind s t (read * 16 + hexDigit c)
+
+-- a digit's byte is one of the sixteen, and stands for the digit
+data Shown (d : ℕ) : ℕ → Type 0 where
+  number : d < 10 → Shown d (48 + d)
+  letter : 10 ≤ d → d < 16 → Shown d (87 + d)
+
+shown : (d : ℕ) → d < 16 → Shown d (glyph d)
+shown d h = go (ltb d 10) refl
+  where
+    go : (b : Bool) → ltb d 10 ≡ b → Shown d (cond b (48 + d) (87 + d))
+    go true e = number (ltb-true d 10 e)
+    go false e = letter (ltb-false d 10 e) h
+
+shown-digit : {d c : ℕ} → Shown d c → hexDigit c ≡ d
+shown-digit {d} (number h) = simp (lt-ltb (48 + d) 97 (omega arith)) (omega arith)
+shown-digit {d} (letter l h) = simp (le-ltb (87 + d) 97 (omega arith)) (omega arith)
+
+hex-digits : (k n read : ℕ) → n < 16 ^ k → hexOf (digits 16 k n) read ≡ read * 16 ^ k + n
+unfolding digits hexOf
+hex-digits zero n read h = omega (arith, pow-zero 16)
+hex-digits (suc k) n read h =
+    let below : n / 16 < 16 ^ k = omega (arith, pow-suc 16 k) in
+    let last : hexDigit (glyph (n % 16)) ≡ n % 16 = shown-digit (shown (n % 16) (omega arith)) in
+    let moved : (read * 16 ^ k) * 16 ≡ read * (16 ^ suc k) = mul-assoc read (16 ^ k) 16 ∙ ap (λ (x : ℕ). read * x) (sym (pow-suc 16 k)) in
+    hex-behind (digits 16 k (n / 16)) (glyph (n % 16) ∷ []) read
+    ∙ omega (arith, hex-digits k (n / 16) read below, last, moved)
+
+-- eight hex digits of a number of 32 bits, read as a number in base 16, are that number
+pub hex-is-number : (n : ℕ) → n < 4294967296 → hexOf (digits 16 8 n) 0 ≡ n
+hex-is-number n h = omega (arith, hex-digits 8 n 0 h)
+
+-- so are those of an address: one number in family 4, else all four, the first the most significant
+pub four-is-number : (r : Record) → familyOf r ≡ 4 → r .w0 < 4294967296 → hexOf (addressOf r) 0 ≡ r .w0
+unfolding addressOf
+four-is-number r e h = simp (eq-eqb (familyOf r) 4 e) (hex-is-number (r .w0) h)
+
+pub other-is-number : (r : Record) → (familyOf r ≡ 4 → ⊥) → r .w0 < 4294967296 → r .w1 < 4294967296 → r .w2 < 4294967296 → r .w3 < 4294967296
+    → hexOf (addressOf r) 0 ≡ ((r .w0 * 4294967296 + r .w1) * 4294967296 + r .w2) * 4294967296 + r .w3
+unfolding addressOf
+other-is-number r e h0 h1 h2 h3 =
+    let two : List ℕ = digits 16 8 (r .w0) ++ digits 16 8 (r .w1) in
+    simp (ne-eqb (familyOf r) 4 e)
+    (next (two ++ digits 16 8 (r .w2)) (r .w3) h3 (next two (r .w2) h2 (next (digits 16 8 (r .w0)) (r .w1) h1 (hex-is-number (r .w0) h0))))
+  where
+    next : (s : List ℕ) (n : ℕ) {read : ℕ} → n < 4294967296 → hexOf s 0 ≡ read → hexOf (s ++ digits 16 8 n) 0 ≡ read * 4294967296 + n
+    next s n h p = hex-behind s (digits 16 8 n) 0 ∙ hex-digits 8 n (hexOf s 0) h ∙ ap (λ (x : ℕ). x * 4294967296 + n) p
+
+-- every byte is one of the base's digits: `0` to `9`, and in base 16 `a` to `f`, never upper-case
+abbrev pub isDigit : ℕ → Bool
+isDigit c = (leb 48 c && leb c 57) || (leb 97 c && leb c 102)
+
+unfoldable pub areDigits : List ℕ → Bool
+areDigits [] = true
+areDigits (c ∷ s) = isDigit c && areDigits s
+
+are-behind : (s t : List ℕ) → areDigits s ≡ true → areDigits t ≡ true → areDigits (s ++ t) ≡ true
+unfolding areDigits
+are-behind [] t p q = q
+are-behind (c ∷ s) t p q = go (isDigit c) p (λ h. are-behind s t h q)
+  where
+    go : (b : Bool) → (b && areDigits s) ≡ true → (areDigits s ≡ true → areDigits (s ++ t) ≡ true) → (b && areDigits (s ++ t)) ≡ true
+    go true p rest = rest p
+    go false p rest = absurd (true≢false (sym p))
+
+shown-is : {d c : ℕ} → Shown d c → isDigit c ≡ true
+shown-is {d} (number h) = simp (le-leb 48 (48 + d) (omega arith), le-leb (48 + d) 57 (omega arith))
+shown-is {d} (letter l h) = simp (le-leb 97 (87 + d) (omega arith), le-leb (87 + d) 102 (omega arith), or-true)
+
+pub hex-lower-case : (k n : ℕ) → areDigits (digits 16 k n) ≡ true
+unfolding digits areDigits
+hex-lower-case zero n = refl
+hex-lower-case (suc k) n =
+    are-behind (digits 16 k (n / 16)) (glyph (n % 16) ∷ []) (hex-lower-case k (n / 16)) (simp (shown-is (shown (n % 16) (omega arith))))
+
+pub address-lower-case : (r : Record) → areDigits (addressOf r) ≡ true
+unfolding addressOf
+address-lower-case r = go (eqb (familyOf r) 4)
+  where
+    all : areDigits (digits 16 8 (r .w0) ++ digits 16 8 (r .w1) ++ digits 16 8 (r .w2) ++ digits 16 8 (r .w3)) ≡ true
+    all = are-behind _ _ (are-behind _ _ (are-behind _ _ (hex-lower-case 8 (r .w0)) (hex-lower-case 8 (r .w1))) (hex-lower-case 8 (r .w2))) (hex-lower-case 8 (r .w3))
+
+    go : (b : Bool) → areDigits (cond b (digits 16 8 (r .w0)) (digits 16 8 (r .w0) ++ digits 16 8 (r .w1) ++ digits 16 8 (r .w2) ++ digits 16 8 (r .w3))) ≡ true
+    go true = hex-lower-case 8 (r .w0)
+    go false = all

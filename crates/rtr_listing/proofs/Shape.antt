@@ -22,7 +22,7 @@ unless-false : (b : Bool) → (b ≡ false → ⊥) → b ≡ true
 unless-false true h = refl
 unless-false false h = absurd (h refl)
 
-above-zero : (n : ℕ) → eqb n 0 ≡ false → 0 < n
+pub above-zero : (n : ℕ) → eqb n 0 ≡ false → 0 < n
 above-zero zero e = absurd (true≢false e)
 above-zero (suc n) e = omega arith
 

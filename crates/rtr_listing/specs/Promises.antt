@@ -1,15 +1,17 @@
 -- What a call of the listing says and leaves, with document 01's numbers: "The listing" and "Refusal numbers". What it says, and the output that it
 -- leaves, are those of encoding (Writing and Encoded of rtr_encode). Over any record limit; a call promises it of the limit that the session record holds.
 use Prim.Native.Nat.{ℕ}
-use mathlib.Core.Bool.{Bool, cond, _&&_, _||_}
+use mathlib.Core.Bool.{Bool, false, cond, _&&_, _||_}
 use mathlib.Core.List.{List, [], _∷_}
+use mathlib.Core.Path.{_≡_}
 use lib.Dec.{leb}
 use lib.ListN.{length}
 use Rattle.rtr_encode.specs.Encode.{Writing, Encoded, unless, outAfter}
 use Rattle.rtr_encode.specs.Encode.Writing.{written, refused}
-use Rattle.rtr_receiver.specs.Contents.{Rooms, contents, areRooms, isNone}
+use Rattle.rtr_receiver.specs.Contents.{Rooms, contents, areRooms, isNone, OverLimit, Used, OffSize, BreaksRules}
 use Rattle.rtr_receiver.specs.History.{hasTable}
 use Rattle.rtr_receiver.specs.Promises.{hasLimit}
+use Rattle.rtr_receiver.specs.declared.LiveTable.{LiveTable}
 use Rattle.rtr_receiver.specs.declared.Session.{Session}
 use Rattle.rtr_listing.specs.Listing.{listing}
 use Rattle.rtr_listing.specs.declared.ListError.{ListError}
@@ -42,6 +44,14 @@ puts bytes out = record { says = putSays bytes (length out); out = outAfter (put
 -- the room and the session can be listed: the limit is the session's and a receiver may have it, the live room keeps the room rules, and no record stands without a table
 abbrev pub isListed : ℕ → Session → Rooms → Bool
 isListed limit s live = hasLimit limit s && (areRooms limit (s .live) live && (hasTable (s .table) || isNone (s .live)))
+
+-- document 01's reasons for 22, those that speak of the live room and its table, over any limit: proofs/Exactly.antt has that a listing is refused by 22 exactly where one of them holds
+pub data ListReason (limit : ℕ) (s : Session) (live : Rooms) : Type 0 where
+  otherLimit : hasLimit limit s ≡ false → ListReason limit s live
+  liveSize : OffSize limit live → ListReason limit s live
+  liveOver : OverLimit limit (s .live) → ListReason limit s live
+  liveRules : BreaksRules limit (s .live) live → ListReason limit s live
+  recordsWithoutTable : s .table ≡ LiveTable.NoTable → Used (s .live) → ListReason limit s live
 
 -- the listing of a session and its live room: 22, then 9, then all of it
 unfoldable pub listingSays : ℕ → Session → Rooms → List ℕ → Encoded
