@@ -72,7 +72,7 @@ one-held r r′ hold hold′ piece given p q =
 -- two results and two holds that meet the promise are equal, the holds up to the held count, in the bytes of a PDU that lies there, and whole on 22
 pub search-unique : (κs : _) (a : _) (r r′ : _) (s s′ : _) → search-reads.Post κs a r s → search-reads.Post κs a r′ s′
     → (r ≡ r′) × (take (r .stream .held) (now (s .0)) ≡ take (r′ .stream .held) (now (s′ .0))) × (saidBy (r .answer) (now (s .0)) (now (a .1 .1 .0)) ≡ saidBy (r′ .answer) (now (s′ .0)) (now (a .1 .1 .0)))
-search-unique κs a r r′ s s′ p q = one-held r r′ (now (s .0)) (now (s′ .0)) _ _ p q
+search-unique κs a r r′ s s′ p q = one-held r r′ (now (s .0)) (now (s′ .0)) _ _ (p .0) (q .0)
 
 pub stream-new-unique : (κs : _) (a : _) (r r′ : _) (s s′ : _) → new-reads.Post κs a r s → new-reads.Post κs a r′ s′ → r ≡ r′
 stream-new-unique κs a r r′ s s′ p q = only-this r r′ _ p q

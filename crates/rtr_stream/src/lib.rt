@@ -325,6 +325,7 @@ fn search_piece(hold: &mut [u8], piece: &[u8], at: usize) -> Searched
 // more (at most twice: the header, then the PDU).
 pub fn search(hold: &mut [u8], stream: Stream, piece: &[u8], at: usize) -> Searched
     ensures { λ r. ⌜ searchSaid r (now (hold .exit)) (now (piece .entry)) ≡ search (now (hold .entry)) (stream .held) (now (piece .entry)) at ⌝ }
+    ensures { λ r. ⌜ length (now (hold .exit)) ≡ length (now (hold .entry)) ⌝ }
 {
     let mut held = stream.held;
     let mut next = at;

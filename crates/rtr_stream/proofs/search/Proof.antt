@@ -35,7 +35,7 @@ same-length c = search needs
 returns : tie.Need-returns Inv-loop μ-loop
 returns c =
     let a = c .before .before .before .before .before .args in
-    not-a-stream (now (a .hold)) (now (a .piece)) (a .stream .held) (a .at) (sym (c .before .is-stream .ensures) ∙ not-true _ (c .if1 .taken))
+    (not-a-stream (now (a .hold)) (now (a .piece)) (a .stream .held) (a .at) (sym (c .before .is-stream .ensures) ∙ not-true _ (c .if1 .taken)), refl)
 
 search-piece-requires : tie.Need-search-piece-requires Inv-loop μ-loop
 search-piece-requires c κs =
@@ -49,10 +49,12 @@ returns-2 : tie.Need-returns-2 Inv-loop μ-loop
 returns-2 c =
     let a = c .before .before .before .before .before .before .before .before .before .before .args in
     let hold = now (a .hold) in
-    let piece = now (a .piece) in
-    c .before .before .search-piece .ensures
-    ∙ ap (λ (k : ℕ). outcomeOf k (a .at) (searchHere hold k piece (a .at))) (sym (c .before .before .before .before .if2 .taken))
-    ∙ a-stream hold piece (a .stream .held) (a .at) (sym (c .before .before .before .before .before .before .is-stream .ensures) ∙ not-false _ (c .before .before .before .before .before .if1 .left))
+    let piece = now (a .piece) in (
+      c .before .before .search-piece .ensures
+          ∙ ap (λ (k : ℕ). outcomeOf k (a .at) (searchHere hold k piece (a .at))) (sym (c .before .before .before .before .if2 .taken))
+          ∙ a-stream hold piece (a .stream .held) (a .at) (sym (c .before .before .before .before .before .before .is-stream .ensures) ∙ not-false _ (c .before .before .before .before .before .if1 .left)),
+      omega arith,
+    )
 
 loop-holds : tie.Need-loop-holds Inv-loop μ-loop
 loop-holds c = (sym (c .before .before .is-stream .ensures) ∙ not-false _ (c .before .if1 .left), refl, refl, (λ n. refl), omega arith)
@@ -95,11 +97,13 @@ returns-3 c =
     let a = c .before .before .before .before .before .before .before .before .before .before .before .before .before .before .args in
     let l = c .before .before .before .before .before .before .before .loop in
     let t = c .before .before .before .before .before .one-turn .result in
-    let turned = subst (TurnedTo (l .hold) (l .held) (now (a .piece)) (l .next) (t .held) (t .next) (c .before .before .before .before .before .one-turn .last .0)) (c .before .then .given .1) (c .before .before .before .before .before .one-turn .ensures) in
-    turned
-    ∙ outcomes-alike (l .held) (a .stream .held) (l .next) (a .at) (l .inv .3) (searchHere (l .hold) (l .held) (now (a .piece)) (l .next))
-    ∙ ap (outcomeOf (a .stream .held) (a .at)) (l .inv .2)
-    ∙ a-stream (now (a .hold)) (now (a .piece)) (a .stream .held) (a .at) (sym (c .before .before .before .before .before .before .before .before .before .before .is-stream .ensures) ∙ not-false _ (c .before .before .before .before .before .before .before .before .before .if1 .left))
+    let turned = subst (TurnedTo (l .hold) (l .held) (now (a .piece)) (l .next) (t .held) (t .next) (c .before .before .before .before .before .one-turn .last .0)) (c .before .then .given .1) (c .before .before .before .before .before .one-turn .ensures) in (
+      turned
+          ∙ outcomes-alike (l .held) (a .stream .held) (l .next) (a .at) (l .inv .3) (searchHere (l .hold) (l .held) (now (a .piece)) (l .next))
+          ∙ ap (outcomeOf (a .stream .held) (a .at)) (l .inv .2)
+          ∙ a-stream (now (a .hold)) (now (a .piece)) (a .stream .held) (a .at) (sym (c .before .before .before .before .before .before .before .before .before .before .is-stream .ensures) ∙ not-false _ (c .before .before .before .before .before .before .before .before .before .if1 .left)),
+      omega arith,
+    )
 
 pub search-spec : {M : Type 1} → statement M
 search-spec =
