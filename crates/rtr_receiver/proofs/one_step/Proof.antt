@@ -49,7 +49,7 @@ after-pdu-requires c κs =
     (λ (t : Session). Did (t .life .limit) (c .before .before .before .before .on-pdu .result) (c .before .before .before .before .on-pdu .last .1 .0) (c .before .before .before .before .on-pdu .last .1 .1 .0) (onPdu (t .life .limit) pdu (receiverOf t live working [])))
     (c .before .before .before .before .before .before .before .with-held .ensures)
     (c .before .before .before .before .on-pdu .ensures) in
-    let most = step-counts (a .s .life .limit) (a .s) live working hold piece (a .at) (a .updates) shape (pre .1) r hold′ same (c .before .before .before .before .before .before .before .before .before .before .before .before .before .before .search .ensures) pdu lies (c .before .before .before .before .before .before .before .before .before .answer .given .1) (c .before .before .before .before .on-pdu .result) (c .before .before .before .before .on-pdu .last .1 .0) (c .before .before .before .before .on-pdu .last .1 .1 .0) (pre .2) (pre .3) did in
+    let most = step-counts (a .s .life .limit) (a .s) live working hold piece (a .at) (a .updates) shape (pre .1) r hold′ same (c .before .before .before .before .before .before .before .before .before .before .before .before .before .before .search .ensures .0) pdu lies (c .before .before .before .before .before .before .before .before .before .answer .given .1) (c .before .before .before .before .on-pdu .result) (c .before .before .before .before .on-pdu .last .1 .0) (c .before .before .before .before .on-pdu .last .1 .1 .0) (pre .2) (pre .3) did in
     omega (arith, c .before .before .before .before .before .before .before .before .before .before .before .before .before .before .before .before .before .before .before .before .good)
 
 enum-known-answer-2 : tie.Need-enum-known-answer-2
@@ -96,7 +96,7 @@ returns c =
     (c .before .before .before .before .before .on-pdu .ensures) in
     subst (λ (t : Step). Stepped (a .s .life .limit) (feedHere (a .s .life .limit) (a .s) live working hold piece (a .at) (a .updates)) piece (a .at) t (c .before .before .before .before .before .on-pdu .last .1 .0) (c .before .before .before .before .before .on-pdu .last .1 .1 .0) hold′)
     (sym (c .after-pdu .ensures))
-    (step-pdu (a .s .life .limit) (a .s) live working hold piece (a .at) (a .updates) shape (pre .1) r hold′ same (c .before .before .before .before .before .before .before .before .before .before .before .before .before .before .before .search .ensures) pdu lies (c .before .before .before .before .before .before .before .before .before .before .answer .given .1)
+    (step-pdu (a .s .life .limit) (a .s) live working hold piece (a .at) (a .updates) shape (pre .1) r hold′ same (c .before .before .before .before .before .before .before .before .before .before .before .before .before .before .before .search .ensures .0) pdu lies (c .before .before .before .before .before .before .before .before .before .before .answer .given .1)
     (c .before .before .before .before .before .on-pdu .result) (c .before .before .before .before .before .on-pdu .last .1 .0) (c .before .before .before .before .before .on-pdu .last .1 .1 .0) (pre .2) (pre .3) did)
 
 same-length-4 : tie.Need-same-length-4
@@ -118,7 +118,7 @@ returns-2 c =
     let hold′ = c .before .before .before .before .before .before .before .before .before .before .search .last .0 in
     let same : length hold′ ≡ length hold = omega (arith, c .before .before .before .before .before .before .before .before .before .hold .given) in
     let error = c .before .before .before .before .before .answer2 .given .0 .0 in
-    step-stop (a .s .life .limit) (a .s) live working hold piece (a .at) (a .updates) shape (pre .1) r hold′ same (c .before .before .before .before .before .before .before .before .before .before .search .ensures) error (c .before .before .stop-with .result) (c .before .before .stop-with .last .1 .0)
+    step-stop (a .s .life .limit) (a .s) live working hold piece (a .at) (a .updates) shape (pre .1) r hold′ same (c .before .before .before .before .before .before .before .before .before .before .search .ensures .0) error (c .before .before .stop-with .result) (c .before .before .stop-with .last .1 .0)
     (c .before .before .before .before .before .answer2 .given .1) (c .before .before .stop-with .ensures .0) (c .before .before .stop-with .ensures .1)
 
 same-length-6 : tie.Need-same-length-6
@@ -138,7 +138,7 @@ returns-3 c =
     let same : length hold′ ≡ length hold = omega (arith, c .before .before .before .before .before .hold .given) in
     subst (λ (t : Session). fedSaidBy FeedAnswer.GoesOn (r .next) (a .updates) (leaves t live working hold′) hold′ ≡ fedTo (a .s .life .limit) (feedHere (a .s .life .limit) (a .s) live working hold piece (a .at) (a .updates)))
     (sym (c .with-held2 .ensures))
-    (step-more (a .s .life .limit) (a .s) live working hold piece (a .at) (a .updates) shape (pre .1) r hold′ same (c .before .before .before .before .before .before .search .ensures) (c .before .enum-told .given .1))
+    (step-more (a .s .life .limit) (a .s) live working hold piece (a .at) (a .updates) shape (pre .1) r hold′ same (c .before .before .before .before .before .before .search .ensures .0) (c .before .enum-told .given .1))
 
 same-length-7 : tie.Need-same-length-7
 same-length-7 c = search needs
@@ -155,7 +155,7 @@ returns-4 c =
     let r = c .before .before .before .before .before .search .result in
     let hold′ = c .before .before .before .before .before .search .last .0 in
     let same : length hold′ ≡ length hold = omega (arith, c .before .before .before .before .hold .given) in
-    absurd (step-never (a .s .life .limit) (a .s) live working hold piece (a .at) (a .updates) shape (pre .1) r hold′ same (c .before .before .before .before .before .search .ensures) (c .enum-told2 .given .1))
+    absurd (step-never (a .s .life .limit) (a .s) live working hold piece (a .at) (a .updates) shape (pre .1) r hold′ same (c .before .before .before .before .before .search .ensures .0) (c .enum-told2 .given .1))
 
 pub one-step-spec : {M : Type 1} → statement M
 one-step-spec =
