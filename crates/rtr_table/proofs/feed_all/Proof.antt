@@ -1,13 +1,15 @@
--- `feed_all`: what is lent keeps its length over the turns, of which there are fewer and fewer. Assumes nothing.
+-- `feed_all`: over the turns, of which there are fewer and fewer, what is lent keeps its length and is led on by the pieces that were fed. Assumes nothing.
 use mathlib.Core.Path.{_≡_}
 use native.Mathlib.Omega.{arith}
 use borrow.Author.Needs.{needs}
 use lib.ListN.{length}
+use Rattle.rtr_table.specs.Feeding.{memory, Fed}
+use Rattle.rtr_table.proofs.Feeds.{fed-none, fed-turn, fed-then}
 use Rattle.rtr_table.proofs.feed_all.Statement.{statement}
 use Rattle.rtr_table.proofs.feed_all.Tie as tie
 
 abbrev Inv-loop : tie.InvT-loop
-Inv-loop live₀ working₀ hold₀ piece₀ session₀ turns₀ live working hold piece session turns = (length live ≡ length live₀) × (length working ≡ length working₀) × (length hold ≡ length hold₀) × (65536 ≡ length piece)
+Inv-loop live₀ working₀ hold₀ piece₀ session₀ turns₀ live working hold piece session turns = (length live ≡ length live₀) × (length working ≡ length working₀) × (length hold ≡ length hold₀) × (65536 ≡ length piece) × Fed (memory session₀ live₀ working₀ hold₀) (memory session live working hold)
 
 abbrev μ-loop : tie.MeasureT-loop
 μ-loop live₀ working₀ hold₀ piece₀ session₀ turns₀ live working hold piece session turns = turns
@@ -16,7 +18,7 @@ large-buffer-requires : tie.Need-large-buffer-requires Inv-loop μ-loop
 large-buffer-requires c κs = search needs
 
 loop-holds : tie.Need-loop-holds Inv-loop μ-loop
-loop-holds c = omega arith
+loop-holds c = (omega arith, omega arith, omega arith, omega arith, fed-none _)
 
 slice-aggregate-hear-piece : tie.Need-slice-aggregate-hear-piece Inv-loop μ-loop
 slice-aggregate-hear-piece c = omega arith
@@ -34,7 +36,7 @@ same-length-3 : tie.Need-same-length-3 Inv-loop μ-loop
 same-length-3 c = omega arith
 
 returns : tie.Need-returns Inv-loop μ-loop
-returns c = search needs
+returns c = fed-then (c .before .before .before .before .before .before .before .before .before .before .before .before .before .before .before .before .loop .inv .4) (fed-turn (c .before .before .before .before .before .before .before .before .before .before .hear-piece .ensures))
 
 sub-turns : tie.Need-sub-turns Inv-loop μ-loop
 sub-turns c = omega arith
@@ -43,7 +45,13 @@ loop-less : tie.Need-loop-less Inv-loop μ-loop
 loop-less c = omega arith
 
 loop-again : tie.Need-loop-again Inv-loop μ-loop
-loop-again c = omega arith
+loop-again c = (
+  omega arith,
+  omega arith,
+  omega arith,
+  omega arith,
+  fed-then (c .before .before .before .before .before .before .before .before .before .before .before .before .before .before .before .before .loop .inv .4) (fed-turn (c .before .before .before .before .before .before .before .before .before .before .hear-piece .ensures)),
+)
 
 same-length-4 : tie.Need-same-length-4 Inv-loop μ-loop
 same-length-4 c = omega arith
@@ -55,7 +63,7 @@ same-length-6 : tie.Need-same-length-6 Inv-loop μ-loop
 same-length-6 c = omega arith
 
 returns-2 : tie.Need-returns-2 Inv-loop μ-loop
-returns-2 c = search needs
+returns-2 c = c .before .loop .inv .4
 
 pub feed-all-spec : {M : Type 1} → statement M
 feed-all-spec =

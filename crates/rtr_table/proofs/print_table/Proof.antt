@@ -17,17 +17,8 @@ print-head-requires c κs = search needs
 loop-holds : tie.Need-loop-holds Inv-loop μ-loop
 loop-holds c = omega arith
 
-get-requires : tie.Need-get-requires Inv-loop μ-loop
-get-requires c κs = search needs
-
-enum-known-r : tie.Need-enum-known-r Inv-loop μ-loop
-enum-known-r c = search needs
-
 print-record-requires : tie.Need-print-record-requires Inv-loop μ-loop
 print-record-requires c κs = search needs
-
-enum-told : tie.Need-enum-told Inv-loop μ-loop
-enum-told c = search needs
 
 add-i : tie.Need-add-i Inv-loop μ-loop
 add-i c = omega arith
@@ -49,10 +40,7 @@ print-table-spec =
     μ-loop
     print-head-requires
     loop-holds
-    get-requires
-    enum-known-r
     print-record-requires
-    enum-told
     add-i
     loop-less
     loop-again
