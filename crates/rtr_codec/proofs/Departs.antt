@@ -1,5 +1,6 @@
--- Two readings that differ only in departures that do not apply to a slice read it alike. A check before a switch has passed where the switch is asked; the version and the type that were found are the header's (the tables' laws), so
--- each switch is asked only where its departure applies, or where both of its ways give the same test. Assumes nothing.
+-- Two readings that differ only in departures that do not apply to a slice read it alike. A check before a switch has passed where the switch is asked; the
+-- version and the type that were found are the header's (the tables' laws), so each switch is asked only where its departure applies, or where both of its ways
+-- give the same test. Assumes nothing.
 use Prim.Native.Nat.{ℕ, _≤_, _+_}
 use mathlib.Core.Bool.{Bool, true, false}
 use mathlib.Core.List.{List}

@@ -1,5 +1,6 @@
--- Where a departure applies, readings that differ in it differ in their verdicts: the converse of Departs. Where it applies, the checks before its switch have passed, so the verdict is what the switch gives: another length expected or
--- another place for a key, 7 for a code, 4 for bytes behind a text. Assumes nothing.
+-- Where a departure applies, readings that differ in it differ in their verdicts: the converse of Departs. Where it applies, the checks before its switch have
+-- passed, so the verdict is what the switch gives: another length expected or another place for a key, 7 for a code, 4 for bytes behind a text. Assumes
+-- nothing.
 use Prim.Native.Nat.{ℕ, _+_, _≤_}
 use mathlib.Core.Bool.{Bool, true, false, cond, _&&_, _||_, and-false}
 use mathlib.Core.List.{List, [], _∷_}

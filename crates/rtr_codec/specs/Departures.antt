@@ -1,5 +1,6 @@
--- Where readings differ: for each switch of `Reading`, the slices to which it applies. Two readings give the same verdict exactly if no switch in which they differ applies (`readings-agree-exactly`, proofs/Laws.antt), so no switch
--- is idle where it is said to apply, and none matters elsewhere. docs/DIFFERENCES.md has the RFCs' words and a smallest slice for each.
+-- Where readings differ: for each switch of `Reading`, the slices to which it applies. Two readings give the same verdict exactly if no switch in which they
+-- differ applies (`readings-agree-exactly`, proofs/Laws.antt), so no switch is idle where it is said to apply, and none matters elsewhere. docs/DIFFERENCES.md
+-- has the RFCs' words and a smallest slice for each.
 use Prim.Native.Nat.{ℕ, _+_}
 use mathlib.Core.Bool.{Bool, true, false, _&&_, _||_}
 use mathlib.Core.List.{List}
@@ -51,8 +52,8 @@ there s = leb 8 (length s) && leb (headerLength s) (length s)
 abbrev pub reported : Reading → List ℕ → Bool
 reported R s = headed 0 10 s && codeIn (R .codeEightInV0) V0 (codeOf s) || headed 1 10 s && codeIn (R .codeEightInV0) V1 (codeOf s)
 
--- whether a reading comes to a departure's switch in a slice, and finds that it matters: in a version 0 report of code 8, long enough for its fields; in a report that is longer than its text's end, its code being in the
--- list; in a version 1 key
+-- whether a reading comes to a departure's switch in a slice, and finds that it matters: in a version 0 report of code 8, long enough for its fields; in a
+-- report that is longer than its text's end, its code being in the list; in a version 1 key
 unfoldable pub applies : Reading → Departure → List ℕ → Bool
 applies R codeEightInV0 s = there s && headed 0 10 s && leb (textStart 0) (headerLength s) && eqb (codeOf s) 8
 applies R bytesBehindText s = there s && reported R s && ltb (textEnd s) (headerLength s)

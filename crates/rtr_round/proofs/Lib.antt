@@ -1,4 +1,4 @@
--- `Rfc`, `RfcSent`, `RoundTrip`, `Calls`, `KeyInV0`, `Payloads`, `Rule` and `Output` are for readers and other crates; the others are the argument.
+-- `Rfc`, `RfcSent`, `RfcBack`, `RoundTrip`, `Calls`, `KeyInV0`, `Payloads`, `Rule` and `Output` are for readers and other crates; the others are the argument.
 pub mod RoundTrip
 pub mod Calls
 pub mod KeyInV0
@@ -13,4 +13,5 @@ mod Written
 mod ReadBack
 pub mod Rfc
 pub mod RfcSent
+pub mod RfcBack
 mod Pictures

@@ -1,5 +1,6 @@
--- A picture stands in a slice of bytes exactly if each of its fields does (`each-stands`), and a field of 8, 16 or 32 bits stands there exactly if its number is read there (`bits8-is`, `bits16-is`, `bits32-is`); what is
--- written of a number that fits is its field (`written-8`, `written-16`, `written-32`). Byte by byte, by the laws of numbers. Assumes nothing.
+-- A picture stands in a slice of bytes exactly if each of its fields does (`each-stands`), and a field of 8, 16 or 32 bits stands there exactly if its number
+-- is read there (`bits8-is`, `bits16-is`, `bits32-is`); what is written of a number that fits is its field (`written-8`, `written-16`, `written-32`). Byte by
+-- byte, by the laws of numbers. Assumes nothing.
 use Prim.Native.Nat.{ℕ, _+_, _*_, _/_, _%_, _<_, _≤_}
 use mathlib.Core.List.{List, [], _∷_, _++_}
 use mathlib.Core.Logic.{_↔_}

@@ -1,5 +1,6 @@
--- Encoding held to the RFCs' own pictures (specs/Rfc.antt). Every PDU in rule is written as its picture with the reserved fields zero, by every reading, but for a Router Key by one that has the crate's arrangement of it
--- (`encoder-writes-rfc`, `in-use-writes-rfc`). Kind by kind: what is written of a number that fits is its field (Pictures). Assumes nothing.
+-- Encoding held to the RFCs' own pictures (specs/Rfc.antt). Every PDU in rule is written as its picture with the reserved fields zero, by every reading, but
+-- for a Router Key by one that has the crate's arrangement of it (`encoder-writes-rfc`, `in-use-writes-rfc`). Kind by kind: what is written of a number that
+-- fits is its field (Pictures). Assumes nothing.
 use Prim.Native.Nat.{ℕ, _+_, _≤_, _<_}
 use mathlib.Core.Bool.{true, false}
 use mathlib.Core.List.{List, [], _∷_, _++_, append-assoc, append-nil}

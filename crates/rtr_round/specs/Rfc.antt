@@ -1,5 +1,6 @@
--- The PDUs as RFC 6810 (version 0, sections 5.2 to 5.10) and RFC 8210 (version 1, sections 5.2 to 5.11) draw them, written down from those texts alone: nothing of reading, encoding or their layouts is used here.
--- A section's number is RFC 8210's; RFC 6810 has the same section and the same picture, where nothing else is said. `rfc-exactly` and `encoder-writes-rfc` (proofs/Rfc.antt) hold reading and encoding to this page.
+-- The PDUs as RFC 6810 (version 0, sections 5.2 to 5.10) and RFC 8210 (version 1, sections 5.2 to 5.11) draw them, written down from those texts alone: nothing
+-- of reading, encoding or their layouts is used here. A section's number is RFC 8210's; RFC 6810 has the same section and the same picture, where nothing else
+-- is said. `rfc-exactly` (proofs/Rfc.antt) holds reading to this page, `encoder-writes-rfc` (proofs/RfcSent.antt) encoding.
 use Prim.Native.Nat.{ℕ, _+_, _/_, _%_, _≤_}
 use mathlib.Core.List.{List, [], _∷_, _++_}
 use mathlib.Core.Path.{_≡_}
@@ -18,7 +19,8 @@ use Rattle.rtr_models.specs.declared.RtrPdu.the-variants.{SerialNotify, SerialQ
 
 -- ---- Fields
 
--- a number in 8, 16 or 32 bits, its high byte first (document 01: big-endian). Of a number too large for its field the first byte is over 255, so no slice of bytes has it
+-- a number in 8, 16 or 32 bits, its high byte first (document 01: big-endian). Of a number too large for its field the first byte is over 255, so no slice of
+-- bytes has it
 abbrev pub bits8 : ℕ → List ℕ
 bits8 n = n ∷ []
 
@@ -151,7 +153,8 @@ abbrev pub lastCode : RtrProtocolVersion → ℕ
 lastCode V0 = 7
 lastCode V1 = 8
 
--- ---- Received: these bytes b are this PDU. Payloads are named by place, which is where the picture has them. What section 6 asks of intervals binds the cache alone (docs/DIFFERENCES.md)
+-- ---- Received: these bytes b are this PDU. Payloads are named by place, which is where the picture has them. What section 6 asks of intervals binds the cache
+-- alone (docs/DIFFERENCES.md)
 
 abbrev pub placed : ℕ → ℕ → Place
 placed start len = record { start = start; len = len }
@@ -217,7 +220,8 @@ Received (ErrorReport p) b =
 abbrev pub Begins : List ℕ → RtrPdu → ℕ → Type 0
 Begins s pdu n = (n ≤ length s) × Received pdu (take n s)
 
--- ---- Sent: the bytes of this PDU, with what it names in s. Reserved fields are zero (section 5; RFC 6810, 5.1); flags are the PDU's, whatever their reserved bits (docs/DIFFERENCES.md)
+-- ---- Sent: the bytes of this PDU, with what it names in s. Reserved fields are zero (section 5; RFC 6810, 5.1); flags are the PDU's, whatever their reserved
+-- bits (docs/DIFFERENCES.md)
 
 abbrev pub named : Place → List ℕ → List ℕ
 named p s = take (p .len) (drop (p .start) s)
