@@ -30,12 +30,15 @@ use Rattle.rtr_models.proofs.RtrErrorReport.error_text_part.Reads as text-part
 use Rattle.rtr_codec.specs.Reading.{inUse}
 use Rattle.rtr_codec.specs.Bytes.{number}
 use Rattle.rtr_codec.specs.Layout.{place}
-use Rattle.rtr_codec.specs.Read.{headerLength, read}
+use Rattle.rtr_codec.specs.Read.{Verdict, headerLength, read}
 use Rattle.rtr_codec.specs.Read.Verdict.{accepted}
-use Rattle.rtr_codec.specs.Answers.{verdict}
+use Rattle.rtr_codec.specs.Answers.{verdict, refusal}
+use Rattle.rtr_codec.specs.Refusals.{Refusal}
+use Rattle.rtr_codec.specs.declared.RtrError.{RtrError}
 use Rattle.rtr_codec.specs.declared.ReadAnswer.the-variants.{Read}
 use Rattle.rtr_codec.specs.Stands.{Stands}
 use Rattle.rtr_codec.proofs.Exactly.{ends-within, stands-read}
+use Rattle.rtr_codec.proofs.Refused.{refused-exactly}
 use Rattle.rtr_codec.proofs.parse_rtr_pdu.Reads as parse
 use Rattle.rtr_encode.specs.Encode.{Encoded, layoutOf, given, valuesIn, encodedLength, encoding}
 use Rattle.rtr_encode.specs.Encode as paper
@@ -48,7 +51,7 @@ use Rattle.rtr_encode.proofs.Laws.{written-is-encoding}
 use Rattle.rtr_encode.proofs.Refused.{short-refused}
 use Rattle.rtr_encode.proofs.encode.Reads as encode
 use Rattle.rtr_round.specs.RoundTrip.{Bytes, ignoredZero, nothingBehind, valuesFit, kindInRule, InRule, readBack}
-use Rattle.rtr_round.specs.declared.Recoding.the-variants.{Again}
+use Rattle.rtr_round.specs.declared.Recoding.the-variants.{Again, Unread}
 use Rattle.rtr_round.proofs.Output.{written-all}
 use Rattle.rtr_round.proofs.RoundTrip.{encode-of-read, read-places-inside, read-fits, encode-accepts-read}
 use Rattle.rtr_round.proofs.Rule.{read-of-written, read-in-rule, read-back-same}
@@ -147,6 +150,11 @@ module _ (κs : _) (a : _) (pdu : RtrPdu) (n : ℕ) (answer : EncodeAnswer) (st 
       ∙ ap (read inUse) (same ∙ ap (λ (x : Encoded). x .out) (calls .2))
       ∙ read-of-written inUse pdu s out m says (rule .fits) (rule .kind)
       ∙ ap (λ (p : RtrPdu). accepted p m) (read-back-same inUse s pdu n (calls .0) (sym (calls .1)))
+
+-- what is not read is a case of rtr_codec's page Refusals, and the output stays
+pub call-unread : (κs : _) (a : _) (error : RtrError) (st : _) → recode.Post κs a (Unread error) st
+    → (now (st .1 .0) ≡ now (a .1 .0)) × ((k : ℕ) (values : List ℕ) → refusal error ≡ Verdict.refused k values → Refusal inUse (now (a .0)) k values)
+call-unread κs a error st calls = (calls .2, λ k values e. refused-exactly inUse (now (a .0)) k values .0 (sym (calls .1) ∙ e))
 
 -- ---- The parts of what was read, asked for by the four calls, are never refused by 11, and each is that very part of the slice
 answer-part : (r : PartAnswer) (fits : Bool) → fits ≡ true → partNumber r ≡ numberIf fits → r ≡ Part
