@@ -9,5 +9,6 @@ mod Bytes
 mod Fields
 mod Inside
 mod Accepted
+mod Owned
 mod Written
 mod ReadBack
