@@ -1,6 +1,6 @@
 -- Demand 2 of the calls: what is proved of `read` and `encoding` (RoundTrip.antt) holds of what `parse_rtr_pdu` and `encode` leave in lent memory. A contract is taken as data, as Rattle reads it off
--- the source (`Post`), so one that is weakened breaks this file. Of two contracts met one after the other, that the slice's elements are bytes is asked for; of `recode`, the code that makes the two
--- calls, it is proved. Assumes nothing.
+-- the source (`Post`), so one that is weakened breaks this file. Of two contracts met one after the other, that the slice's elements are bytes is asked for, or that the PDU's values fit;
+-- of `recode` and `send`, the code that makes the calls, it is proved. Assumes nothing.
 use Prim.Native.Nat.{ℕ, _+_, _-_, _≤_, _<_}
 use mathlib.Core.Bool.{Bool, true}
 use mathlib.Core.List.{List, [], _∷_, _++_}
@@ -30,12 +30,15 @@ use Rattle.rtr_models.proofs.RtrErrorReport.error_text_part.Reads as text-part
 use Rattle.rtr_codec.specs.Reading.{inUse}
 use Rattle.rtr_codec.specs.Bytes.{number}
 use Rattle.rtr_codec.specs.Layout.{place}
-use Rattle.rtr_codec.specs.Read.{headerLength, read}
+use Rattle.rtr_codec.specs.Read.{Verdict, headerLength, read}
 use Rattle.rtr_codec.specs.Read.Verdict.{accepted}
-use Rattle.rtr_codec.specs.Answers.{verdict}
+use Rattle.rtr_codec.specs.Answers.{verdict, refusal}
+use Rattle.rtr_codec.specs.Refusals.{Refusal}
+use Rattle.rtr_codec.specs.declared.RtrError.{RtrError}
 use Rattle.rtr_codec.specs.declared.ReadAnswer.the-variants.{Read}
 use Rattle.rtr_codec.specs.Stands.{Stands}
 use Rattle.rtr_codec.proofs.Exactly.{ends-within, stands-read}
+use Rattle.rtr_codec.proofs.Refused.{refused-exactly}
 use Rattle.rtr_codec.proofs.parse_rtr_pdu.Reads as parse
 use Rattle.rtr_encode.specs.Encode.{Encoded, layoutOf, given, valuesIn, encodedLength, encoding}
 use Rattle.rtr_encode.specs.Encode as paper
@@ -48,11 +51,12 @@ use Rattle.rtr_encode.proofs.Laws.{written-is-encoding}
 use Rattle.rtr_encode.proofs.Refused.{short-refused}
 use Rattle.rtr_encode.proofs.encode.Reads as encode
 use Rattle.rtr_round.specs.RoundTrip.{Bytes, ignoredZero, nothingBehind, valuesFit, kindInRule, InRule, readBack}
-use Rattle.rtr_round.specs.declared.Recoding.the-variants.{Again}
+use Rattle.rtr_round.specs.declared.Recoding.the-variants.{Again, Unread}
 use Rattle.rtr_round.proofs.Output.{written-all}
 use Rattle.rtr_round.proofs.RoundTrip.{encode-of-read, read-places-inside, read-fits, encode-accepts-read}
 use Rattle.rtr_round.proofs.Rule.{read-of-written, read-in-rule, read-back-same}
 use Rattle.rtr_round.proofs.recode.Reads as recode
+use Rattle.rtr_round.proofs.send.Reads as send
 
 -- the answer that has so many bytes written is that one
 answer-written : (answer : EncodeAnswer) (m : ℕ) → writing answer ≡ written m → answer ≡ Written m
@@ -147,6 +151,19 @@ module _ (κs : _) (a : _) (pdu : RtrPdu) (n : ℕ) (answer : EncodeAnswer) (st 
       ∙ ap (read inUse) (same ∙ ap (λ (x : Encoded). x .out) (calls .2))
       ∙ read-of-written inUse pdu s out m says (rule .fits) (rule .kind)
       ∙ ap (λ (p : RtrPdu). accepted p m) (read-back-same inUse s pdu n (calls .0) (sym (calls .1)))
+
+-- what `send` wrote is read as the PDU, its payloads where the encoding has them, if its kind's rules hold: that its values fit is proved
+pub call-reads-back : (κs : _) (a : _) (m : ℕ) (st : _) → send.Post κs a (Written m) st → kindInRule inUse (a .0)
+    → (κs′ : _) (a′ : _) (r : _) (st′ : _) → parse.Post κs′ a′ r st′ → now (a′ .0) ≡ now (st .1 .1 .0) → verdict r ≡ accepted (readBack inUse (a .0)) m
+call-reads-back κs a m st sends kind κs′ a′ r st′ reads same =
+    reads
+    ∙ ap (read inUse) (same ∙ ap (λ (x : Encoded). x .out) (sends .0))
+    ∙ read-of-written inUse (a .0) (now (a .1 .0)) (now (a .1 .1 .0)) m (sym (ap (λ (x : Encoded). x .says) (sends .0))) (sends .1) kind
+
+-- what is not read is a case of rtr_codec's page Refusals, and the output stays
+pub call-unread : (κs : _) (a : _) (error : RtrError) (st : _) → recode.Post κs a (Unread error) st
+    → (now (st .1 .0) ≡ now (a .1 .0)) × ((k : ℕ) (values : List ℕ) → refusal error ≡ Verdict.refused k values → Refusal inUse (now (a .0)) k values)
+call-unread κs a error st calls = (calls .2, λ k values e. refused-exactly inUse (now (a .0)) k values .0 (sym (calls .1) ∙ e))
 
 -- ---- The parts of what was read, asked for by the four calls, are never refused by 11, and each is that very part of the slice
 answer-part : (r : PartAnswer) (fits : Bool) → fits ≡ true → partNumber r ≡ numberIf fits → r ≡ Part

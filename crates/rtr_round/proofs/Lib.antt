@@ -9,6 +9,7 @@ mod Bytes
 mod Fields
 mod Inside
 mod Accepted
+mod Owned
 mod Written
 mod ReadBack
 pub mod Rfc
