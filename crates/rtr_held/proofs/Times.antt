@@ -9,7 +9,7 @@ use denote.Ref.{RefT}
 use lib.ListN.{length, take, replicate}
 use Rattle.rtr_models.specs.declared.RtrProtocolVersion.{RtrProtocolVersion}
 use Rattle.rtr_receiver.specs.History.{tableOf, finished}
-use Rattle.rtr_receiver.specs.Promises.{isReceiver, feedSays, fedSaid}
+use Rattle.rtr_receiver.specs.Promises.{FedAs, isReceiver, feedSays}
 use Rattle.rtr_receiver.specs.Runs.{Memory, Call, Step, Run, liveIn, historyOf}
 use Rattle.rtr_receiver.specs.declared.Session.{Session}
 use Rattle.rtr_receiver.specs.declared.Fed.{Fed}
@@ -54,7 +54,7 @@ abbrev ref : {X : Type 0} → X → RefT X
 ref x = record { ptr = (0, 0); name = 0; now = x }
 
 -- rtr_receiver's `feed-unique`, of plain values
-one-feed : (s : Session) (live working hold piece : List ℕ) (r r′ : Fed) (live1 working1 hold1 live2 working2 hold2 : List ℕ) → fedSaid r live1 working1 hold1 ≡ feedSays (s .life .limit) s live working hold piece → fedSaid r′ live2 working2 hold2 ≡ feedSays (s .life .limit) s live working hold piece
+one-feed : (s : Session) (live working hold piece : List ℕ) (r r′ : Fed) (live1 working1 hold1 live2 working2 hold2 : List ℕ) → FedAs (s .life .limit) s live working hold piece r live1 working1 hold1 → FedAs (s .life .limit) s live working hold piece r′ live2 working2 hold2
     → (r ≡ r′) × (live1 ≡ live2) × (working1 ≡ working2) × (take (r .session .held) hold1 ≡ take (r′ .session .held) hold2)
 one-feed s live working hold piece r r′ live1 working1 hold1 live2 working2 hold2 p q =
     feed-unique ([], ([], ([], ([], tt)))) (s, (ref live, (ref working, (ref hold, (ref piece, tt))))) r r′ (s, (ref live1, (ref working1, (ref hold1, (ref piece, tt))))) (s, (ref live2, (ref working2, (ref hold2, (ref piece, tt))))) p q
@@ -64,10 +64,10 @@ abbrev still : Session → Fed
 still s = record { session = s; done = record { taken = 0; updates = 0; answer = FeedAnswer.NotAReceiver } }
 
 -- 22 leaves everything, the whole hold too
-refused-feed : (s : Session) (live working hold piece : List ℕ) (r : Fed) (live1 working1 hold1 : List ℕ) → isReceiver (s .life .limit) s live working hold ≡ false → fedSaid r live1 working1 hold1 ≡ feedSays (s .life .limit) s live working hold piece
+refused-feed : (s : Session) (live working hold piece : List ℕ) (r : Fed) (live1 working1 hold1 : List ℕ) → isReceiver (s .life .limit) s live working hold ≡ false → FedAs (s .life .limit) s live working hold piece r live1 working1 hold1
     → (r .session ≡ s) × (live1 ≡ live) × (working1 ≡ working) × (hold1 ≡ hold)
 refused-feed s live working hold piece r live1 working1 hold1 e p =
-    let q : fedSaid (still s) live working hold ≡ feedSays (s .life .limit) s live working hold piece = sym (refused-keeps-feed (s .life .limit) s live working hold piece e) in
+    let q : FedAs (s .life .limit) s live working hold piece (still s) live working hold = (sym (refused-keeps-feed (s .life .limit) s live working hold piece e), refl) in
     let one = one-feed s live working hold piece r (still s) live1 working1 hold1 live working hold p q in
     let whole : hold ≡ hold1 =
     feed-unique-refused ([], ([], ([], ([], tt)))) (s, (ref live, (ref working, (ref hold, (ref piece, tt))))) (still s) r (s, (ref live, (ref working, (ref hold, (ref piece, tt))))) (s, (ref live1, (ref working1, (ref hold1, (ref piece, tt))))) q p refl in
@@ -75,13 +75,13 @@ refused-feed s live working hold piece r live1 working1 hold1 e p =
 
 -- two holds of one length, with the same bytes held
 module _ (s : Session) (live working hold hold′ : List ℕ) (size : length hold ≡ length hold′) (same : take (s .held) hold ≡ take (s .held) hold′) where
-  fed-alike : (piece : List ℕ) (r r′ : Fed) (live1 working1 hold1 live2 working2 hold2 : List ℕ) → fedSaid r live1 working1 hold1 ≡ feedSays (s .life .limit) s live working hold piece → fedSaid r′ live2 working2 hold2 ≡ feedSays (s .life .limit) s live working hold′ piece
+  fed-alike : (piece : List ℕ) (r r′ : Fed) (live1 working1 hold1 live2 working2 hold2 : List ℕ) → FedAs (s .life .limit) s live working hold piece r live1 working1 hold1 → FedAs (s .life .limit) s live working hold′ piece r′ live2 working2 hold2
       → (r .session ≡ r′ .session) × (live1 ≡ live2) × (working1 ≡ working2) × (take (r .session .held) hold1 ≡ take (r′ .session .held) hold2)
   fed-alike piece r r′ live1 working1 hold1 live2 working2 hold2 p q = by-shape (isReceiver (s .life .limit) s live working hold) refl
     where
       by-shape : (b : Bool) → isReceiver (s .life .limit) s live working hold ≡ b → (r .session ≡ r′ .session) × (live1 ≡ live2) × (working1 ≡ working2) × (take (r .session .held) hold1 ≡ take (r′ .session .held) hold2)
       by-shape true e =
-          let one = one-feed s live working hold piece r r′ live1 working1 hold1 live2 working2 hold2 p (q ∙ sym (feed-alike (s .life .limit) s live working hold hold′ size same piece e)) in
+          let one = one-feed s live working hold piece r r′ live1 working1 hold1 live2 working2 hold2 p (q .0 ∙ sym (feed-alike (s .life .limit) s live working hold hold′ size same piece e), q .1 ∙ sym size) in
           (ap (λ (f : Fed). f .session) (one .0), one .1, one .2, one .3)
       by-shape false e =
           let one = refused-feed s live working hold piece r live1 working1 hold1 e p in
@@ -99,7 +99,7 @@ pub record Alike (m m′ : Memory) : Type 0 where
 step-alike : (piece : List ℕ) (m m′ z z′ : Memory) → Alike m m′ → Step (m .session .life .limit) m (Call.feed piece) z → Step (m′ .session .life .limit) m′ (Call.feed piece) z′ → Alike z z′
 step-alike piece m m′ z z′ a (Step.fed s done live working hold size e) (Step.fed s′ done′ live′ working′ hold′ size′ e′) =
     let one = fed-alike (m .session) (m .live) (m .working) (m .hold) (m′ .hold) (a .size) (a .held ∙ ap (λ (t : Session). take (t .held) (m′ .hold)) (sym (a .session))) piece (record { session = s; done = done }) (record { session = s′; done = done′ })
-    live working hold live′ working′ hold′ e (e′ ∙ (λ i. feedSays (sym (a .session) i .life .limit) (sym (a .session) i) (sym (a .live) i) (sym (a .working) i) (m′ .hold) piece)) in
+    live working hold live′ working′ hold′ (e, size) (e′ ∙ (λ i. feedSays (sym (a .session) i .life .limit) (sym (a .session) i) (sym (a .live) i) (sym (a .working) i) (m′ .hold) piece), size′) in
     record { session = one .0; live = one .1; working = one .2; held = one .3; size = size ∙ a .size ∙ sym size′ }
 
 pub times-alike : (piece : List ℕ) (m m′ : Memory) (n : ℕ) (z z′ : Memory) → Alike m m′ → FedTimes piece m n z → FedTimes piece m′ n z′ → Alike z z′
@@ -113,7 +113,7 @@ times-unique piece m n z z′ fed fed′ = times-alike piece m m n z z′ (recor
 
 step-refused : (piece : List ℕ) (m z : Memory) → isReceiver (m .session .life .limit) (m .session) (m .live) (m .working) (m .hold) ≡ false → Step (m .session .life .limit) m (Call.feed piece) z → z ≡ m
 step-refused piece m z e (Step.fed s done live working hold size said) =
-    let left = refused-feed (m .session) (m .live) (m .working) (m .hold) piece (record { session = s; done = done }) live working hold e said in
+    let left = refused-feed (m .session) (m .live) (m .working) (m .hold) piece (record { session = s; done = done }) live working hold e (said, size) in
     λ i. record { session = left .0 i; live = left .1 i; working = left .2 i; hold = left .3 i }
 
 -- memory that has no receiver shape stays as it is, the whole hold too, however often it is fed

@@ -9,7 +9,6 @@ use lib.ListN.{length}
 use Rattle.rtr_models.specs.declared.RtrProtocolVersion.the-variants.{V1}
 use Rattle.rtr_room.specs.Room.{recordAt, recordFound, records}
 use Rattle.rtr_room.proofs.Laws.{records-none, records-next, found-inside}
-use Rattle.rtr_receiver.specs.History.{tableOf, finished}
 use Rattle.rtr_receiver.specs.Promises.{recordLimit}
 use Rattle.rtr_receiver.specs.Runs.{Call, historyOf}
 use Rattle.rtr_receiver.specs.declared.LoadKind.{LoadKind}
@@ -17,17 +16,16 @@ use Rattle.rtr_receiver.specs.declared.Session.{Session}
 use Rattle.rtr_receiver.specs.declared.StartAnswer.{StartAnswer}
 use Rattle.rtr_listing.specs.Listing.{headLines, headOf, recordLines, listing}
 use Rattle.rtr_listing.proofs.Laws.{listing-of-none, listing-next}
-use Rattle.rtr_listing.proofs.Printed.{printed, listed, stopLine, listed-is-history}
+use Rattle.rtr_listing.proofs.Printed.{listed, printedAfter, listed-is-history}
 use Rattle.rtr_table.specs.Feeding.{memory, feeds}
 use Rattle.rtr_table.specs.Printing.{linesOf, linesUpTo}
 use Rattle.rtr_table.proofs.hear_all.Reads as hear-all
 
--- the listing is the table that the finished updates make, however the input was cut
+-- the listing is the stop's line and the table that the finished updates make, however the input was cut
 pub program-lists-history : (κs : _) (a : _) (last : Session) (s : _) → hear-all.Post κs a (StartAnswer.Started last) s →
     (pieces : List (List ℕ))
     × (listed (memory last (now (s .0)) (now (s .1 .0)) (now (s .1 .1 .0)))
-    ≡ stopLine (memory last (now (s .0)) (now (s .1 .0)) (now (s .1 .1 .0)))
-    ++ printed (tableOf recordLimit (finished recordLimit (length (now (s .1 .1 .0))) V1 (historyOf (Call.ask LoadKind.Full (now (a .1 .1 .1 .0)) ∷ feeds pieces)))))
+    ≡ printedAfter recordLimit (length (now (s .1 .1 .0))) V1 (historyOf (Call.ask LoadKind.Full (now (a .1 .1 .1 .0)) ∷ feeds pieces)))
 program-lists-history κs a last s p = (p .0, listed-is-history recordLimit (length (now (s .1 .1 .0))) V1 (Call.ask LoadKind.Full (now (a .1 .1 .1 .0)) ∷ feeds (p .0)) (memory last (now (s .0)) (now (s .1 .0)) (now (s .1 .1 .0))) (p .1))
 
 -- printed in parts, it is the listing

@@ -48,7 +48,7 @@ returns-2 c =
     let call = c .before .before .before .before .before .before .before .before .before .feed in
     let count = c .before .before .before .before .before .before .before .before .before .before .before .before .before .before .before .count in
     let some = c .before .before .before .before .before .before .before .before .before .before .before .before .before .before .if1 .left in
-    Turn.heard (count .result) _ (omega (arith, some)) (omega (arith, count .ensures .0)) (Step.fed (call .result .session) (call .result .done) _ _ _ (call .kept .1 .1 .1 .0) (call .ensures))
+    Turn.heard (count .result) _ (omega (arith, some)) (omega (arith, count .ensures .0)) (Step.fed (call .result .session) (call .result .done) _ _ _ (call .ensures .1) (call .ensures .0))
 
 pub hear-piece-spec : {M : Type 1} → statement M
 hear-piece-spec =
