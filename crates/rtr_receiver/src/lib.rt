@@ -334,11 +334,11 @@ fn asked(s: Session, answer: EncodeAnswer, phase: Phase) -> AskedSession
     ensures { λ r. ⌜ r ≡ askedFor s answer phase ⌝ }
 {
     match answer {
-        EncodeAnswer::Written(n) => AskedSession {
+        EncodeAnswer::Written(n) => return AskedSession {
             session: in_phase(s, phase),
             answer: AskAnswer::Written(n),
         },
-        EncodeAnswer::Refused(error) => AskedSession {
+        EncodeAnswer::Refused(error) => return AskedSession {
             session: s,
             answer: AskAnswer::Refused(AskError::Encoding(error)),
         },
@@ -406,7 +406,7 @@ pub fn change_ask(
         Phase::Idle => {
             let table = s.table;
             match table {
-                LiveTable::NoTable => ask_refused(s, AskError::NoTable),
+                LiveTable::NoTable => return ask_refused(s, AskError::NoTable),
                 LiveTable::Known(t) => {
                     let life = s.life;
                     let version = life.version;
@@ -418,11 +418,11 @@ pub fn change_ask(
                         },
                         out,
                     );
-                    asked(s, answer, Phase::AskedChange)
+                    return asked(s, answer, Phase::AskedChange);
                 }
             }
         }
-        _ => ask_refused(s, AskError::WrongPhase),
+        _ => return ask_refused(s, AskError::WrongPhase),
     }
 }
 
@@ -625,10 +625,10 @@ fn on_record(s: Session, working: &mut [u32], announced: bool, r: Record) -> Ses
     let in_working = s.working;
     let taken = take(working, in_working.records, announced, r);
     match taken {
-        Taken::Counted(count) => with_working(s, count),
+        Taken::Counted(count) => return with_working(s, count),
         Taken::Refused(stop) => {
             empty(working);
-            stopped(s, stop)
+            return stopped(s, stop);
         }
     }
 }
@@ -719,8 +719,8 @@ fn in_load(phase: Phase, doing: Doing) -> Doing
     ensures { λ d. ⌜ d ≡ cond (isLoading phase) doing (Doing.Stops Stop.OutOfTurn) ⌝ }
 {
     match phase {
-        Phase::Loading(_, _) => doing,
-        _ => Doing::Stops(Stop::OutOfTurn),
+        Phase::Loading(_, _) => return doing,
+        _ => return Doing::Stops(Stop::OutOfTurn),
     }
 }
 
@@ -729,17 +729,17 @@ fn at_response(phase: Phase, table: LiveTable, session_id: u16) -> Doing
     ensures { λ d. ⌜ Decides phase table d (λ limit r. noUpdate (responseIn (stageOf phase) «session_id» r)) ⌝ }
 {
     match phase {
-        Phase::AskedFull => Doing::Begins(LoadKind::Full, session_id),
+        Phase::AskedFull => return Doing::Begins(LoadKind::Full, session_id),
         Phase::AskedChange => match table {
-            LiveTable::NoTable => Doing::Stops(Stop::OtherSession),
+            LiveTable::NoTable => return Doing::Stops(Stop::OtherSession),
             LiveTable::Known(t) => {
                 if session_id != t.session {
                     return Doing::Stops(Stop::OtherSession);
                 }
-                Doing::Begins(LoadKind::Change, session_id)
+                return Doing::Begins(LoadKind::Change, session_id);
             }
         },
-        _ => Doing::Stops(Stop::OutOfTurn),
+        _ => return Doing::Stops(Stop::OutOfTurn),
     }
 }
 
@@ -747,8 +747,8 @@ fn at_cache_reset(phase: Phase) -> Doing
     ensures { λ d. ⌜ Makes d (λ limit r. noUpdate (resetIn (stageOf phase) r)) ⌝ }
 {
     match phase {
-        Phase::AskedChange => Doing::Resets,
-        _ => Doing::Stops(Stop::OutOfTurn),
+        Phase::AskedChange => return Doing::Resets,
+        _ => return Doing::Stops(Stop::OutOfTurn),
     }
 }
 
@@ -761,9 +761,9 @@ fn at_end_of_data(phase: Phase, p: RtrEndOfData) -> Doing
             if p.session_id == session {
                 return Doing::Finishes(p);
             }
-            Doing::Stops(Stop::OtherSession)
+            return Doing::Stops(Stop::OtherSession);
         }
-        _ => Doing::Stops(Stop::OutOfTurn),
+        _ => return Doing::Stops(Stop::OutOfTurn),
     }
 }
 
@@ -789,8 +789,11 @@ fn decide_kind(phase: Phase, table: LiveTable, pdu: RtrPdu) -> Doing
 {
     let carried = carried_by(pdu);
     match carried {
-        Carried::Record(announced, record) => in_load(phase, Doing::Takes(announced, record)),
-        Carried::Nothing => decide_other(phase, table, pdu),
+        Carried::Record(announced, record) => return in_load(
+            phase,
+            Doing::Takes(announced, record),
+        ),
+        Carried::Nothing => return decide_other(phase, table, pdu),
     }
 }
 
@@ -802,7 +805,7 @@ fn decide_pdu(s: Session, pdu: RtrPdu) -> Doing
     match pdu {
         RtrPdu::ErrorReport(p) => {
             let code = p.error_code;
-            Doing::Stops(Stop::ErrorReport(code))
+            return Doing::Stops(Stop::ErrorReport(code));
         }
         _ => {
             let life = s.life;
@@ -812,7 +815,7 @@ fn decide_pdu(s: Session, pdu: RtrPdu) -> Doing
             }
             let phase = s.phase;
             let table = s.table;
-            decide_kind(phase, table, pdu)
+            return decide_kind(phase, table, pdu);
         }
     }
 }
@@ -824,11 +827,11 @@ fn fill(live: &[u32], working: &mut [u32], kind: LoadKind, in_live: Counts) -> C
     match kind {
         LoadKind::Full => {
             empty(working);
-            Counts { records: 0 }
+            return Counts { records: 0 };
         }
         LoadKind::Change => {
             copy(live, working);
-            in_live
+            return in_live;
         }
     }
 }

@@ -46,14 +46,4 @@ returns-2 c =
 pub on-record-spec : {M : Type 1} → statement M
 on-record-spec =
     tie.close
-    (tie.spec
-    take-requires
-    enum-known-taken
-    with-working-requires
-    enum-known-taken-2
-    empty-requires
-    stopped-requires
-    same-length
-    returns
-    same-length-2
-    returns-2)
+    (tie.spec take-requires enum-known-taken with-working-requires same-length returns enum-known-taken-2 empty-requires stopped-requires same-length-2 returns-2)
