@@ -10,7 +10,6 @@ use borrow.Author.Tests.{eq-eqb, ne-eqb}
 use denote.Enum.Declared.{tagOf}
 use types.Run.{OneOf, miss}
 use lib.ListN.{length, take, replicate}
-use Rattle.rtr_models.specs.Values.{secondsOr}
 use Rattle.rtr_models.specs.declared.RtrEndOfData.{RtrEndOfData}
 use Rattle.rtr_codec.specs.Read.{Verdict}
 use Rattle.rtr_room.specs.Table.{Change, enter, leave}
@@ -24,7 +23,7 @@ use Rattle.rtr_receiver.specs.Contents.{Rooms}
 use Rattle.rtr_receiver.specs.Receiver.{Stage, Receiver, Deed, inStage, stop, onSerialNotify, startLoad, onChangeResponse, changedTo, onRecord, finish, noUpdate}
 use Rattle.rtr_receiver.specs.Receiver.Stage.{idle, mustReset, askedFull, askedChange, loading, stopped}
 use Rattle.rtr_receiver.specs.Promises.{stopSaid, stoppedBy, stageOf, receiverOf, leaves, inMemory}
-use Rattle.rtr_receiver.specs.Private.{BothRooms, IsSomeRoom, taking, Took, Stands, responseIn, resetIn, endIn, begun, carriedOut, Filled, stoppedSession}
+use Rattle.rtr_receiver.specs.Private.{BothRooms, IsSomeRoom, taking, SaidAs, Took, Stands, responseIn, resetIn, endIn, begun, carriedOut, Filled, stoppedSession, finishedSession}
 use Rattle.rtr_receiver.specs.declared.LoadKind.{LoadKind}
 use Rattle.rtr_receiver.specs.declared.Stop.{Stop}
 use Rattle.rtr_receiver.specs.declared.Phase.{Phase}
@@ -154,12 +153,16 @@ module _ (count : ℕ) (s : List ℕ) (r : Record) (some : IsSomeRoom count s) w
       omega arith
 
 -- what came of a record, by what the room's call answered
-module _ (announced : Bool) (count : ℕ) (s : List ℕ) (r : Record) (w : List ℕ) where
-  pub took-entering : announced ≡ true → (t : Taken) → Took (entered s count r) t w → Took (taking announced s count r) t w
-  took-entering e t h = subst (λ (b : Bool). Took (taking b s count r) t w) (sym e) h
+module _ (announced : Bool) (count : ℕ) (s : List ℕ) (r : Record) (w : List ℕ) (t : Taken) where
+  pub took-entering : announced ≡ true → (a : EnterAnswer) → record { says = enterSaid a; left = w } ≡ entered s count r → SaidAs (enterSaid a) t → Took (taking announced s count r) t w
+  took-entering e a f h =
+      subst (λ (b : Bool). Took (taking b s count r) t w) (sym e)
+      (subst (λ (x : Said). SaidAs x t) (ap (λ (o : Outcome). o .says) f) h, ap (λ (o : Outcome). o .left) f)
 
-  pub took-leaving : announced ≡ false → (t : Taken) → Took (gone s count r) t w → Took (taking announced s count r) t w
-  took-leaving e t h = subst (λ (b : Bool). Took (taking b s count r) t w) (sym e) h
+  pub took-leaving : announced ≡ false → (a : LeaveAnswer) → record { says = leaveSaid a; left = w } ≡ gone s count r → SaidAs (leaveSaid a) t → Took (taking announced s count r) t w
+  took-leaving e a f h =
+      subst (λ (b : Bool). Took (taking b s count r) t w) (sym e)
+      (subst (λ (x : Said). SaidAs x t) (ap (λ (o : Outcome). o .says) f) h, ap (λ (o : Outcome). o .left) f)
 
 -- the session with another count in the working room
 abbrev withWorking : Session → ℕ → Session
@@ -198,15 +201,16 @@ module _ (limit : ℕ) (s : Session) (live working : Rooms) (b : BothRooms limit
   pub counted-stands : (announced : Bool) (x : Record) (t : Taken) (n : ℕ) (w : List ℕ) → t ≡ Taken.Counted n → Took (taking announced working (s .working .records) x) t w →
       (r : Session) → r ≡ withWorking s n → Stands limit r live w (onRecord limit announced x (receiverOf s live working []))
   counted-stands announced x t n w e h r q =
-      let came = came-taking announced x (counted n) w (subst (λ (y : Taken). Took (taking announced working (s .working .records) x) y w) e h) in
+      let f = subst (λ (y : Taken). Took (taking announced working (s .working .records) x) y w) e h in
+      let came = came-taking announced x (counted n) w (λ i. record { says = f .0 i; left = f .1 i }) in
       changed-stands (came .0) n w (came .1 .0) r q ∙ ap (inMemory limit) (came .1 .1)
 
   pub stopped-stands : (announced : Bool) (x : Record) (t : Taken) (why : Stop) (w : List ℕ) → t ≡ Taken.Refused why → Took (taking announced working (s .working .records) x) t w →
       (r : Session) (w′ : List ℕ) → (r ≡ stoppedSession s why) × (w′ ≡ replicate (length w) 0) → Stands limit r live w′ (onRecord limit announced x (receiverOf s live working []))
   stopped-stands announced x t why w e h r w′ q =
       let f = subst (λ (y : Taken). Took (taking announced working (s .working .records) x) y w) e h in
-      let came = came-taking announced x (refusedBy (f .0)) w (f .2) in
-      refused-stands (came .0) (f .0) w (came .1 .0) why (f .1) r w′ q ∙ ap (inMemory limit) (came .1 .1)
+      let came = came-taking announced x (refusedBy (f .0 .0)) w (λ i. record { says = f .0 .1 .1 i; left = f .1 i }) in
+      refused-stands (came .0) (f .0 .0) w (came .1 .0) why (f .0 .1 .0) r w′ q ∙ ap (inMemory limit) (came .1 .1)
 
   -- ---- loads
 
@@ -226,28 +230,16 @@ module _ (limit : ℕ) (s : Session) (live working : Rooms) (b : BothRooms limit
       e ∙ ap₂ copied (l .0) (m .0) ∙ copy-is limit _ _ (omega (arith, l .1, l .2)) (omega (arith, m .1, m .2)) .0
 
   -- the working room copied over the live one, and emptied
-  pub finish-stands : (p : RtrEndOfData) (refresh retry expire : ℕ) → refresh ≡ secondsOr 3600 (p .«refresh_interval») → retry ≡ secondsOr 600 (p .«retry_interval») → expire ≡ secondsOr 7200 (p .«expire_interval») →
-      (l w : List ℕ) → l ≡ copied working live → w ≡ replicate (length working) 0 →
-      Stands limit
-      (record {
-        life = s .life;
-        phase = Phase.Idle;
-        table = LiveTable.Known (record { session = p .«session_id»; serial = p .«serial_number»; refresh = refresh; retry = retry; expire = expire });
-        note = s .note;
-        live = s .working;
-        working = record { records = 0 };
-        held = s .held;
-      })
-      l w (finish p (receiverOf s live working []))
-  finish-stands p refresh retry expire h₁ h₂ h₃ l w le we =
+  pub finish-stands : (p : RtrEndOfData) (q : Session) → q ≡ finishedSession s p →
+      (l w : List ℕ) → (l ≡ copied working live) × (w ≡ replicate (length working) 0) →
+      Stands limit q l w (finish p (receiverOf s live working []))
+  finish-stands p q f l w e =
       let k = room-stands limit (s .live .records) live (b .0) in
       let m = room-stands limit (s .working .records) working (b .1) in
-      let table : LiveTable.Known (record { session = p .«session_id»; serial = p .«serial_number»; refresh = refresh; retry = retry; expire = expire })
-      ≡ LiveTable.Known (record { session = p .«session_id»; serial = p .«serial_number»; refresh = secondsOr 3600 (p .«refresh_interval»); retry = secondsOr 600 (p .«retry_interval»); expire = secondsOr 7200 (p .«expire_interval») }) =
-      λ i. LiveTable.Known (record { session = p .«session_id»; serial = p .«serial_number»; refresh = h₁ i; retry = h₂ i; expire = h₃ i }) in
-      left-alike (with-limit (b .4)) refl table refl (with-records (sym (m .1))) refl (nothing-held (s .held) (b .2))
-      (le ∙ ap₂ copied (m .0) (k .0) ∙ copy-is limit _ _ (omega (arith, m .1, m .2)) (omega (arith, k .1, k .2)) .0)
-      (zeros-stand limit working w (room-size limit (s .working .records) working (b .1) .0) we)
+      ap (λ (x : Session). leaves x l w []) f
+      ∙ left-alike (with-limit (b .4)) refl refl refl (with-records (sym (m .1))) refl (nothing-held (s .held) (b .2))
+      (e .0 ∙ ap₂ copied (m .0) (k .0) ∙ copy-is limit _ _ (omega (arith, m .1, m .2)) (omega (arith, k .1, k .2)) .0)
+      (zeros-stand limit working w (room-size limit (s .working .records) working (b .1) .0) (e .1))
       refl
 
   -- ---- what is decided is carried out

@@ -12,8 +12,11 @@ use Rattle.rtr_models.specs.declared.RtrPdu.the-variants.{SerialNotify, SerialQ
 use Rattle.rtr_receiver.specs.Contents.{Rooms, nothing, areRooms}
 use Rattle.rtr_codec.specs.Read.{Verdict}
 use Rattle.rtr_room.specs.Table.{ipv4Record, ipv6Record}
-use Rattle.rtr_room.specs.Room.{Said, Outcome, isRoom, keeps, entered, gone, copied}
+use Rattle.rtr_room.specs.Room.{Said, Outcome, isRoom, entered, gone, copied}
 use Rattle.rtr_room.specs.declared.Record.{Record}
+use Rattle.rtr_room.specs.declared.EnterAnswer.{EnterAnswer}
+use Rattle.rtr_room.specs.declared.LeaveAnswer.{LeaveAnswer}
+use Rattle.rtr_receiver.specs.History.{endSays}
 use Rattle.rtr_receiver.specs.Receiver.{Stage, Receiver, Deed, Feed, isDue, kindIn, sessionIn, inStage, stop, onSerialNotify, startLoad, onCacheResponse, onRecord, finish, noUpdate, onEndOfData, onPdu, listens, onPiece}
 use Rattle.rtr_receiver.specs.Receiver.Stage.{mustReset}
 use Rattle.rtr_receiver.specs.Promises.{stopSaid, stoppedBy, isStopped, stageOf, receiverOf, isReceiver, leaves, inMemory, fedTo, fedSaidBy}
@@ -59,10 +62,21 @@ abbrev pub taking : Bool → List ℕ → ℕ → Record → Outcome
 taking true room count x = entered room count x
 taking false room count x = gone room count x
 
--- it came to that: so many records, or a stop by its number
+-- a room's call was on a room
+abbrev pub EnteredRoom : EnterAnswer → Type 0
+EnteredRoom answer = answer ≡ EnterAnswer.NotARoom → ⊥
+
+abbrev pub LeftRoom : LeaveAnswer → Type 0
+LeftRoom answer = answer ≡ LeaveAnswer.NotARoom → ⊥
+
+-- what a room's call says in other words: so many records, or a stop by its number
+abbrev pub SaidAs : Said → Taken → Type 0
+SaidAs said (Taken.Counted n) = Said.counted n ≡ said
+SaidAs said (Taken.Refused why) = (number : ℕ) × ((stopSaid why ≡ Verdict.refused number []) × (Said.refusedBy number ≡ said))
+
+-- it came to that
 abbrev pub Took : Outcome → Taken → List ℕ → Type 0
-Took o (Taken.Counted n) room = record { says = Said.counted n; left = room } ≡ o
-Took o (Taken.Refused why) room = (number : ℕ) × (stopSaid why ≡ Verdict.refused number []) × (keeps number room ≡ o)
+Took o t room = SaidAs (o .says) t × (room ≡ o .left)
 
 -- the session record and the rooms are this receiver's, nothing held
 abbrev pub Stands : ℕ → Session → Rooms → Rooms → Receiver → Type 0
@@ -186,6 +200,11 @@ Stepped limit f piece at t live working hold = SteppedTo limit f piece at (t .se
 abbrev pub stoppedSession : Session → Stop → Session
 stoppedSession s stop =
     record { life = s .life; phase = Phase.Stopped stop; table = s .table; note = s .note; live = s .live; working = record { records = 0 }; held = 0 }
+
+-- a session whose load finished
+abbrev pub finishedSession : Session → RtrEndOfData → Session
+finishedSession s p =
+    record { life = s .life; phase = Phase.Idle; table = LiveTable.Known (endSays p); note = s .note; live = s .working; working = record { records = 0 }; held = s .held }
 
 -- an ask whose query was written, or refused
 abbrev pub askedFor : Session → EncodeAnswer → Phase → AskedSession

@@ -27,9 +27,10 @@ ghost use lib.ListN.{length, replicate};
 ghost use lib.Dec.{eqb};
 ghost use Rattle.rtr_models.specs.Codes.{versionNumber};
 ghost use Rattle.rtr_codec.specs.Answers.{numberOf};
-ghost use Rattle.rtr_receiver.specs.Receiver.{finish, noUpdate, onKind, listens, compared};
+ghost use Rattle.rtr_room.specs.Room.{copied, enterSaid, leaveSaid};
+ghost use Rattle.rtr_receiver.specs.Receiver.{noUpdate, onKind, listens, compared};
 ghost use Rattle.rtr_receiver.specs.Promises.{NotifySays, stopSaid, changeUnderWay, isLoading, isStopped, stageOf, receiverOf, inOrder, isReceiver, feedSays, FedAs, fedSaid, startSays, startSaid, fullAskSays, changeAskSays, askSaid, reconnectSays, reconnectSaid, notifySays, notifySaid, recordLimit, isLimit, tabled, cleared};
-ghost use Rattle.rtr_receiver.specs.Private.{BothRooms, WorkingRoom, IsSomeRoom, taking, Took, RecordDone, Stands, responseIn, resetIn, endIn, carriedBy, carriedOut, Makes, Updates, Decides, DecidesOn, Filled, stoppedSession, askedFor, mayAskFull, answerIn, HeardAs, HeardAsks, HeardDone, feedHere, StepAsks, Stepped};
+ghost use Rattle.rtr_receiver.specs.Private.{BothRooms, WorkingRoom, IsSomeRoom, taking, EnteredRoom, LeftRoom, SaidAs, Took, RecordDone, Stands, responseIn, resetIn, endIn, carriedBy, carriedOut, Makes, Updates, Decides, DecidesOn, Filled, stoppedSession, finishedSession, askedFor, mayAskFull, answerIn, HeardAs, HeardAsks, HeardDone, feedHere, StepAsks, Stepped};
 
 // How many records a room has at the most.
 pub const RECORD_LIMIT: usize = 1024;
@@ -333,11 +334,11 @@ fn asked(s: Session, answer: EncodeAnswer, phase: Phase) -> AskedSession
     ensures { λ r. ⌜ r ≡ askedFor s answer phase ⌝ }
 {
     match answer {
-        EncodeAnswer::Written(n) => AskedSession {
+        EncodeAnswer::Written(n) => return AskedSession {
             session: in_phase(s, phase),
             answer: AskAnswer::Written(n),
         },
-        EncodeAnswer::Refused(error) => AskedSession {
+        EncodeAnswer::Refused(error) => return AskedSession {
             session: s,
             answer: AskAnswer::Refused(AskError::Encoding(error)),
         },
@@ -405,7 +406,7 @@ pub fn change_ask(
         Phase::Idle => {
             let table = s.table;
             match table {
-                LiveTable::NoTable => ask_refused(s, AskError::NoTable),
+                LiveTable::NoTable => return ask_refused(s, AskError::NoTable),
                 LiveTable::Known(t) => {
                     let life = s.life;
                     let version = life.version;
@@ -417,11 +418,11 @@ pub fn change_ask(
                         },
                         out,
                     );
-                    asked(s, answer, Phase::AskedChange)
+                    return asked(s, answer, Phase::AskedChange);
                 }
             }
         }
-        _ => ask_refused(s, AskError::WrongPhase),
+        _ => return ask_refused(s, AskError::WrongPhase),
     }
 }
 
@@ -495,11 +496,10 @@ pub fn notify(s: Session, live: &[u32], working: &[u32], hold: &[u8]) -> NotifyA
 
 // ---- One PDU
 
-// A stop clears the working room and what is held; it keeps the live room and the note.
-fn stop_with(s: Session, working: &mut [u32], stop: Stop) -> Session
-    ensures { λ r. ⌜ (r ≡ stoppedSession s stop) × (now (working .exit) ≡ replicate (length (now (working .entry))) 0) ⌝ }
+// A stop keeps the live room and the note; nothing is held, and nothing in the working room, which is emptied beside it.
+fn stopped(s: Session, stop: Stop) -> Session
+    ensures { λ r. ⌜ r ≡ stoppedSession s stop ⌝ }
 {
-    empty(working);
     let life = s.life;
     let table = s.table;
     let note = s.note;
@@ -579,26 +579,42 @@ enum Taken {
     Refused(Stop),
 }
 
-// An announcement enters: 17 where it is in, then 18 where the room is full. A withdrawal leaves: 16 where it is not in.
+// 17 where it is in, then 18 where the room is full; a room it is.
+fn entered_as(answer: EnterAnswer) -> Taken
+    requires { ⌜ EnteredRoom answer ⌝ }
+    ensures { λ t. ⌜ SaidAs (enterSaid answer) t ⌝ }
+{
+    match answer {
+        EnterAnswer::Entered(n) => Taken::Counted(n),
+        EnterAnswer::AlreadyIn => Taken::Refused(Stop::AlreadyIn),
+        EnterAnswer::Full => Taken::Refused(Stop::RoomFull),
+        EnterAnswer::NotARoom => Taken::Refused(Stop::RoomFull),
+    }
+}
+
+// 16 where it is not in; a room it is.
+fn left_as(answer: LeaveAnswer) -> Taken
+    requires { ⌜ LeftRoom answer ⌝ }
+    ensures { λ t. ⌜ SaidAs (leaveSaid answer) t ⌝ }
+{
+    match answer {
+        LeaveAnswer::Left(n) => Taken::Counted(n),
+        LeaveAnswer::NotIn => Taken::Refused(Stop::NotIn),
+        LeaveAnswer::NotARoom => Taken::Refused(Stop::NotIn),
+    }
+}
+
+// An announcement enters, a withdrawal leaves.
 fn take(working: &mut [u32], count: usize, announced: bool, r: Record) -> Taken
     requires { ⌜ IsSomeRoom count (now working) ⌝ }
     ensures { λ t. ⌜ Took (taking announced (now (working .entry)) count r) t (now (working .exit)) ⌝ }
 {
     if announced {
         let answer = enter(working, count, r);
-        return match answer {
-            EnterAnswer::Entered(n) => Taken::Counted(n),
-            EnterAnswer::AlreadyIn => Taken::Refused(Stop::AlreadyIn),
-            EnterAnswer::Full => Taken::Refused(Stop::RoomFull),
-            EnterAnswer::NotARoom => Taken::Refused(Stop::RoomFull),
-        };
+        return entered_as(answer);
     }
     let answer = leave(working, count, r);
-    match answer {
-        LeaveAnswer::Left(n) => Taken::Counted(n),
-        LeaveAnswer::NotIn => Taken::Refused(Stop::NotIn),
-        LeaveAnswer::NotARoom => Taken::Refused(Stop::NotIn),
-    }
+    left_as(answer)
 }
 
 // A record in a load: the working room has it, or has it no more, or the receiver stops.
@@ -609,18 +625,26 @@ fn on_record(s: Session, working: &mut [u32], announced: bool, r: Record) -> Ses
     let in_working = s.working;
     let taken = take(working, in_working.records, announced, r);
     match taken {
-        Taken::Counted(count) => with_working(s, count),
-        Taken::Refused(stop) => stop_with(s, working, stop),
+        Taken::Counted(count) => return with_working(s, count),
+        Taken::Refused(stop) => {
+            empty(working);
+            return stopped(s, stop);
+        }
     }
 }
 
 // The working room becomes the live one, whole, and is emptied: the one place where the live room is written after the start.
-fn finish(s: Session, live: &mut [u32], working: &mut [u32], p: RtrEndOfData) -> Session
-    requires { ⌜ BothRooms (s .life .limit) s (now live) (now working) ⌝ }
-    ensures { λ t. ⌜ Stands (s .life .limit) t (now (live .exit)) (now (working .exit)) (finish p (receiverOf s (now (live .entry)) (now (working .entry)) [])) ⌝ }
+fn make_live(live: &mut [u32], working: &mut [u32])
+    ensures { λ _. ⌜ (now (live .exit) ≡ copied (now (working .entry)) (now (live .entry))) × (now (working .exit) ≡ replicate (length (now (working .entry))) 0) ⌝ }
 {
     copy(working, live);
     empty(working);
+}
+
+// What an End of Data says of the table that is live now.
+fn finished(s: Session, p: RtrEndOfData) -> Session
+    ensures { λ r. ⌜ r ≡ finishedSession s p ⌝ }
+{
     let life = s.life;
     let note = s.note;
     let in_working = s.working;
@@ -695,8 +719,8 @@ fn in_load(phase: Phase, doing: Doing) -> Doing
     ensures { λ d. ⌜ d ≡ cond (isLoading phase) doing (Doing.Stops Stop.OutOfTurn) ⌝ }
 {
     match phase {
-        Phase::Loading(_, _) => doing,
-        _ => Doing::Stops(Stop::OutOfTurn),
+        Phase::Loading(_, _) => return doing,
+        _ => return Doing::Stops(Stop::OutOfTurn),
     }
 }
 
@@ -705,17 +729,17 @@ fn at_response(phase: Phase, table: LiveTable, session_id: u16) -> Doing
     ensures { λ d. ⌜ Decides phase table d (λ limit r. noUpdate (responseIn (stageOf phase) «session_id» r)) ⌝ }
 {
     match phase {
-        Phase::AskedFull => Doing::Begins(LoadKind::Full, session_id),
+        Phase::AskedFull => return Doing::Begins(LoadKind::Full, session_id),
         Phase::AskedChange => match table {
-            LiveTable::NoTable => Doing::Stops(Stop::OtherSession),
+            LiveTable::NoTable => return Doing::Stops(Stop::OtherSession),
             LiveTable::Known(t) => {
                 if session_id != t.session {
                     return Doing::Stops(Stop::OtherSession);
                 }
-                Doing::Begins(LoadKind::Change, session_id)
+                return Doing::Begins(LoadKind::Change, session_id);
             }
         },
-        _ => Doing::Stops(Stop::OutOfTurn),
+        _ => return Doing::Stops(Stop::OutOfTurn),
     }
 }
 
@@ -723,8 +747,8 @@ fn at_cache_reset(phase: Phase) -> Doing
     ensures { λ d. ⌜ Makes d (λ limit r. noUpdate (resetIn (stageOf phase) r)) ⌝ }
 {
     match phase {
-        Phase::AskedChange => Doing::Resets,
-        _ => Doing::Stops(Stop::OutOfTurn),
+        Phase::AskedChange => return Doing::Resets,
+        _ => return Doing::Stops(Stop::OutOfTurn),
     }
 }
 
@@ -737,9 +761,9 @@ fn at_end_of_data(phase: Phase, p: RtrEndOfData) -> Doing
             if p.session_id == session {
                 return Doing::Finishes(p);
             }
-            Doing::Stops(Stop::OtherSession)
+            return Doing::Stops(Stop::OtherSession);
         }
-        _ => Doing::Stops(Stop::OutOfTurn),
+        _ => return Doing::Stops(Stop::OutOfTurn),
     }
 }
 
@@ -749,12 +773,12 @@ fn decide_other(phase: Phase, table: LiveTable, pdu: RtrPdu) -> Doing
     ensures { λ d. ⌜ Decides phase table d (λ limit r. onKind limit pdu r) ⌝ }
 {
     match pdu {
-        RtrPdu::SerialNotify(p) => Doing::Notes(p.session_id, p.serial_number),
-        RtrPdu::CacheResponse(p) => at_response(phase, table, p.session_id),
-        RtrPdu::EndOfData(p) => at_end_of_data(phase, p),
-        RtrPdu::CacheReset(_) => at_cache_reset(phase),
-        RtrPdu::RouterKey(_) => in_load(phase, Doing::Passes),
-        _ => Doing::Stops(Stop::OutOfTurn),
+        RtrPdu::SerialNotify(p) => return Doing::Notes(p.session_id, p.serial_number),
+        RtrPdu::CacheResponse(p) => return at_response(phase, table, p.session_id),
+        RtrPdu::EndOfData(p) => return at_end_of_data(phase, p),
+        RtrPdu::CacheReset(_) => return at_cache_reset(phase),
+        RtrPdu::RouterKey(_) => return in_load(phase, Doing::Passes),
+        _ => return Doing::Stops(Stop::OutOfTurn),
     }
 }
 
@@ -765,8 +789,11 @@ fn decide_kind(phase: Phase, table: LiveTable, pdu: RtrPdu) -> Doing
 {
     let carried = carried_by(pdu);
     match carried {
-        Carried::Record(announced, record) => in_load(phase, Doing::Takes(announced, record)),
-        Carried::Nothing => decide_other(phase, table, pdu),
+        Carried::Record(announced, record) => return in_load(
+            phase,
+            Doing::Takes(announced, record),
+        ),
+        Carried::Nothing => return decide_other(phase, table, pdu),
     }
 }
 
@@ -778,7 +805,7 @@ fn decide_pdu(s: Session, pdu: RtrPdu) -> Doing
     match pdu {
         RtrPdu::ErrorReport(p) => {
             let code = p.error_code;
-            Doing::Stops(Stop::ErrorReport(code))
+            return Doing::Stops(Stop::ErrorReport(code));
         }
         _ => {
             let life = s.life;
@@ -788,7 +815,7 @@ fn decide_pdu(s: Session, pdu: RtrPdu) -> Doing
             }
             let phase = s.phase;
             let table = s.table;
-            decide_kind(phase, table, pdu)
+            return decide_kind(phase, table, pdu);
         }
     }
 }
@@ -800,11 +827,11 @@ fn fill(live: &[u32], working: &mut [u32], kind: LoadKind, in_live: Counts) -> C
     match kind {
         LoadKind::Full => {
             empty(working);
-            Counts { records: 0 }
+            return Counts { records: 0 };
         }
         LoadKind::Change => {
             copy(live, working);
-            in_live
+            return in_live;
         }
     }
 }
@@ -815,17 +842,27 @@ fn carry_out(s: Session, live: &mut [u32], working: &mut [u32], doing: Doing) ->
     ensures { λ t. ⌜ Stands (s .life .limit) t (now (live .exit)) (now (working .exit)) (carriedOut (s .life .limit) doing (receiverOf s (now (live .entry)) (now (working .entry)) []) .then) ⌝ }
 {
     match doing {
-        Doing::Passes => s,
-        Doing::Notes(session_id, serial_number) => on_serial_notify(s, session_id, serial_number),
-        Doing::Resets => in_phase(s, Phase::MustReset),
-        Doing::Stops(stop) => stop_with(s, working, stop),
+        Doing::Passes => return s,
+        Doing::Notes(session_id, serial_number) => return on_serial_notify(
+            s,
+            session_id,
+            serial_number,
+        ),
+        Doing::Resets => return in_phase(s, Phase::MustReset),
+        Doing::Stops(stop) => {
+            empty(working);
+            return stopped(s, stop);
+        }
         Doing::Begins(kind, session_id) => {
             let in_live = s.live;
             let in_working = fill(live, working, kind, in_live);
-            loading(s, kind, session_id, in_working)
+            return loading(s, kind, session_id, in_working);
         }
-        Doing::Takes(announced, record) => on_record(s, working, announced, record),
-        Doing::Finishes(p) => finish(s, live, working, p),
+        Doing::Takes(announced, record) => return on_record(s, working, announced, record),
+        Doing::Finishes(p) => {
+            make_live(live, working);
+            return finished(s, p);
+        }
     }
 }
 
@@ -891,10 +928,10 @@ fn hear(s: Session, answer: StreamAnswer, held: usize) -> Heard
     ensures { λ h. ⌜ HeardAs s answer held h ⌝ }
 {
     match answer {
-        StreamAnswer::Found(pdu, _) => Heard::Does(decide_pdu(s, pdu)),
-        StreamAnswer::Refused(error) => Heard::Does(Doing::Stops(Stop::Stream(error))),
-        StreamAnswer::More => Heard::Holds(held),
-        StreamAnswer::NotAStream => Heard::Holds(held),
+        StreamAnswer::Found(pdu, _) => return Heard::Does(decide_pdu(s, pdu)),
+        StreamAnswer::Refused(error) => return Heard::Does(Doing::Stops(Stop::Stream(error))),
+        StreamAnswer::More => return Heard::Holds(held),
+        StreamAnswer::NotAStream => return Heard::Holds(held),
     }
 }
 
@@ -911,21 +948,23 @@ fn on_heard(
     ensures { λ r. ⌜ HeardDone (s .life .limit) s (now (live .entry)) (now (working .entry)) heard next updates r (now (live .exit)) (now (working .exit)) ⌝ }
 {
     match heard {
-        Heard::Holds(held) => Step {
-            session: with_held(s, held),
-            next,
-            updates,
-            over: true,
-        },
+        Heard::Holds(held) => {
+            return Step {
+                session: with_held(s, held),
+                next,
+                updates,
+                over: true,
+            };
+        }
         Heard::Does(doing) => {
             let session = carry_out(with_held(s, 0), live, working, doing);
             let phase = session.phase;
-            Step {
+            return Step {
                 session,
                 next,
                 updates: updates + finished_by(doing),
                 over: is_stopped(phase),
-            }
+            };
         }
     }
 }

@@ -1,7 +1,7 @@
 -- `carry_out`: what is left of the session and the rooms stands for what the decision makes of the receiver. Assumes nothing.
 use denote.Ref.{now}
 use Rattle.rtr_receiver.specs.declared.Phase.{Phase}
-use Rattle.rtr_receiver.proofs.Deeds.{as-decided, passed-stands, notify-stands, phase-stands, stops, begun-stands}
+use Rattle.rtr_receiver.proofs.Deeds.{as-decided, passed-stands, notify-stands, phase-stands, stops, begun-stands, finish-stands}
 use borrow.Author.Needs.{needs}
 use Rattle.rtr_receiver.proofs.carry_out.Statement.{statement}
 use Rattle.rtr_receiver.proofs.carry_out.Tie as tie
@@ -24,8 +24,11 @@ in-phase-requires c κs = search needs
 enum-known-doing-2 : tie.Need-enum-known-doing-2
 enum-known-doing-2 c = search needs
 
-stop-with-requires : tie.Need-stop-with-requires
-stop-with-requires c κs = search needs
+empty-requires : tie.Need-empty-requires
+empty-requires c κs = search needs
+
+stopped-requires : tie.Need-stopped-requires
+stopped-requires c κs = search needs
 
 enum-known-doing-3 : tie.Need-enum-known-doing-3
 enum-known-doing-3 c = search needs
@@ -47,8 +50,11 @@ on-record-requires c κs =
 enum-known-doing-5 : tie.Need-enum-known-doing-5
 enum-known-doing-5 c = search needs
 
-finish-requires : tie.Need-finish-requires
-finish-requires c κs = search needs
+make-live-requires : tie.Need-make-live-requires
+make-live-requires c κs = search needs
+
+finished-requires : tie.Need-finished-requires
+finished-requires c κs = search needs
 
 returns : tie.Need-returns
 returns c =
@@ -79,11 +85,11 @@ same-length c = search needs
 
 returns-4 : tie.Need-returns-4
 returns-4 c =
-    let a = c .before .before .before .before .before .before .before .before .before .args in
-    let pre = c .before .before .before .before .before .before .before .before .before .pre in
+    let a = c .before .before .before .before .before .before .before .before .before .before .args in
+    let pre = c .before .before .before .before .before .before .before .before .before .before .pre in
     let live = now (a .live) in
     let working = now (a .working) in
-    as-decided (a .s .life .limit) (a .s) live working pre (a .doing) _ (c .before .before .before .before .before .doing2 .given .1) (c .before .before .stop-with .result) live (c .before .before .stop-with .last .1 .0) (stops (a .s .life .limit) (a .s) live working pre _ (c .before .before .stop-with .result) (c .before .before .stop-with .last .1 .0) (c .before .before .stop-with .ensures))
+    as-decided (a .s .life .limit) (a .s) live working pre (a .doing) _ (c .before .before .before .before .before .before .doing2 .given .1) (c .stopped .result) live (c .before .before .before .empty .last .0) (stops (a .s .life .limit) (a .s) live working pre _ (c .stopped .result) (c .before .before .before .empty .last .0) (c .stopped .ensures, c .before .before .before .empty .ensures))
 
 same-length-2 : tie.Need-same-length-2
 same-length-2 c = search needs
@@ -118,40 +124,42 @@ same-length-6 c = search needs
 
 returns-7 : tie.Need-returns-7
 returns-7 c =
-    let a = c .before .before .before .before .before .before .before .before .before .before .before .before .args in
-    let pre = c .before .before .before .before .before .before .before .before .before .before .before .before .pre in
+    let a = c .before .before .before .before .before .before .before .before .before .before .before .before .before .args in
+    let pre = c .before .before .before .before .before .before .before .before .before .before .before .before .before .pre in
     let live = now (a .live) in
     let working = now (a .working) in
-    as-decided (a .s .life .limit) (a .s) live working pre (a .doing) _ (c .before .before .before .before .before .before .before .before .doing5 .given .1) (c .before .before .before .before .finish .result) (c .before .before .before .before .finish .last .1 .0) (c .before .before .before .before .finish .last .1 .1 .0) (c .before .before .before .before .finish .ensures)
+    as-decided (a .s .life .limit) (a .s) live working pre (a .doing) _ (c .before .before .before .before .before .before .before .before .before .doing5 .given .1) (c .finished .result) (c .before .before .before .before .before .make-live .last .0) (c .before .before .before .before .before .make-live .last .1 .0) (finish-stands (a .s .life .limit) (a .s) live working pre (c .before .before .before .before .before .before .before .before .before .doing5 .given .0 .0) (c .finished .result) (c .finished .ensures) (c .before .before .before .before .before .make-live .last .0) (c .before .before .before .before .before .make-live .last .1 .0) (c .before .before .before .before .before .make-live .ensures))
 
 pub carry-out-spec : {M : Type 1} → statement M
 carry-out-spec =
     tie.close
     (tie.spec
     enum-told
+    returns
     enum-known-doing
     on-serial-notify-requires
+    returns-2
     enum-told-2
     in-phase-requires
+    returns-3
     enum-known-doing-2
-    stop-with-requires
+    empty-requires
+    stopped-requires
+    same-length
+    returns-4
     enum-known-doing-3
     fill-requires
     loading-requires
-    enum-known-doing-4
-    on-record-requires
-    enum-known-doing-5
-    finish-requires
-    returns
-    returns-2
-    returns-3
-    same-length
-    returns-4
     same-length-2
     same-length-3
     returns-5
+    enum-known-doing-4
+    on-record-requires
     same-length-4
     returns-6
+    enum-known-doing-5
+    make-live-requires
+    finished-requires
     same-length-5
     same-length-6
     returns-7)

@@ -51,10 +51,10 @@ hear-spec =
     (tie.spec
     enum-known-answer
     decide-pdu-requires
-    enum-known-answer-2
-    enum-told
-    enum-told-2
     returns
+    enum-known-answer-2
     returns-2
+    enum-told
     returns-3
+    enum-told-2
     returns-4)

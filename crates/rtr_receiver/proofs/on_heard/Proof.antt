@@ -36,8 +36,8 @@ carry-out-requires c κs =
 finished-by-requires : tie.Need-finished-by-requires
 finished-by-requires c κs = search needs
 
-add-t19 : tie.Need-add-t19
-add-t19 c =
+add-t18 : tie.Need-add-t18
+add-t18 c =
     let a = c .before .before .before .before .before .before .before .before .before .before .before .before .before .before .args in
     let may = subst (λ (h : Heard). MayCount h (a .updates)) (c .before .before .before .before .before .before .before .before .before .before .heard2 .given .1) (c .before .before .before .before .before .before .before .before .before .before .before .before .before .before .pre .3) in
     omega (arith, may, few-finished (c .before .before .before .before .before .before .before .before .before .before .heard2 .given .0 .0) (c .finished-by .result) (c .finished-by .ensures) (a .s .life .limit) (receiverOf (a .s) (now (a .live)) (now (a .working)) []))
@@ -77,13 +77,13 @@ on-heard-spec =
     (tie.spec
     enum-known-heard
     with-held-requires
+    returns
     enum-known-heard-2
     with-held-requires-2
     carry-out-requires
     finished-by-requires
-    add-t19
+    add-t18
     is-stopped-requires
-    returns
     same-length
     same-length-2
     returns-2)

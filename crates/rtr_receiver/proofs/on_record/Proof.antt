@@ -17,8 +17,11 @@ with-working-requires c κs = search needs
 enum-known-taken-2 : tie.Need-enum-known-taken-2
 enum-known-taken-2 c = search needs
 
-stop-with-requires : tie.Need-stop-with-requires
-stop-with-requires c κs = search needs
+empty-requires : tie.Need-empty-requires
+empty-requires c κs = search needs
+
+stopped-requires : tie.Need-stopped-requires
+stopped-requires c κs = search needs
 
 same-length : tie.Need-same-length
 same-length c = search needs
@@ -35,21 +38,12 @@ same-length-2 c = search needs
 
 returns-2 : tie.Need-returns-2
 returns-2 c =
-    let a = c .before .before .before .before .before .before .before .before .before .before .before .before .before .args in
-    let pre = c .before .before .before .before .before .before .before .before .before .before .before .before .before .pre in
-    λ live b. stopped-stands (a .s .life .limit) (a .s) live (now (a .working)) (b, pre .0, pre .1, pre .2, pre .3) (a .announced) (a .r) (c .before .before .before .before .before .before .before .before .before .take .result) (c .before .before .before .before .before .taken2 .given .0 .0) (c .before .before .before .before .before .before .before .before .before .take .last .0)
-    (c .before .before .before .before .before .taken2 .given .1) (c .before .before .before .before .before .before .before .before .before .take .ensures) (c .before .before .stop-with .result) (c .before .before .stop-with .last .1 .0) (c .before .before .stop-with .ensures)
+    let a = c .before .before .before .before .before .before .before .before .before .before .before .before .before .before .args in
+    let pre = c .before .before .before .before .before .before .before .before .before .before .before .before .before .before .pre in
+    λ live b. stopped-stands (a .s .life .limit) (a .s) live (now (a .working)) (b, pre .0, pre .1, pre .2, pre .3) (a .announced) (a .r) (c .before .before .before .before .before .before .before .before .before .before .take .result) (c .before .before .before .before .before .before .taken2 .given .0 .0) (c .before .before .before .before .before .before .before .before .before .before .take .last .0)
+    (c .before .before .before .before .before .before .taken2 .given .1) (c .before .before .before .before .before .before .before .before .before .before .take .ensures) (c .stopped .result) (c .before .before .before .empty .last .0) (c .stopped .ensures, c .before .before .before .empty .ensures)
 
 pub on-record-spec : {M : Type 1} → statement M
 on-record-spec =
     tie.close
-    (tie.spec
-    take-requires
-    enum-known-taken
-    with-working-requires
-    enum-known-taken-2
-    stop-with-requires
-    same-length
-    returns
-    same-length-2
-    returns-2)
+    (tie.spec take-requires enum-known-taken with-working-requires same-length returns enum-known-taken-2 empty-requires stopped-requires same-length-2 returns-2)
