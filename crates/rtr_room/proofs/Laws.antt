@@ -9,6 +9,7 @@ pub mod Rooms
 pub mod Places
 pub mod Moves
 pub mod Kept
+pub mod Keys
 use Prim.Native.Nat.{ℕ, suc, _+_, _*_, _<_, _≤_}
 use mathlib.Core.Bool.{true, false, cond, not, _&&_, _||_}
 use mathlib.Core.List.{List, [], _∷_, _++_}
@@ -16,7 +17,7 @@ use mathlib.Core.Logic.{_↔_, _⊎_}
 use mathlib.Core.Path.{_≡_, refl}
 use lib.Dec.{leb}
 use lib.ListN.{length, getD, replicate}
-use Rattle.rtr_room.specs.Table.{Change, packed, ipv4Record, ipv6Record, familyOf, prefixOf, maxOf, before, same, inRule, ordered, allInRule, isTable, isIn, rank, insert, remove, enter, leave}
+use Rattle.rtr_room.specs.Table.{Change, packed, ipv4Record, ipv6Record, familyOf, prefixOf, maxOf, before, same, inRule, ordered, allInRule, isTable, isIn, rank, insert, remove, enter, leave, key}
 use Rattle.rtr_room.specs.Table.Change.{changed}
 use Rattle.rtr_room.specs.Room.{room, recordAt, recordFound, records, isRoom, limitOf, place, stands, lookUp, keeps, entered, gone, outcomeOf, copied, copySays}
 use Rattle.rtr_room.specs.Room.Found.{standsAt, missingAt}
@@ -30,6 +31,8 @@ use Rattle.rtr_room.proofs.Laws.Rooms as rooms
 use Rattle.rtr_room.proofs.Laws.Places as places
 use Rattle.rtr_room.proofs.Laws.Moves as moves
 use Rattle.rtr_room.proofs.Laws.Kept as kept
+use Rattle.rtr_room.proofs.Laws.Keys as keys
+use Rattle.rtr_room.proofs.Laws.Keys.{Lower}
 
 -- a first number is family x 65,536 + prefix length x 256 + max
 pub kind-is : (r : Record) → r .kind ≡ packed (familyOf r) (prefixOf r) (maxOf r)
@@ -74,6 +77,22 @@ before-total = order.before-total
 -- two records are the same exactly where they are equal
 pub same-is-equal : (a b : Record) → same a b ≡ true ↔ a ≡ b
 same-is-equal = order.same-is-equal
+
+-- a record is before another exactly where its key is lower at the first number in which they differ
+pub before-exactly : (a b : Record) → before a b ≡ true ↔ Lower (key a) (key b)
+before-exactly = keys.before-exactly
+
+-- of two places of a table the lower has the record that is before
+pub ordered-at : (d : Record) (t : List Record) (i j : ℕ) → ordered t ≡ true → i < j → j < length t → before (getD t i d) (getD t j d) ≡ true
+ordered-at = keys.ordered-at
+
+-- what stands in a table is in rule
+pub in-rule-at : (d : Record) (t : List Record) (i : ℕ) → isTable t ≡ true → i < length t → inRule (getD t i d) ≡ true
+in-rule-at = keys.in-rule-at
+
+-- a record in rule is no longer than its max, and that no longer than 128
+pub in-rule-lengths : (r : Record) → inRule r ≡ true → (prefixOf r ≤ maxOf r) × (maxOf r ≤ 128)
+in-rule-lengths = keys.in-rule-lengths
 
 -- a record that is not in goes in in order
 pub enter-keeps-order : (r : Record) (t : List Record) → ordered t ≡ true → isIn r t ≡ false → ordered (insert r t) ≡ true
