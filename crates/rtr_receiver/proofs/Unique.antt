@@ -44,6 +44,7 @@ use Rattle.rtr_receiver.proofs.reconnect.Reads as reconnect-reads
 use Rattle.rtr_receiver.proofs.notify.Reads as notify-reads
 use Rattle.rtr_receiver.proofs.Stop.number.Reads as number-reads
 use Rattle.rtr_receiver.proofs.is_limit.Reads as limit-reads
+use Rattle.rtr_receiver.proofs.is_receiver.Reads as receiver-reads
 
 -- the stop that has a number and values
 errorIn : StreamAnswer → StreamError
@@ -311,3 +312,6 @@ stop-number-unique κs a r r′ s s′ p q = only-this r r′ _ p q
 
 pub is-limit-unique : (κs : _) (a : _) (r r′ : _) (s s′ : _) → limit-reads.Post κs a r s → limit-reads.Post κs a r′ s′ → r ≡ r′
 is-limit-unique κs a r r′ s s′ p q = only-this r r′ _ p q
+
+pub is-receiver-unique : (κs : _) (a : _) (r r′ : _) (s s′ : _) → receiver-reads.Post κs a r s → receiver-reads.Post κs a r′ s′ → r ≡ r′
+is-receiver-unique κs a r r′ s s′ p q = only-this r r′ _ p q

@@ -252,7 +252,7 @@ pub fn is_limit(limit: usize) -> bool
 }
 
 // Receiver shape, each number of the rooms read once.
-fn is_receiver(s: Session, live: &[u32], working: &[u32], hold: &[u8]) -> bool
+pub fn is_receiver(s: Session, live: &[u32], working: &[u32], hold: &[u8]) -> bool
     ensures { λ r. ⌜ r ≡ isReceiver (s .life .limit) s (now (live .entry)) (now (working .entry)) (now (hold .entry)) ⌝ }
 {
     let life = s.life;
