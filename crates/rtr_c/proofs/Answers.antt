@@ -1,5 +1,6 @@
--- Read, encode and listing by their answer: each is one of the cases of specs/Answers.antt, of the definition and of the call as Rattle reads its contract off the source. So a call that does not
--- answer 0 leaves the numbers, or the output, as they were. By what is found, and by the laws of the crates below. Assumes nothing.
+-- Read, encode and listing by their answer: each is one of the cases of specs/Answers.antt, of the definition and of the call as Rattle reads its
+-- contract off the source. So a call that does not answer 0 leaves the numbers, or the output, as they were. By what is found, and by the laws of the
+-- crates below. Assumes nothing.
 use Prim.Native.Nat.{ℕ, _≤_, _<_}
 use mathlib.Core.Bool.{Bool, true, false, cond, true≢false}
 use mathlib.Core.List.{List, [], _∷_}

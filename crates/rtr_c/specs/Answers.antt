@@ -1,4 +1,5 @@
--- Read, encode and listing by their answer: for each number that the call returns, when it does so and what it leaves. proofs/Answers.antt has that each call is one of these, whatever it is lent.
+-- Read, encode and listing by their answer: for each number that the call returns, when it does so and what it leaves. proofs/Answers.antt has that
+-- each call is one of these, whatever it is lent.
 use Prim.Native.Nat.{ℕ, _≤_, _<_}
 use mathlib.Core.List.{List, _++_}
 use mathlib.Core.Path.{_≡_}
@@ -32,7 +33,8 @@ pub data ReadAnswers (bytes numbers : List ℕ) : ReadLeft → Type 0 where
       number ≤ 8 →
       ReadAnswers bytes numbers (readGives number numbers)
 
--- encode: 22 where the numbers are no PDU's; 0, the length and the encoding, with the bytes behind it as they were; or encoding's refusal, its value where it has one, and the output as it was
+-- encode: 22 where the numbers are no PDU's; 0, the length and the encoding, with the bytes behind it as they were; or encoding's refusal, its value
+-- where it has one, and the output as it was
 pub data EncodeAnswers (numbers payload out : List ℕ) : EncodeLeft → Type 0 where
   unknown : pduOf numbers ≡ PduFound.Unknown → EncodeAnswers numbers payload out (encodeGives 22 0 out)
   written : (pdu : RtrPdu) (consumed : ℕ) →
@@ -49,7 +51,8 @@ pub data EncodeAnswers (numbers payload out : List ℕ) : EncodeLeft → Type 0 
 abbrev pub textOf : Session → List ℕ → List ℕ
 textOf s live = lines.listing s (contents (s .live) live)
 
--- listing: 22 where the numbers are no session's, or where there is a reason; 9 and the bytes needed; or 0, the bytes written and the text, with the bytes behind it as they were
+-- listing: 22 where the numbers are no session's, or where there is a reason; 9 and the bytes needed; or 0, the bytes written and the text, with the
+-- bytes behind it as they were
 pub data ListingAnswers (session live out : List ℕ) : EncodeLeft → Type 0 where
   unknown : sessionOf session ≡ SessionFound.Unknown → ListingAnswers session live out (encodeGives 22 0 out)
   unlisted : (s : Session) →

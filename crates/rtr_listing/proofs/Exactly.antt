@@ -1,5 +1,6 @@
--- A listing is refused by 22 exactly where one of the reasons of specs/Promises.antt holds, by 9 exactly where it is not and the output is shorter than the text, and else written whole: of the
--- definition, and of the call as Rattle reads its contract off the source. A test that fails names its reason, and each reason makes its test fail. Assumes nothing.
+-- A listing is refused by 22 exactly where one of the reasons of specs/Promises.antt holds, by 9 exactly where it is not and the output is shorter
+-- than the text, and else written whole: of the definition, and of the call as Rattle reads its contract off the source. A test that fails names its
+-- reason, and each reason makes its test fail. Assumes nothing.
 use Prim.Native.Nat.{ℕ, _≤_, _<_}
 use mathlib.Core.Bool.{Bool, true, false, _&&_, _||_, true≢false}
 use mathlib.Core.List.{List, [], _∷_}

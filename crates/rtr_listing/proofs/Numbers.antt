@@ -1,6 +1,6 @@
 -- "Numbers are decimal without leading zeros": a number's digits, read as a decimal number, are that number, and begin with `0` only where it is 0.
--- The tests of `places` bound the number from both sides. "count has four digits" and "lower-case hex digits": these are the number too, read in base 10 and 16, and every byte is one of the base's
--- digits. Assumes nothing.
+-- The tests of `places` bound the number from both sides. "count has four digits" and "lower-case hex digits": these are the number too, read in base
+-- 10 and 16, and every byte is one of the base's digits. Assumes nothing.
 use Prim.Native.Nat.{ℕ, zero, suc, _+_, _-_, _*_, _^_, _≤_, _<_, _/_, _%_}
 use mathlib.Core.Bool.{Bool, true, false, cond, _&&_, _||_, or-true, true≢false}
 use mathlib.Core.List.{List, [], _∷_, _++_}

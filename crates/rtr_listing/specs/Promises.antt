@@ -45,7 +45,8 @@ puts bytes out = record { says = putSays bytes (length out); out = outAfter (put
 abbrev pub isListed : ℕ → Session → Rooms → Bool
 isListed limit s live = hasLimit limit s && (areRooms limit (s .live) live && (hasTable (s .table) || isNone (s .live)))
 
--- document 01's reasons for 22, those that speak of the live room and its table, over any limit: proofs/Exactly.antt has that a listing is refused by 22 exactly where one of them holds
+-- document 01's reasons for 22, those that speak of the live room and its table, over any limit: proofs/Exactly.antt has that a listing is refused by
+-- 22 exactly where one of them holds
 pub data ListReason (limit : ℕ) (s : Session) (live : Rooms) : Type 0 where
   otherLimit : hasLimit limit s ≡ false → ListReason limit s live
   liveSize : OffSize limit live → ListReason limit s live

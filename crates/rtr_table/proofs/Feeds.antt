@@ -1,5 +1,5 @@
--- Calls of the receiver, one behind the other: no piece, a turn, more pieces, and all of the program from its start. Each is a step of rtr_receiver's Runs, and a run goes on by it
--- (`next-step`). Assumes nothing.
+-- Calls of the receiver, one behind the other: no piece, a turn, more pieces, and all of the program from its start. Each is a step of rtr_receiver's
+-- Runs, and a run goes on by it (`next-step`). Assumes nothing.
 use Prim.Native.Nat.{ℕ}
 use mathlib.Core.Bool.{Bool}
 use mathlib.Core.List.{List, [], _∷_, _++_, append-assoc, append-nil}

@@ -1,5 +1,5 @@
--- What the program comes to, as far as its functions promise it: the listing of what is lent to `hear_all` is that of the history of its calls (rtr_listing's `listed-is-history`), and the head's and the
--- records' lines, one behind the other, are that listing. Assumes nothing.
+-- What the program comes to, as far as its functions promise it: the listing of what is lent to `hear_all` is that of the history of its calls
+-- (rtr_listing's `listed-is-history`), and the head's and the records' lines, one behind the other, are that listing. Assumes nothing.
 use Prim.Native.Nat.{ℕ, zero, suc, _*_, _≤_}
 use mathlib.Core.List.{List, _∷_, _++_, append-assoc, append-nil}
 use mathlib.Core.Path.{_≡_, sym, ap, _∙_}

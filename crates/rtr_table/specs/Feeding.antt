@@ -1,5 +1,5 @@
--- What the program does with the receiver: a start, a full ask, and then feeds of the pieces that were read, as calls of one run (rtr_receiver's Runs). What the pieces are is the input's: no
--- contract can say what was read.
+-- What the program does with the receiver: a start, a full ask, and then feeds of the pieces that were read, as calls of one run (rtr_receiver's
+-- Runs). What the pieces are is the input's: no contract can say what was read.
 use Prim.Native.Nat.{ℕ, _*_, _≤_, _<_}
 use mathlib.Core.Bool.{Bool, false}
 use mathlib.Core.List.{List, [], _∷_, _++_}

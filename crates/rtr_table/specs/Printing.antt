@@ -1,4 +1,5 @@
--- What the program prints: the head's lines and then each record's, each as rtr_listing has them. That they are written, and in this order, is the program's text: no contract can say what was written.
+-- What the program prints: the head's lines and then each record's, each as rtr_listing has them. That they are written, and in this order, is the
+-- program's text: no contract can say what was written.
 use Prim.Native.Nat.{ℕ, zero, suc, _≤_}
 use mathlib.Core.List.{List, [], _++_}
 use mathlib.Core.Path.{_≡_}

@@ -1,6 +1,6 @@
 // The program of document 01, "The listing": version 1, a hold of 8,192 bytes, one full ask (its query goes nowhere), standard input, and then the
-// table on standard output. What is done with the bytes is proved in rtr_receiver, and what is printed in rtr_listing. Here each function promises that it only leads on a
-// run of the receiver, or hands over the listing's lines; no contract can say what was read or written.
+// table on standard output. What is done with the bytes is proved in rtr_receiver, and what is printed in rtr_listing. Here each function promises
+// that it only leads on a run of the receiver, or hands over the listing's lines; no contract can say what was read or written.
 use libc::STDIN_FILENO;
 use libc::STDOUT_FILENO;
 use rtr_listing::ListAnswer;

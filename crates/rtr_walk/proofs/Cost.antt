@@ -1,5 +1,5 @@
--- What a walk costs: at most 17 reads and 35 frames, on every input. By the levels left: no function of the cycle makes more reads than those, or has more frames than its measure and one. What
--- the answer says tells both numbers. Assumes nothing.
+-- What a walk costs: at most 17 reads and 35 frames, on every input. By the levels left: no function of the cycle makes more reads than those, or has
+-- more frames than its measure and one. What the answer says tells both numbers. Assumes nothing.
 use Prim.Native.Nat.{ℕ, zero, suc, _+_, _*_, _≤_}
 use mathlib.Core.List.{List, [], _∷_}
 use mathlib.Core.Path.{_≡_, refl, sym, ap, _∙_}

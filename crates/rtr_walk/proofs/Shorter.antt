@@ -1,5 +1,5 @@
--- Each part is at least 16 bytes shorter than the slice that its report was read from: of a report 16 bytes are its header and its two lengths, and its text is no copy. So level k is read
--- from at least 16 * k bytes fewer than the slice has. Assumes nothing.
+-- Each part is at least 16 bytes shorter than the slice that its report was read from: of a report 16 bytes are its header and its two lengths, and
+-- its text is no copy. So level k is read from at least 16 * k bytes fewer than the slice has. Assumes nothing.
 use Prim.Native.Nat.{ℕ, _+_, _*_, _≤_}
 use mathlib.Core.Bool.{Bool, true, false}
 use mathlib.Core.List.{List, [], _∷_}

@@ -1,6 +1,7 @@
--- The proof of the cycle of calls {walk_pdu, walk_report}. Each way through a body is one step of the walk, of Steps.antt; what a callee promises is the rest of it. Each function calls the other
--- at a smaller measure, and there are two such measures. By levels: `walk_pdu` hands the same `left` to `walk_report`, which calls back with one fewer. By bytes: `walk_report` hands its slice to
--- `walk_pdu`, which calls back with a part that is at least 16 bytes shorter (`shorter-part`). Assumes nothing.
+-- The proof of the cycle of calls {walk_pdu, walk_report}. Each way through a body is one step of the walk, of Steps.antt; what a callee promises is
+-- the rest of it. Each function calls the other at a smaller measure, and there are two such measures. By levels: `walk_pdu` hands the same `left` to
+-- `walk_report`, which calls back with one fewer. By bytes: `walk_report` hands its slice to `walk_pdu`, which calls back with a part that is at
+-- least 16 bytes shorter (`shorter-part`). Assumes nothing.
 use Prim.Native.Nat.{ℕ, _+_, _-_, _≤_, _<_}
 use mathlib.Core.Path.{_≡_, sym, ap, _∙_}
 use native.Mathlib.Omega.{arith}
@@ -32,7 +33,8 @@ use Rattle.rtr_walk.proofs.+walk_pdu+walk_report.Tie.{close}
 below : {a b t : ℕ} → b ≡ t → a < b → a < t
 below e h = omega arith
 
--- a measure of `walk_pdu` and one of `walk_report`, by the levels left and the bytes of the slice: it falls where a shorter part is handed over, and where a level is used up
+-- a measure of `walk_pdu` and one of `walk_report`, by the levels left and the bytes of the slice: it falls where a shorter part is handed over, and
+-- where a level is used up
 module _
     (m-pdu m-report : ℕ → ℕ → ℕ)
     (part-falls : (left size part : ℕ) → part + 16 ≤ size → m-report left part < m-pdu left size)
