@@ -14,8 +14,9 @@ use Rattle.rtr_models.specs.declared.RtrPdu.{RtrPdu}
 use Rattle.rtr_codec.specs.Reading.{inUse}
 use Rattle.rtr_codec.specs.Read.{Verdict, needed, read}
 use Rattle.rtr_codec.proofs.Laws.{needed-short, needed-large, missing-is-one, refusal-numbers}
-use Rattle.rtr_encode.specs.Encode.{Writing, encodedLength, encode}
-use Rattle.rtr_encode.proofs.Laws as encoding
+use Rattle.rtr_encode.specs.Encode.{encodedLength, encode, placesInside, textIn}
+use Rattle.rtr_encode.proofs.Laws.{tests-write}
+use Rattle.rtr_encode.proofs.Refused as encoding
 use Rattle.rtr_listing.specs.Promises.{ListReason, isListed, listingSays}
 use Rattle.rtr_listing.proofs.Laws as listing
 use Rattle.rtr_listing.proofs.Exactly.{listed-exactly}
@@ -68,19 +69,29 @@ pub encode-answers : (numbers payload out : List ℕ) → EncodeAnswers numbers 
 unfolding encodeC
 encode-answers numbers payload out = by-found (pduOf numbers) refl
   where
-    by-says : (pdu : RtrPdu) (k : ℕ) → pduOf numbers ≡ PduFound.Known pdu k → (w : Writing) → encode inUse pdu payload out .says ≡ w → EncodeAnswers numbers payload out (encodeLeft (encode inUse pdu payload out))
-    by-says pdu k e (Writing.written n) q =
-        let size = encoding.written-length inUse pdu payload out n q in
-        let said : encode inUse pdu payload out .says ≡ Writing.written (encodedLength inUse pdu) = q ∙ ap Writing.written size in
-        let fits = leb-true (encodedLength inUse pdu) (length out) (encoding.written-tests inUse pdu payload out n q .3) in
-        let left : encode inUse pdu payload out ≡ record { says = Writing.written (encodedLength inUse pdu); out = _ } = λ i. record { says = said i; out = encoding.written-is-encoding inUse pdu payload out (encodedLength inUse pdu) said i } in
-        subst (EncodeAnswers numbers payload out) (sym (ap encodeLeft left)) (EncodeAnswers.written pdu k e said fits)
-    by-says pdu k e (Writing.refused n values) q =
-        let left : encode inUse pdu payload out ≡ record { says = Writing.refused n values; out = out } = λ i. record { says = q i; out = encoding.refused-keeps-output inUse pdu payload out n values q i } in
-        subst (EncodeAnswers numbers payload out) (sym (ap encodeLeft left)) (EncodeAnswers.refused pdu k n values e q)
+    -- the four checks in their order
+    by-tests : (pdu : RtrPdu) (k : ℕ) → pduOf numbers ≡ PduFound.Known pdu k → (a b c d : Bool) →
+        placesInside pdu payload ≡ a → textIn pdu payload ≡ b → leb (encodedLength inUse pdu) 4294967295 ≡ c → leb (encodedLength inUse pdu) (length out) ≡ d →
+        EncodeAnswers numbers payload out (encodeLeft (encode inUse pdu payload out))
+    by-tests pdu k e false b c d places text small room =
+        subst (EncodeAnswers numbers payload out) (sym (ap encodeLeft (encoding.place-refused inUse pdu payload out places))) (EncodeAnswers.outside pdu k e places)
+    by-tests pdu k e true false c d places text small room =
+        subst (EncodeAnswers numbers payload out) (sym (ap encodeLeft (encoding.text-refused inUse pdu payload out places text))) (EncodeAnswers.notText pdu k e places text)
+    by-tests pdu k e true true false d places text small room =
+        let long = leb-false (encodedLength inUse pdu) 4294967295 small in
+        subst (EncodeAnswers numbers payload out) (sym (ap encodeLeft (encoding.long-refused inUse pdu payload out places text long))) (EncodeAnswers.tooLong pdu k e places text long)
+    by-tests pdu k e true true true false places text small room =
+        let fits = leb-true (encodedLength inUse pdu) 4294967295 small in
+        let less = leb-false (encodedLength inUse pdu) (length out) room in
+        subst (EncodeAnswers numbers payload out) (sym (ap encodeLeft (encoding.short-refused inUse pdu payload out places text fits less))) (EncodeAnswers.short pdu k e places text fits less)
+    by-tests pdu k e true true true true places text small room =
+        let fits = leb-true (encodedLength inUse pdu) 4294967295 small in
+        let enough = leb-true (encodedLength inUse pdu) (length out) room in
+        subst (EncodeAnswers numbers payload out) (sym (ap encodeLeft (tests-write inUse pdu payload out places text fits enough))) (EncodeAnswers.written pdu k e places text fits enough)
 
     by-found : (x : PduFound) → pduOf numbers ≡ x → EncodeAnswers numbers payload out (encodeFound x payload out)
-    by-found (PduFound.Known pdu k) e = by-says pdu k e (encode inUse pdu payload out .says) refl
+    by-found (PduFound.Known pdu k) e =
+        by-tests pdu k e (placesInside pdu payload) (textIn pdu payload) (leb (encodedLength inUse pdu) 4294967295) (leb (encodedLength inUse pdu) (length out)) refl refl refl refl
     by-found PduFound.Unknown e = EncodeAnswers.unknown e
 
 -- ---- listing
@@ -127,8 +138,11 @@ refused-keeps-encode numbers payload out = go (encode-answers numbers payload ou
   where
     go : {left : EncodeLeft} → EncodeAnswers numbers payload out left → (left .answer ≡ 0 → ⊥) → left .out ≡ out
     go (EncodeAnswers.unknown e) refuses = refl
-    go (EncodeAnswers.written pdu k e said fits) refuses = absurd (refuses refl)
-    go (EncodeAnswers.refused pdu k n values e q) refuses = refl
+    go (EncodeAnswers.outside pdu k e places) refuses = refl
+    go (EncodeAnswers.notText pdu k e places text) refuses = refl
+    go (EncodeAnswers.tooLong pdu k e places text long) refuses = refl
+    go (EncodeAnswers.short pdu k e places text small less) refuses = refl
+    go (EncodeAnswers.written pdu k e places text small room) refuses = absurd (refuses refl)
 
 pub refused-keeps-listing : (session live out : List ℕ) → (listingC session live out .answer ≡ 0 → ⊥) → listingC session live out .out ≡ out
 refused-keeps-listing session live out = go (listing-answers session live out)

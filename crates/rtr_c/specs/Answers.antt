@@ -1,13 +1,14 @@
 -- Read, encode and listing by their answer: for each number that the call returns, when it does so and what it leaves. proofs/Answers.antt has that
 -- each call is one of these, whatever it is lent.
 use Prim.Native.Nat.{ℕ, _≤_, _<_}
+use mathlib.Core.Bool.{true, false}
 use mathlib.Core.List.{List, _++_}
 use mathlib.Core.Path.{_≡_}
-use lib.ListN.{length, drop, getD}
+use lib.ListN.{length, drop}
 use Rattle.rtr_models.specs.declared.RtrPdu.{RtrPdu}
 use Rattle.rtr_codec.specs.Reading.{inUse}
 use Rattle.rtr_codec.specs.Read.{Verdict, read}
-use Rattle.rtr_encode.specs.Encode.{Writing, encodedLength, encoding, encode}
+use Rattle.rtr_encode.specs.Encode.{encodedLength, encoding, placesInside, textIn}
 use Rattle.rtr_listing.specs.Listing as lines
 use Rattle.rtr_listing.specs.Promises.{ListReason}
 use Rattle.rtr_receiver.specs.Contents.{contents}
@@ -33,19 +34,39 @@ pub data ReadAnswers (bytes numbers : List ℕ) : ReadLeft → Type 0 where
       number ≤ 8 →
       ReadAnswers bytes numbers (readGives number numbers)
 
--- encode: 22 where the numbers are no PDU's; 0, the length and the encoding, with the bytes behind it as they were; or encoding's refusal, its value
--- where it has one, and the output as it was
+-- encode: 22 where the numbers are no PDU's; 11, 8, 10 and 9 in this order, the last with the bytes needed, and the output as it was; or 0, the length and the encoding, with the
+-- bytes behind it as they were
 pub data EncodeAnswers (numbers payload out : List ℕ) : EncodeLeft → Type 0 where
   unknown : pduOf numbers ≡ PduFound.Unknown → EncodeAnswers numbers payload out (encodeGives 22 0 out)
+  outside : (pdu : RtrPdu) (consumed : ℕ) →
+      pduOf numbers ≡ PduFound.Known pdu consumed →
+      placesInside pdu payload ≡ false →
+      EncodeAnswers numbers payload out (encodeGives 11 0 out)
+  notText : (pdu : RtrPdu) (consumed : ℕ) →
+      pduOf numbers ≡ PduFound.Known pdu consumed →
+      placesInside pdu payload ≡ true →
+      textIn pdu payload ≡ false →
+      EncodeAnswers numbers payload out (encodeGives 8 0 out)
+  tooLong : (pdu : RtrPdu) (consumed : ℕ) →
+      pduOf numbers ≡ PduFound.Known pdu consumed →
+      placesInside pdu payload ≡ true →
+      textIn pdu payload ≡ true →
+      4294967295 < encodedLength inUse pdu →
+      EncodeAnswers numbers payload out (encodeGives 10 0 out)
+  short : (pdu : RtrPdu) (consumed : ℕ) →
+      pduOf numbers ≡ PduFound.Known pdu consumed →
+      placesInside pdu payload ≡ true →
+      textIn pdu payload ≡ true →
+      encodedLength inUse pdu ≤ 4294967295 →
+      length out < encodedLength inUse pdu →
+      EncodeAnswers numbers payload out (encodeGives 9 (encodedLength inUse pdu) out)
   written : (pdu : RtrPdu) (consumed : ℕ) →
       pduOf numbers ≡ PduFound.Known pdu consumed →
-      encode inUse pdu payload out .says ≡ Writing.written (encodedLength inUse pdu) →
+      placesInside pdu payload ≡ true →
+      textIn pdu payload ≡ true →
+      encodedLength inUse pdu ≤ 4294967295 →
       encodedLength inUse pdu ≤ length out →
       EncodeAnswers numbers payload out (encodeGives 0 (encodedLength inUse pdu) (encoding inUse pdu payload ++ drop (encodedLength inUse pdu) out))
-  refused : (pdu : RtrPdu) (consumed number : ℕ) (values : List ℕ) →
-      pduOf numbers ≡ PduFound.Known pdu consumed →
-      encode inUse pdu payload out .says ≡ Writing.refused number values →
-      EncodeAnswers numbers payload out (encodeGives number (getD values 0 0) out)
 
 -- the text of a session's listing
 abbrev pub textOf : Session → List ℕ → List ℕ
