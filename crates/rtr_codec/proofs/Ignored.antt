@@ -1,11 +1,13 @@
 -- Ignored bytes change no verdict (`ignored-bytes-ignored`). By the type: where a type has ignored bytes, every number that reading looks at stands in the others; where it has none, the slices are the same.
 -- Assumes nothing.
-use Prim.Native.Nat.{ℕ, zero, suc, _+_}
-use mathlib.Core.Bool.{Bool, true, false, cond}
+use Prim.Native.Nat.{ℕ, zero, suc, _+_, _<_}
+use mathlib.Core.Bool.{Bool, true, false, cond, false≢true}
 use mathlib.Core.List.{List, [], _∷_, _++_}
+use mathlib.Core.Logic.{_↔_}
 use mathlib.Core.Path.{_≡_, refl, sym, ap, _∙_}
+use native.Mathlib.Omega.{arith}
 use native.Mathlib.Nat.{add-zero}
-use borrow.Author.Tests.{eqb-true}
+use borrow.Author.Tests.{eqb-true, eq-eqb}
 use denote.Ref.{now}
 use lib.Dec.{leb, eqb}
 use lib.ListN.{length, getD}
@@ -179,3 +181,25 @@ ignored-by-picture R V1 EndOfData = refl
 ignored-by-picture R v CacheReset = refl
 ignored-by-picture R v RouterKey = key-ignored (R .keyByCrate)
 ignored-by-picture R v ErrorReport = refl
+
+-- ---- `among` is being in the list: at some place of it
+
+among-found : (i : ℕ) (l : List ℕ) → among i l ≡ true → (k : ℕ) × (k < length l) × (getD l k 0 ≡ i)
+among-found i [] e = absurd (false≢true e)
+among-found i (x ∷ xs) e = go (among-found i xs) (eqb i x) refl e
+  where
+    go : (among i xs ≡ true → (k : ℕ) × (k < length xs) × (getD xs k 0 ≡ i)) → (b : Bool) → eqb i x ≡ b → cond b true (among i xs) ≡ true → (k : ℕ) × (k < suc (length xs)) × (getD (x ∷ xs) k 0 ≡ i)
+    go later true q h = (0, omega arith, sym (eqb-true i x q))
+    go later false q h = let f = later h in (suc (f .0), omega (arith, f .1), f .2)
+
+among-standing : (i : ℕ) (l : List ℕ) (k : ℕ) → k < length l → getD l k 0 ≡ i → among i l ≡ true
+among-standing i [] k less e = absurd (omega arith)
+among-standing i (x ∷ xs) zero less e = ap (λ (b : Bool). cond b true (among i xs)) (eq-eqb i x (sym e))
+among-standing i (x ∷ xs) (suc k) less e = go (eqb i x) (among-standing i xs k (omega arith) e)
+  where
+    go : (b : Bool) → among i xs ≡ true → cond b true (among i xs) ≡ true
+    go true h = refl
+    go false h = h
+
+pub among-exactly : (i : ℕ) (l : List ℕ) → (among i l ≡ true) ↔ ((k : ℕ) × (k < length l) × (getD l k 0 ≡ i))
+among-exactly i l = (among-found i l, λ f. among-standing i l (f .0) (f .1) (f .2))

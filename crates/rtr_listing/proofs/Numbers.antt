@@ -1,6 +1,6 @@
 -- "Numbers are decimal without leading zeros": a number's digits, read as a decimal number, are that number, and begin with `0` only where it is 0.
 -- The tests of `places` bound the number from both sides. "count has four digits" and "lower-case hex digits": these are the number too, read in base
--- 10 and 16, and every byte is one of the base's digits. Assumes nothing.
+-- 10 and 16, and every byte of a hex number is one of its digits. Assumes nothing.
 use Prim.Native.Nat.{ℕ, zero, suc, _+_, _-_, _*_, _^_, _≤_, _<_, _/_, _%_}
 use mathlib.Core.Bool.{Bool, true, false, cond, _&&_, _||_, or-true, true≢false}
 use mathlib.Core.List.{List, [], _∷_, _++_}
@@ -151,7 +151,7 @@ other-is-number r e h0 h1 h2 h3 =
     next : (s : List ℕ) (n : ℕ) {read : ℕ} → n < 4294967296 → hexOf s 0 ≡ read → hexOf (s ++ digits 16 8 n) 0 ≡ read * 4294967296 + n
     next s n h p = hex-behind s (digits 16 8 n) 0 ∙ hex-digits 8 n (hexOf s 0) h ∙ ap (λ (x : ℕ). x * 4294967296 + n) p
 
--- every byte is one of the base's digits: `0` to `9`, and in base 16 `a` to `f`, never upper-case
+-- every byte of a hex number is `0` to `9` or `a` to `f`, never upper-case
 abbrev pub isDigit : ℕ → Bool
 isDigit c = (leb 48 c && leb c 57) || (leb 97 c && leb c 102)
 

@@ -1,9 +1,13 @@
 -- What is printed follows from the history of calls (rtr_receiver's `history` and `stop-from-history`): the number by which the connection was lost, or 0, and behind that line the table that the finished updates
 -- make, however the bytes were cut. Document 01's input is printed as document 01's output, and without its last byte as document 01 says. Assumes nothing.
 use Prim.Native.Nat.{ℕ, _≤_}
+use mathlib.Core.Bool.{Bool, true, false}
 use mathlib.Core.List.{List, [], _∷_, _++_, append-assoc}
 use mathlib.Core.Path.{_≡_, refl, sym, ap, _∙_}
-use lib.ListN.{length, take}
+use native.Mathlib.Omega.{arith}
+use denote.Ref.{now}
+use lib.ListN.{length, take, drop}
+use lib.Seq.{take-at}
 use Rattle.rtr_models.specs.declared.RtrProtocolVersion.{RtrProtocolVersion}
 use Rattle.rtr_models.specs.declared.RtrProtocolVersion.the-variants.{V1}
 use Rattle.rtr_codec.specs.Read.{Verdict}
@@ -21,6 +25,14 @@ use Rattle.rtr_receiver.specs.declared.Phase.{Phase}
 use Rattle.rtr_receiver.proofs.Runs.{history, table-of-none}
 use Rattle.rtr_receiver.proofs.Examples.{listing as listing-comes, listing-table, listing-cut}
 use Rattle.rtr_receiver.proofs.Receives.{stop-from-history}
+use Rattle.rtr_encode.specs.Encode.{Encoded}
+use Rattle.rtr_receiver.specs.Contents.{contents}
+use Rattle.rtr_receiver.specs.declared.Session.{Session}
+use Rattle.rtr_listing.specs.Promises.{ListReason, isListed}
+use Rattle.rtr_listing.specs.declared.ListAnswer.the-variants.{Written}
+use Rattle.rtr_listing.proofs.Calls.{listed-says, written-is}
+use Rattle.rtr_listing.proofs.Exactly.{listed-exactly, listing-written-exactly}
+use Rattle.rtr_listing.proofs.listing.Reads as listing-reads
 use Rattle.rtr_listing.specs.Listing.{text, digits, places, decimal, lineOf, line, stoppedAs, tableLines, headLines, addressOf, recordLines, allLines, listing}
 
 -- the lines of a live table: its numbers and count, and its records
@@ -90,6 +102,31 @@ listed-is-history limit H v calls m run =
     let stopped : stoppedAs (m .session .phase) ≡ lostBy (standsAfter limit H v (historyOf calls)) =
     phase-number (m .session .phase) ∙ ap numberIn (stop-from-history limit H v calls m run) ∙ place-number (standsAfter limit H v (historyOf calls)) in
     in-memory m ∙ (λ i. stopLine (stopped i) ++ printed (history limit H v calls m run i))
+
+-- of the call: what it writes of a run's memory is that
+module _ (limit H : ℕ) (v : RtrProtocolVersion) (calls : List Call) (m : Memory) (run : Run limit v H calls m) where
+  -- what has no reason is listed
+  listable : (limit′ : ℕ) (s : Session) (live : List ℕ) → (ListReason limit′ s live → ⊥) → isListed limit′ s live ≡ true
+  listable limit′ s live none = go (isListed limit′ s live) refl
+    where
+      go : (b : Bool) → isListed limit′ s live ≡ b → isListed limit′ s live ≡ true
+      go true e = e
+      go false e = absurd (none (listed-exactly limit′ s live .0 e))
+
+  pub listing-call-is-history : (κs : _) (a : _) (r : _) (st : _) (n : ℕ) → listing-reads.Post κs a r st → a .0 ≡ m .session → now (a .1 .0) ≡ m .live → r ≡ Written n →
+      take n (now (st .1 .1 .0)) ≡ printedAfter limit H v (historyOf calls)
+  listing-call-is-history κs a r st n p session live e =
+      let exact = listing-written-exactly κs a r st n p .0 e in
+      let bytes : List ℕ = listing (a .0) (contents (a .0 .live) (now (a .1 .0))) in
+      let out = now (a .1 .1 .0) in
+      let fits : length bytes ≤ length out = omega (arith, exact .1, exact .2) in
+      let left : now (st .1 .1 .0) ≡ bytes ++ drop (length bytes) out =
+      ap (λ (x : Encoded). x .out)
+      (p ∙ sym (listed-says (a .0 .life .limit) (a .0) (now (a .1 .0)) out (listable (a .0 .life .limit) (a .0) (now (a .1 .0)) (exact .0))) ∙ written-is bytes out fits) in
+      ap (take n) left
+      ∙ take-at bytes (drop (length bytes) out) n (exact .1)
+      ∙ (λ i. listing (session i) (contents (session i .live) (live i)))
+      ∙ listed-is-history limit H v calls m run
 
 -- as long as no update has finished there is no table
 pub listed-without-update : (limit H : ℕ) (v : RtrProtocolVersion) (calls : List Call) (m : Memory) → Run limit v H calls m

@@ -1,5 +1,5 @@
--- Payloads by place: document 01, "Reading" (a payload is handed back as that very part of the caller's slice, or refused by 11 with an
--- empty part) and refusal 11.
+-- Payloads by place: document 01, "Reading" and refusal 11. Whoever asks for a payload gets those bytes where they lie, in the slice that was lent; a place
+-- that is not in it gets 11 and no bytes.
 use Prim.Native.Nat.{ℕ, _+_}
 use mathlib.Core.Bool.{Bool, cond, _&&_}
 use mathlib.Core.List.{List, []}

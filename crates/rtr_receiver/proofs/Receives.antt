@@ -117,6 +117,20 @@ module _ (limit H : ℕ) where
   call-events (Call.ask LoadKind.Change out) f = change-by-space (f .receiver) (replicate (length out) 0) out (length-replicate (length out) 0) (f .receiver .stage)
   call-events Call.reconnect f = refl
 
+  -- bytes taken: a byte is where the receiver listens, and nothing else takes any
+  pub takes-bytes : (f : Feed) (b : ℕ) → onEvent limit H f (Event.byte b) .taken ≡ cond (listens (f .receiver .stage)) (f .taken + 1) (f .taken)
+  unfolding onByte
+  takes-bytes f b = go (listens (f .receiver .stage)) (judge inUse H (f .receiver .held ++ b ∷ []))
+    where
+      go : (t : Bool) (h : Heard) → cond t (heard limit (f .taken + 1) (f .updates) (f .receiver) (f .receiver .held ++ b ∷ []) h) f .taken ≡ cond t (f .taken + 1) (f .taken)
+      go true Heard.waits = refl
+      go true (Heard.whole pdu) = refl
+      go true (Heard.refused number values) = refl
+      go false h = refl
+
+  pub takes-none : (f : Feed) (kind : LoadKind) (space : ℕ) → (onEvent limit H f (Event.ask kind space) .taken ≡ f .taken) × (onEvent limit H f Event.reconnect .taken ≡ f .taken)
+  takes-none f kind space = (refl, refl)
+
   -- one call more in a history
   pub receives-next : (v : RtrProtocolVersion) (calls : List Call) (call : Call) → receives limit H v (historyOf (calls ++ call ∷ [])) ≡ onEvents limit H (receives limit H v (historyOf calls)) (historyOf (call ∷ []))
   receives-next v calls call =

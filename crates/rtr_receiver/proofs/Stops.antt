@@ -1,5 +1,5 @@
 -- Demand 1 on lent memory. What the feed that stops leaves of it (`stop-in-memory`): the working room all zeros, nothing held, and live room, table and note as they were before the byte that stopped. And one statement
--- over all later calls up to the next reconnect (`stop-holds`): memory stays as it is, every feed takes nothing and says the same stop, every ask is refused by 20 and leaves its output. `refused-full-keeps`, `refused-change-keeps`:
+-- over all later calls up to the next reconnect (`stop-holds`): memory stays as it is (the hold past the held count is anyone's), every feed takes nothing and says the same stop, every ask is refused by 20 and leaves its output. `refused-full-keeps`, `refused-change-keeps`:
 -- what a refused ask of a run leaves. Assumes nothing.
 use Prim.Native.Nat.{ℕ, suc, _*_, _<_}
 use mathlib.Core.Bool.{Bool, true, false, cond, _||_}

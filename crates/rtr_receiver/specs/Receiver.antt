@@ -212,8 +212,8 @@ onPiece limit H f (b ∷ piece) = onPiece limit H (onByte limit H f b) piece
 unfoldable pub feed : ℕ → ℕ → Receiver → List ℕ → Feed
 feed limit H r piece = onPiece limit H (record { receiver = r; taken = 0; updates = 0 }) piece
 
--- "Full ask (Idle, MustReset) writes a Reset Query: AskedFull. Change ask (Idle, with a table) writes a Serial Query of the table's session and serial:
--- AskedChange." Else 20; in Idle without a table 21.
+-- the asks, by phase: a Reset Query from Idle and MustReset leads to AskedFull; a Serial Query, which names the table's session and serial, from Idle to AskedChange. Elsewhere 20; a change
+-- ask in Idle without a table 21
 pub data Query : Type 0 where
   query : RtrPdu → Stage → Query
   refused : ℕ → Query

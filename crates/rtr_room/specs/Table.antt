@@ -7,7 +7,7 @@ use lib.ListN.{length}
 use lib.Dec.{leb, ltb, eqb}
 use Rattle.rtr_room.specs.declared.Record.{Record}
 
--- ---- a record: "family (4 or 6) x 65,536 + prefix length x 256 + max; four address numbers (IPv4 in the first, others 0); AS number"
+-- ---- a record: six numbers. The first packs family, prefix length and max; then come the address in four numbers, of which IPv4 fills the first alone, and the AS number
 
 -- the first number of a record, of its three parts
 abbrev pub packed : ℕ → ℕ → ℕ → ℕ

@@ -44,10 +44,11 @@ use Rattle.rtr_encode.specs.Encode.{Encoded, layoutOf, given, valuesIn, encoded
 use Rattle.rtr_encode.specs.Encode as paper
 use Rattle.rtr_encode.specs.Encode.Writing.{written, refused}
 use Rattle.rtr_encode.specs.Answers.{writing, leaves}
+use Rattle.rtr_encode.specs.declared.EncodeError.{EncodeError}
 use Rattle.rtr_encode.specs.declared.EncodeError.the-variants.{PlaceOutside, InvalidUtf8, TooLong, OutputShort}
 use Rattle.rtr_encode.specs.declared.EncodeAnswer.{EncodeAnswer}
 use Rattle.rtr_encode.specs.declared.EncodeAnswer.the-variants.{Written, Refused}
-use Rattle.rtr_encode.proofs.Laws.{written-is-encoding}
+use Rattle.rtr_encode.proofs.Laws.{refused-keeps-output, written-is-encoding}
 use Rattle.rtr_encode.proofs.Refused.{short-refused}
 use Rattle.rtr_encode.proofs.encode.Reads as encode
 use Rattle.rtr_round.specs.RoundTrip.{Bytes, ignoredZero, nothingBehind, valuesFit, kindInRule, InRule, readBack}
@@ -123,6 +124,19 @@ contracts-read-back κs a m st writes fits kind κs′ a′ r st′ reads same =
     ∙ ap (read inUse) (same ∙ ap (λ (x : Encoded). x .out) writes)
     ∙ read-of-written inUse (a .0) s out m (sym (ap (λ (x : Encoded). x .says) writes)) fits kind
 
+-- an encoding that is refused, by whatever number, leaves the output
+pub call-refused-keeps : (κs : _) (a : _) (error : EncodeError) (st : _) → encode.Post κs a (Refused error) st → now (st .1 .1 .0) ≡ now (a .1 .1 .0)
+call-refused-keeps κs a error st p = by error p
+  where
+    keeps : (left : List ℕ) (k : ℕ) (x : List ℕ) → record { says = refused k x; out = left } ≡ paper.encode inUse (a .0) (now (a .1 .0)) (now (a .1 .1 .0)) → left ≡ now (a .1 .1 .0)
+    keeps left k x e = ap (λ (y : Encoded). y .out) e ∙ refused-keeps-output inUse (a .0) (now (a .1 .0)) (now (a .1 .1 .0)) k x (sym (ap (λ (y : Encoded). y .says) e))
+
+    by : (e : EncodeError) → leaves (Refused e) (now (st .1 .1 .0)) ≡ paper.encode inUse (a .0) (now (a .1 .0)) (now (a .1 .1 .0)) → now (st .1 .1 .0) ≡ now (a .1 .1 .0)
+    by PlaceOutside e = keeps (now (st .1 .1 .0)) 11 [] e
+    by InvalidUtf8 e = keeps (now (st .1 .1 .0)) 8 [] e
+    by TooLong e = keeps (now (st .1 .1 .0)) 10 [] e
+    by (OutputShort n) e = keeps (now (st .1 .1 .0)) 9 (n ∷ []) e
+
 -- ---- Of the code that makes the two calls, on every lent slice and output
 module _ (κs : _) (a : _) (pdu : RtrPdu) (n : ℕ) (answer : EncodeAnswer) (st : _) (calls : recode.Post κs a (Again pdu n answer) st) where
   pub call-gives-back : (m : ℕ) → answer ≡ Written m
@@ -165,7 +179,7 @@ pub call-unread : (κs : _) (a : _) (error : RtrError) (st : _) → recode.Post 
     → (now (st .1 .0) ≡ now (a .1 .0)) × ((k : ℕ) (values : List ℕ) → refusal error ≡ Verdict.refused k values → Refusal inUse (now (a .0)) k values)
 call-unread κs a error st calls = (calls .2, λ k values e. refused-exactly inUse (now (a .0)) k values .0 (sym (calls .1) ∙ e))
 
--- ---- The parts of what was read, asked for by the four calls, are never refused by 11, and each is that very part of the slice
+-- ---- The parts of what was read, asked for by the eight calls, are never refused by 11, and each is that very part of the slice
 answer-part : (r : PartAnswer) (fits : Bool) → fits ≡ true → partNumber r ≡ numberIf fits → r ≡ Part
 answer-part Part fits f e = refl
 answer-part PartRefused fits f e = absurd (let z : 11 ≡ 0 = e ∙ ap numberIf f in omega arith)

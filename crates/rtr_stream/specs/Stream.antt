@@ -1,5 +1,5 @@
--- The stream, byte by byte: document 01, "Stream and receiver" ("a length outside 8 to 131,086 is refused by 4 .. once 8 bytes are in; then 12
--- if it exceeds H; then the PDU is read when whole"). H is the size of the hold. Nothing here knows of a receiver or of a buffer.
+-- The stream, byte by byte: document 01, "Stream and receiver". The header's length is looked at as soon as the header is there: out of range it is 4, over the
+-- hold's size H it is 12; the PDU is read once all of it is there. Nothing here knows of a receiver or of a buffer.
 use Prim.Native.Nat.{ℕ, _+_}
 use mathlib.Core.Bool.{Bool, true, false, cond}
 use mathlib.Core.List.{List, [], _∷_, _++_}

@@ -144,12 +144,12 @@ module _ (R : Reading) where
   unfolding Tells
   frames-are-told s = omega (arith, walk-tells s .1)
 
-  -- the limits are reached: a walk that is too deep made 17 reads in 35 frames
+  -- a walk that is too deep made all 17 reads, in 35 frames
   pub too-deep-costs : (s : List ℕ) (level : ℕ) → walk R s ≡ walked level tooDeep → (walkCost R s .reads ≡ 17) × (walkCost R s .frames ≡ 35)
   too-deep-costs s level w =
       let e = too-deep-at-16 R s level w in
       (reads-are-told s ∙ ap readsSaid w ∙ omega arith, frames-are-told s ∙ ap framesSaid w ∙ omega arith)
 
--- the code's answer tells the reads and the frames of its own walk
+-- so the code's answer tells what its slice costs
 pub walk-costs : (κs : _) (a : _) (r : _) (s : _) → walk-reads.Post κs a r s → (walkCost inUse (now (a .0)) .reads ≡ readsSaid (walkSaid r)) × (walkCost inUse (now (a .0)) .frames ≡ framesSaid (walkSaid r))
 walk-costs κs a r s p = (reads-are-told inUse (now (a .0)) ∙ ap readsSaid (sym p), frames-are-told inUse (now (a .0)) ∙ ap framesSaid (sym p))

@@ -75,7 +75,7 @@ pduMeasure left = 2 * left + 1
 abbrev pub reportMeasure : ℕ → ℕ
 reportMeasure left = 2 * left
 
--- of the same on so many bytes: a part is shorter than the slice that its report was read from
+-- of the same on so many bytes: a part is shorter than the slice that its report was read from (any two numbers that fall as these do would serve)
 abbrev pub pduBytes : ℕ → ℕ
 pduBytes size = 2 * size
 

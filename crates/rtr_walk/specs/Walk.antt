@@ -1,4 +1,4 @@
--- The nest walk: document 01, "Nest walk". Level 0 is the PDU read; level k + 1 is the read of level k's encapsulated bytes.
+-- The nest walk: document 01, "Nest walk". A slice is read, then what the report in it encapsulates, and so on: each read is one level further down.
 use Prim.Native.Nat.{ℕ, zero, suc, _+_, _≤_, _<_}
 use mathlib.Core.List.{List, [], _∷_}
 use mathlib.Core.Path.{_≡_}
