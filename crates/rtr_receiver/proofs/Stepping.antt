@@ -10,7 +10,6 @@ use lib.ListN.{length, take, drop, replicate, length-drop}
 use lib.Seq.{take-nil, drop-drop}
 use Rattle.rtr_models.specs.declared.RtrPdu.{RtrPdu}
 use Rattle.rtr_codec.specs.Reading.{inUse}
-use Rattle.rtr_codec.specs.Read.{Verdict}
 use Rattle.rtr_codec.proofs.Rules.{LengthsInRule, accepted-in-rule}
 use Rattle.rtr_stream.specs.Stream.{judge}
 use Rattle.rtr_stream.specs.Search.{End, Search, Outcome, isStream, searchFrom, search, saysOf, outcomeOf, streamRefusal, stopsBy, saidBy, searchSaid, bytesOf}
@@ -26,13 +25,11 @@ use Rattle.rtr_receiver.specs.Contents.{Rooms}
 use Rattle.rtr_receiver.specs.Receiver.{Stage, Receiver, Deed, Feed, holding, stop, listens, onPdu, onPiece, feed}
 use Rattle.rtr_receiver.specs.Receiver.Stage.{idle, mustReset, askedFull, askedChange, loading, stopped}
 use Rattle.rtr_receiver.specs.Promises.{Ending, FeedSays, stopSaid, stoppedBy, isStopped, stageOf, receiverOf, isLimit, isReceiver, endingOf, Left, leaves, inMemory, fedTo, feedSays, fedSaidBy}
-use Rattle.rtr_receiver.specs.Private.{Did, carriedOut, heldIn, HeardAs, HeardDone, MayCount, answerIn, feedHere, SteppedTo, Stepped, StepAsks}
+use Rattle.rtr_receiver.specs.Private.{Did, heldIn, stoppedSession, AnswerDone, MayCount, answerIn, feedHere, SteppedTo, Stepped, StepAsks}
 use Rattle.rtr_receiver.specs.declared.Stop.{Stop}
 use Rattle.rtr_receiver.specs.declared.Phase.{Phase}
 use Rattle.rtr_receiver.specs.declared.Session.{Session}
 use Rattle.rtr_receiver.specs.declared.FeedAnswer.{FeedAnswer}
-use Rattle.rtr_receiver.specs.declared.Heard.{Heard}
-use Rattle.rtr_receiver.specs.declared.Doing.{Doing}
 use Rattle.rtr_receiver.specs.declared.Step.{Step}
 use Rattle.rtr_receiver.proofs.Feeds.{from, stopped-takes-none, fed-more, fed-pdu, fed-stop}
 use Rattle.rtr_receiver.proofs.Good.{Good, pdu-good}
@@ -122,48 +119,28 @@ module _ (limit : ℕ) (s : Session) (live working : Rooms) (hold piece : List �
         (ap (λ (x : Left). x .liveCount) did) (ap (λ (x : Left). x .workingCount) did) (ap (λ (x : Left). x .heldCount) did)
         (ap (λ (x : Left). x .live) did) (ap (λ (x : Left). x .working) did) (ap (λ (n : ℕ). take n hold′) zero ∙ sym none)
 
+    -- zeros all over are the empty working table
+    zeros : replicate (length working) 0 ≡ room limit []
+    zeros =
+        ap (λ (n : ℕ). replicate n 0) (room-size limit (s .working .records) working (shape .working-room) .0) ∙ empty-is limit .0
+
     step-stop
-        : (error : StreamError) (t : Session) (n : ℕ) (live′ working′ : List ℕ) →
+        : (error : StreamError) (working′ : List ℕ) →
         r .answer ≡ StreamAnswer.Refused error →
-        Did limit t n live′ working′ (carriedOut limit (Doing.Stops (Stop.Stream error)) (receiverOf (heldIn s 0) live working [])) →
-        SteppedTo limit (feedHere limit s live working hold piece at updates) piece at t (r .next) (updates + n) live′ working′ hold′ (isStopped (t .phase))
-    step-stop error t n live′ working′ a did = go (t .phase) refl
-      where
-        told : (k : ℕ) × (x : List ℕ) × (stopSaid (Stop.Stream error) ≡ Verdict.refused k x)
-        told = stop-says (Stop.Stream error)
-
-        end : ended .end ≡ End.stop (told .0) (told .1)
-        end =
-            stop-told (s .held) at (told .0) (told .1) (ended .end) (sym (ap stopsBy (told .2)) ∙ sym (ap (λ (y : StreamAnswer). saidBy y hold′ piece) a) ∙ says-is)
-
-        is-fed : feedHere limit s live working hold piece at updates ≡ from (stop (told .0) (told .1) here) (ended .next) updates
-        is-fed = fed-stop limit (length hold) here updates on (drop at piece) at (take (s .held) hold) (told .0) (told .1) end
-
-        reason : stoppedBy (stopSaid (Stop.Stream error)) ≡ stopped (told .0) (told .1)
-        reason = ap stoppedBy (told .2)
-
-        stage : stageOf (t .phase) ≡ stopped (told .0) (told .1)
-        stage = ap (λ (x : Left). x .stage) (did .0) ∙ reason
-
-        left : leaves t live′ working′ hold′ ≡ inMemory limit (stop (told .0) (told .1) here)
-        left =
-            left-of t live′ working′ _ (did .0)
-            ∙ ap (λ (x : Stage). inMemory limit (record { version = s .life .version; stage = x; table = s .table; note = s .note; live = records (s .live .records) live; working = []; held = [] })) reason
-
-        counted : updates + n ≡ updates
-        counted = omega (arith, did .1)
-
-        go : (ph : Phase) → t .phase ≡ ph → SteppedTo limit (feedHere limit s live working hold piece at updates) piece at t (r .next) (updates + n) live′ working′ hold′ (isStopped ph)
-        go Phase.Idle e = absurd (let y : idle ≡ stopped (told .0) (told .1) = sym (ap stageOf e) ∙ stage in let z : _≡_ {A = ℕ} 0 1 = cc in omega arith)
-        go Phase.MustReset e = absurd (let y : mustReset ≡ stopped (told .0) (told .1) = sym (ap stageOf e) ∙ stage in let z : _≡_ {A = ℕ} 0 1 = cc in omega arith)
-        go Phase.AskedFull e = absurd (let y : askedFull ≡ stopped (told .0) (told .1) = sym (ap stageOf e) ∙ stage in let z : _≡_ {A = ℕ} 0 1 = cc in omega arith)
-        go Phase.AskedChange e = absurd (let y : askedChange ≡ stopped (told .0) (told .1) = sym (ap stageOf e) ∙ stage in let z : _≡_ {A = ℕ} 0 1 = cc in omega arith)
-        go (Phase.Loading kind session) e = absurd (let y : loading kind session ≡ stopped (told .0) (told .1) = sym (ap stageOf e) ∙ stage in let z : _≡_ {A = ℕ} 0 1 = cc in omega arith)
-        go (Phase.Stopped why) e =
-            let reasons : stoppedBy (stopSaid why) ≡ stopped (told .0) (told .1) = sym (ap stageOf e) ∙ stage in
-            ap (λ (p : Phase). fedSaidBy (answerIn p) (r .next) (updates + n) (leaves t live′ working′ hold′) hold′) e
-            ∙ (λ i. FeedSays.fed (next-is i) (counted i) (endingOf (reasons i)) (left i))
-            ∙ sym (ap (fedTo limit) is-fed)
+        working′ ≡ replicate (length working) 0 →
+        fedSaidBy (FeedAnswer.Stopped (Stop.Stream error)) (r .next) updates (leaves (stoppedSession s (Stop.Stream error)) live working′ hold′) hold′
+        ≡ fedTo limit (feedHere limit s live working hold piece at updates)
+    step-stop error working′ a emptied =
+        let told = stop-says (Stop.Stream error) in
+        let k : ℕ = told .0 in
+        let x : List ℕ = told .1 in
+        let end : ended .end ≡ End.stop k x =
+        stop-told (s .held) at k x (ended .end) (sym (ap stopsBy (told .2)) ∙ sym (ap (λ (y : StreamAnswer). saidBy y hold′ piece) a) ∙ says-is) in
+        let is-fed : feedHere limit s live working hold piece at updates ≡ from (stop k x here) (ended .next) updates =
+        fed-stop limit (length hold) here updates on (drop at piece) at (take (s .held) hold) k x end in
+        let stage : stoppedBy (streamRefusal error) ≡ stopped k x = ap stoppedBy (told .2) in
+        let left = left-alike {a = leaves (stoppedSession s (Stop.Stream error)) live working′ hold′} {b = inMemory limit (stop k x here)} limited stage refl refl (with-records live-long) refl refl live-is (emptied ∙ zeros) refl in
+        (λ i. FeedSays.fed (next-is i) updates (endingOf (stage i)) (left i)) ∙ sym (ap (fedTo limit) is-fed)
 
     module _ (pdu : RtrPdu) (lies : Lies) (found : r .answer ≡ StreamAnswer.Found pdu lies) where
       abbrev bytes : List ℕ
@@ -278,55 +255,38 @@ module _ (limit : ℕ) (s : Session) (live working : Rooms) (hold piece : List �
     abbrev Steps : List ℕ → List ℕ → Step → Type 0
     Steps live′ working′ x = Stepped limit (feedHere limit s live working hold piece at updates) piece at x live′ working′ hold′
 
-    -- what was heard and done is a step
-    pub step-heard
-        : (h : Heard) →
-        HeardAs s (r .answer) (r .stream .held) h →
-        at ≤ length piece →
+    -- what was done by the answer is a step
+    pub step-answer
+        : at ≤ length piece →
         updates ≤ at →
         (step : Step) (live′ working′ : List ℕ) →
-        HeardDone limit s live working h (r .next) updates step live′ working′ →
+        AnswerDone limit s live working (r .answer) (r .stream .held) (r .next) updates step live′ working′ →
         Steps live′ working′ step
-    step-heard h asked inside few step live′ working′ done = go (r .answer) refl asked
+    step-answer inside few step live′ working′ done = go (r .answer) refl done
       where
-        does : (doing : Doing) → h ≡ Heard.Does doing → HeardDone limit s live working (Heard.Does doing) (r .next) updates step live′ working′
-        does doing e = subst (λ (x : Heard). HeardDone limit s live working x (r .next) updates step live′ working′) e done
-
-        go : (a : StreamAnswer) → r .answer ≡ a → HeardAs s a (r .stream .held) h → Steps live′ working′ step
-        go (StreamAnswer.Found pdu lies) e k =
-            let d = does (k .0) (k .1 .0) in
-            let deed = subst (λ (h : List ℕ). carriedOut limit (k .0) (holding h here) ≡ onPdu limit pdu (holding h here)) (take-nil (s .held)) (k .1 .1 limit live working) in
-            subst (Steps live′ working′) (sym (d .1 .1 .0)) (step-pdu pdu lies e (d .0) (d .1 .0) live′ working′ inside few (subst (Did limit (d .0) (d .1 .0) live′ working′) deed (d .1 .1 .1)))
-        go (StreamAnswer.Refused error) e k =
-            let d = does (Doing.Stops (Stop.Stream error)) k in
-            subst (Steps live′ working′) (sym (d .1 .1 .0)) (step-stop error (d .0) (d .1 .0) live′ working′ e (d .1 .1 .1))
-        go StreamAnswer.More e k =
-            let d = subst (λ (x : Heard). HeardDone limit s live working x (r .next) updates step live′ working′) k done in
+        go : (a : StreamAnswer) → r .answer ≡ a → AnswerDone limit s live working a (r .stream .held) (r .next) updates step live′ working′ → Steps live′ working′ step
+        go (StreamAnswer.Found pdu lies) e d = subst (Steps live′ working′) (sym (d .1 .1 .0)) (step-pdu pdu lies e (d .0) (d .1 .0) live′ working′ inside few (d .1 .1 .1))
+        go (StreamAnswer.Refused error) e d =
+            subst (Steps live′ working′) (sym (d .0))
+            (subst (λ (l : List ℕ). fedSaidBy (FeedAnswer.Stopped (Stop.Stream error)) (r .next) updates (leaves (stoppedSession s (Stop.Stream error)) l working′ hold′) hold′ ≡ fedTo limit (feedHere limit s live working hold piece at updates)) (sym (d .1)) (step-stop error working′ e (d .2)))
+        go StreamAnswer.More e d =
             subst (Steps live′ working′) (sym (d .0))
             (subst (λ (l : List ℕ). fedSaidBy (answerIn (s .phase)) (r .next) updates (leaves (heldIn s (r .stream .held)) l working′ hold′) hold′ ≡ fedTo limit (feedHere limit s live working hold piece at updates)) (sym (d .1))
             (subst (λ (w : List ℕ). fedSaidBy (answerIn (s .phase)) (r .next) updates (leaves (heldIn s (r .stream .held)) live w hold′) hold′ ≡ fedTo limit (feedHere limit s live working hold piece at updates)) (sym (d .2)) (step-more e)))
-        go StreamAnswer.NotAStream e k = absurd (step-never e)
+        go StreamAnswer.NotAStream e d = absurd (step-never e)
 
     -- an update takes a byte, so they are never more than the bytes
-    pub step-counts : (h : Heard) → HeardAs s (r .answer) (r .stream .held) h → at ≤ length piece → updates ≤ at → length piece < 18446744073709551616 → MayCount h updates
-    step-counts (Heard.Holds held) asked inside few small = tt
-    step-counts (Heard.Does doing) asked inside few small = go (r .answer) refl asked
+    pub step-counts : at ≤ length piece → updates ≤ at → length piece < 18446744073709551616 → MayCount (r .answer) updates
+    step-counts inside few small = go (r .answer) refl
       where
-        moves : (ended .end ≡ End.more → ⊥) → updates + 1 < 18446744073709551616
-        moves h =
-            let moved : at < ended .next = search-moves inUse (length hold) (drop at piece) at (take (s .held) hold) h in
+        go : (a : StreamAnswer) → r .answer ≡ a → MayCount a updates
+        go (StreamAnswer.Found pdu lies) e =
+            let moved = found-moves pdu lies e in
             let takes = search-takes inUse (length hold) (drop at piece) at (take (s .held) hold) in
-            omega (arith, takes .1, length-drop at piece)
-
-        go : (a : StreamAnswer) → r .answer ≡ a → HeardAs s a (r .stream .held) (Heard.Does doing) → updates + 1 < 18446744073709551616
-        go (StreamAnswer.Found pdu lies) e k = let f = end-is pdu lies e in moves (λ m. let z : _≡_ {A = ℕ} 0 1 = cc f in omega arith)
-        go (StreamAnswer.Refused error) e k =
-            let told = stop-says (Stop.Stream error) in
-            let f : ended .end ≡ End.stop (told .0) (told .1) =
-            stop-told (s .held) at (told .0) (told .1) (ended .end) (sym (ap stopsBy (told .2)) ∙ sym (ap (λ (y : StreamAnswer). saidBy y hold′ piece) e) ∙ says-is) in
-            moves (λ m. let z : _≡_ {A = ℕ} 0 1 = cc f in omega arith)
-        go StreamAnswer.More e k = absurd (let z : _≡_ {A = ℕ} 0 1 = cc k in omega arith)
-        go StreamAnswer.NotAStream e k = absurd (step-never e)
+            omega (arith, moved, takes .1, length-drop at piece)
+        go (StreamAnswer.Refused error) e = tt
+        go StreamAnswer.More e = tt
+        go StreamAnswer.NotAStream e = tt
 
 -- ---- the whole feed
 

@@ -35,7 +35,6 @@ use Rattle.rtr_receiver.specs.declared.Taken.{Taken}
 use Rattle.rtr_receiver.specs.declared.Carried.{Carried}
 use Rattle.rtr_receiver.specs.declared.Doing.{Doing}
 use Rattle.rtr_receiver.specs.declared.FeedAnswer.{FeedAnswer}
-use Rattle.rtr_receiver.specs.declared.Heard.{Heard}
 use Rattle.rtr_receiver.specs.declared.Step.{Step}
 
 -- both rooms keep the rules, nothing is held (a whole PDU has just been taken out of the hold), the receiver has not stopped, and the
@@ -227,36 +226,49 @@ StepAsks limit s live working hold piece at updates =
 abbrev pub heldIn : Session → ℕ → Session
 heldIn s held = record { life = s .life; phase = s .phase; table = s .table; note = s .note; live = s .live; working = s .working; held = held }
 
--- what is to be done is what the search's answer asks for
-abbrev pub HeardAs : Session → StreamAnswer → ℕ → Heard → Type 0
-HeardAs s (StreamAnswer.Found pdu lies) held h = (doing : Doing) × ((h ≡ Heard.Does doing) × DecidesOn s pdu doing)
-HeardAs s (StreamAnswer.Refused error) held h = h ≡ Heard.Does (Doing.Stops (Stop.Stream error))
-HeardAs s StreamAnswer.More held h = h ≡ Heard.Holds held
-HeardAs s StreamAnswer.NotAStream held h = Unit
+-- what was decided asks for both rooms, and for place to count one update more
+abbrev pub DoingAsks : ℕ → Session → Rooms → Rooms → ℕ → Type 0
+DoingAsks limit s live working updates = BothRooms limit s live working × (updates + 1 < 18446744073709551616)
 
--- it asks for both rooms, for a receiver that listens, and for place to count one update more
-abbrev pub MayCount : Heard → ℕ → Type 0
-MayCount (Heard.Holds held) updates = Unit
-MayCount (Heard.Does doing) updates = updates + 1 < 18446744073709551616
-
-abbrev pub HeardAsks : ℕ → Session → Rooms → Rooms → Heard → ℕ → Type 0
-HeardAsks limit s live working heard updates =
-    (areRooms limit (s .live) live ≡ true)
-    × (areRooms limit (s .working) working ≡ true)
-    × (listens (stageOf (s .phase)) ≡ true)
-    × MayCount heard updates
-
--- it is done: the bytes are held and the rooms are as they were, or the decision is carried out with nothing held
-abbrev pub HeardDone : ℕ → Session → Rooms → Rooms → Heard → ℕ → ℕ → Step → Rooms → Rooms → Type 0
-HeardDone limit s live working (Heard.Holds held) next updates step live′ working′ =
-    (step ≡ record { session = heldIn s held; next = next; updates = updates; over = true })
-    × (live′ ≡ live)
-    × (working′ ≡ working)
-HeardDone limit s live working (Heard.Does doing) next updates step live′ working′ =
+-- a step that did this, and finished so many updates
+abbrev pub StepDid : ℕ → Deed → ℕ → ℕ → Step → Rooms → Rooms → Type 0
+StepDid limit deed next updates step live working =
     (t : Session)
     × ((n : ℕ)
     × ((step ≡ record { session = t; next = next; updates = updates + n; over = isStopped (t .phase) })
-    × Did limit t n live′ working′ (carriedOut limit doing (receiverOf (heldIn s 0) live working []))))
+    × Did limit t n live working deed))
+
+abbrev pub DoingDone : ℕ → Session → Rooms → Rooms → Doing → ℕ → ℕ → Step → Rooms → Rooms → Type 0
+DoingDone limit s live working doing next updates step live′ working′ =
+    StepDid limit (carriedOut limit doing (receiverOf s live working [])) next updates step live′ working′
+
+-- what a search's answer asks for: only a PDU may finish an update
+abbrev pub MayCount : StreamAnswer → ℕ → Type 0
+MayCount (StreamAnswer.Found pdu lies) updates = updates + 1 < 18446744073709551616
+MayCount (StreamAnswer.Refused error) updates = Unit
+MayCount StreamAnswer.More updates = Unit
+MayCount StreamAnswer.NotAStream updates = Unit
+
+abbrev pub AnswerAsks : ℕ → Session → Rooms → Rooms → StreamAnswer → ℕ → Type 0
+AnswerAsks limit s live working answer updates =
+    (areRooms limit (s .live) live ≡ true)
+    × (areRooms limit (s .working) working ≡ true)
+    × (listens (stageOf (s .phase)) ≡ true)
+    × MayCount answer updates
+
+-- what comes of it: the PDU's deed with nothing held, a stop, or so many bytes held and the rooms as they were
+abbrev pub AnswerDone : ℕ → Session → Rooms → Rooms → StreamAnswer → ℕ → ℕ → ℕ → Step → Rooms → Rooms → Type 0
+AnswerDone limit s live working (StreamAnswer.Found pdu lies) held next updates step live′ working′ =
+    StepDid limit (onPdu limit pdu (receiverOf (heldIn s 0) live working [])) next updates step live′ working′
+AnswerDone limit s live working (StreamAnswer.Refused error) held next updates step live′ working′ =
+    (step ≡ record { session = stoppedSession s (Stop.Stream error); next = next; updates = updates; over = true })
+    × (live′ ≡ live)
+    × (working′ ≡ replicate (length working) 0)
+AnswerDone limit s live working StreamAnswer.More held next updates step live′ working′ =
+    (step ≡ record { session = heldIn s held; next = next; updates = updates; over = true })
+    × (live′ ≡ live)
+    × (working′ ≡ working)
+AnswerDone limit s live working StreamAnswer.NotAStream held next updates step live′ working′ = Unit
 
 -- the whole table may be asked for
 abbrev pub mayAskFull : Phase → Bool

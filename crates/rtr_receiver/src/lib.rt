@@ -30,7 +30,7 @@ ghost use Rattle.rtr_codec.specs.Answers.{numberOf};
 ghost use Rattle.rtr_room.specs.Room.{copied, enterSaid, leaveSaid};
 ghost use Rattle.rtr_receiver.specs.Receiver.{noUpdate, onKind, listens, compared};
 ghost use Rattle.rtr_receiver.specs.Promises.{NotifySays, stopSaid, changeUnderWay, isLoading, isStopped, stageOf, receiverOf, inOrder, isReceiver, feedSays, FedAs, fedSaid, startSays, startSaid, fullAskSays, changeAskSays, askSaid, reconnectSays, reconnectSaid, notifySays, notifySaid, recordLimit, isLimit, tabled, cleared};
-ghost use Rattle.rtr_receiver.specs.Private.{BothRooms, WorkingRoom, IsSomeRoom, taking, EnteredRoom, LeftRoom, SaidAs, Took, RecordDone, Stands, responseIn, resetIn, endIn, carriedBy, carriedOut, Makes, Updates, Decides, DecidesOn, Filled, stoppedSession, finishedSession, askedFor, mayAskFull, answerIn, HeardAs, HeardAsks, HeardDone, feedHere, StepAsks, Stepped};
+ghost use Rattle.rtr_receiver.specs.Private.{BothRooms, WorkingRoom, IsSomeRoom, taking, EnteredRoom, LeftRoom, SaidAs, Took, RecordDone, Stands, responseIn, resetIn, endIn, carriedBy, carriedOut, Makes, Updates, Decides, DecidesOn, Filled, stoppedSession, finishedSession, askedFor, mayAskFull, answerIn, DoingAsks, DoingDone, AnswerAsks, AnswerDone, feedHere, StepAsks, Stepped};
 
 // How many records a room has at the most.
 pub const RECORD_LIMIT: usize = 1024;
@@ -916,39 +916,59 @@ fn is_stopped(phase: Phase) -> bool
     }
 }
 
-// What a search came to: so many bytes are held until more comes, or something is to be done.
-enum Heard {
-    Holds(usize),
-    Does(Doing),
-}
-
-// A PDU is decided on, a refusal stops; NotAStream never comes behind the shape test.
-fn hear(s: Session, answer: StreamAnswer, held: usize) -> Heard
-    requires { ⌜ listens (stageOf (s .phase)) ≡ true ⌝ }
-    ensures { λ h. ⌜ HeardAs s answer held h ⌝ }
-{
-    match answer {
-        StreamAnswer::Found(pdu, _) => return Heard::Does(decide_pdu(s, pdu)),
-        StreamAnswer::Refused(error) => return Heard::Does(Doing::Stops(Stop::Stream(error))),
-        StreamAnswer::More => return Heard::Holds(held),
-        StreamAnswer::NotAStream => return Heard::Holds(held),
-    }
-}
-
-// What was heard is done: a wish for more ends the feed, else it goes on unless it stopped.
-fn on_heard(
+// What was decided is done; the feed goes on unless that stopped it.
+fn on_doing(
     s: Session,
     live: &mut [u32],
     working: &mut [u32],
-    heard: Heard,
+    doing: Doing,
     next: usize,
     updates: usize,
 ) -> Step
-    requires { ⌜ HeardAsks (s .life .limit) s (now live) (now working) heard updates ⌝ }
-    ensures { λ r. ⌜ HeardDone (s .life .limit) s (now (live .entry)) (now (working .entry)) heard next updates r (now (live .exit)) (now (working .exit)) ⌝ }
+    requires { ⌜ DoingAsks (s .life .limit) s (now live) (now working) updates ⌝ }
+    ensures { λ r. ⌜ DoingDone (s .life .limit) s (now (live .entry)) (now (working .entry)) doing next updates r (now (live .exit)) (now (working .exit)) ⌝ }
 {
-    match heard {
-        Heard::Holds(held) => {
+    let count = finished_by(doing);
+    let session = carry_out(s, live, working, doing);
+    let phase = session.phase;
+    Step {
+        session,
+        next,
+        updates: updates + count,
+        over: is_stopped(phase),
+    }
+}
+
+// By the search's answer: a PDU is decided on and that is done, a refusal stops, and a wish for more ends the feed with so much held. NotAStream
+// never comes behind the shape test.
+fn on_answer(
+    s: Session,
+    live: &mut [u32],
+    working: &mut [u32],
+    answer: StreamAnswer,
+    held: usize,
+    next: usize,
+    updates: usize,
+) -> Step
+    requires { ⌜ AnswerAsks (s .life .limit) s (now live) (now working) answer updates ⌝ }
+    ensures { λ r. ⌜ AnswerDone (s .life .limit) s (now (live .entry)) (now (working .entry)) answer held next updates r (now (live .exit)) (now (working .exit)) ⌝ }
+{
+    match answer {
+        StreamAnswer::Found(pdu, _) => {
+            let quiet = with_held(s, 0);
+            let doing = decide_pdu(quiet, pdu);
+            return on_doing(quiet, live, working, doing, next, updates);
+        }
+        StreamAnswer::Refused(error) => {
+            empty(working);
+            return Step {
+                session: stopped(s, Stop::Stream(error)),
+                next,
+                updates,
+                over: true,
+            };
+        }
+        StreamAnswer::More => {
             return Step {
                 session: with_held(s, held),
                 next,
@@ -956,14 +976,12 @@ fn on_heard(
                 over: true,
             };
         }
-        Heard::Does(doing) => {
-            let session = carry_out(with_held(s, 0), live, working, doing);
-            let phase = session.phase;
+        StreamAnswer::NotAStream => {
             return Step {
-                session,
+                session: s,
                 next,
-                updates: updates + finished_by(doing),
-                over: is_stopped(phase),
+                updates,
+                over: true,
             };
         }
     }
@@ -986,8 +1004,15 @@ fn next_step(
     let searched = search(hold, Stream { held: s.held }, piece, at);
     let stream = searched.stream;
     let answer = searched.answer;
-    let heard = hear(s, answer, stream.held);
-    on_heard(s, live, working, heard, searched.next, updates)
+    on_answer(
+        s,
+        live,
+        working,
+        answer,
+        stream.held,
+        searched.next,
+        updates,
+    )
 }
 
 // A feed that is over says its stop, or that it goes on.
