@@ -124,7 +124,7 @@ module _ (limit H : ℕ) (v : RtrProtocolVersion) (calls : List Call) (m : Memor
       ap (λ (x : Encoded). x .out)
       (p ∙ sym (listed-says (a .0 .life .limit) (a .0) (now (a .1 .0)) out (listable (a .0 .life .limit) (a .0) (now (a .1 .0)) (exact .0))) ∙ written-is bytes out fits) in
       ap (take n) left
-      ∙ take-at bytes (drop (length bytes) out) n (exact .1)
+      ∙ take-at bytes (drop (length bytes) out) n (sym (exact .1))
       ∙ (λ i. listing (session i) (contents (session i .live) (live i)))
       ∙ listed-is-history limit H v calls m run
 
