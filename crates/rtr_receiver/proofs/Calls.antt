@@ -2,7 +2,7 @@
 use Prim.Native.Nat.{ℕ, _+_, _*_, _-_, _%_, _≤_, _<_}
 use mathlib.Core.Bool.{Bool, true, false, not, cond, _&&_, _||_, and-true}
 use mathlib.Core.List.{List, [], _∷_}
-use mathlib.Core.Path.{_≡_, refl, sym, ap, _∙_, subst}
+use mathlib.Core.Path.{_≡_, refl, sym, ap, _∙_}
 use native.Mathlib.Omega.{arith}
 use borrow.Author.Tests.{lt-ltb, le-ltb, le-leb, lt-leb, eq-eqb, ne-eqb, leb-true, leb-false}
 use lib.Dec.{leb, eqb}
@@ -18,10 +18,10 @@ use Rattle.rtr_encode.specs.declared.EncodeError.{EncodeError}
 use Rattle.rtr_encode.specs.declared.EncodeAnswer.{EncodeAnswer}
 use Rattle.rtr_room.proofs.Laws.{empty-is}
 use Rattle.rtr_receiver.specs.Contents.{Rooms}
-use Rattle.rtr_receiver.specs.Receiver.{Stage, Receiver, Query, Notified, resetQuery, fullQuery, changeQuery, askedBy, ask, reconnected, notified, compared, fresh}
+use Rattle.rtr_receiver.specs.Receiver.{Stage, Receiver, Query, Notified, fullQuery, changeQuery, askedBy, ask, reconnected, notified, compared, fresh}
 use Rattle.rtr_receiver.specs.History.{hasTable}
 use Rattle.rtr_receiver.specs.Promises.{Left, StartSays, NotifySays, changeUnderWay, isLoading, isStopped, stageOf, receiverOf, isLimit, isReceiver, leaves, inMemory, startSays, askedTo, askSays, askSaid, reconnectSays, notifySays, tabled}
-use Rattle.rtr_receiver.specs.Private.{askedFor, mayAskFull}
+use Rattle.rtr_receiver.specs.Private.{askedFor}
 use Rattle.rtr_receiver.specs.declared.Stop.{Stop}
 use Rattle.rtr_receiver.specs.declared.Phase.{Phase}
 use Rattle.rtr_receiver.specs.declared.Table.{Table}
@@ -76,30 +76,14 @@ tableless-records s e q =
     ap (λ (t : LiveTable). hasTable t || (eqb (s .live .records) 0 && not (changeUnderWay (s .phase)))) e
     ∙ ap (λ (b : Bool). b && not (changeUnderWay (s .phase))) (ne-eqb (s .live .records) 0 q)
 
--- in the other phases than Idle and MustReset no full ask is due
-pub full-else : (p : Phase) → OneOf (2 ∷ 3 ∷ 4 ∷ 5 ∷ []) (tag p) → mayAskFull p ≡ false
-full-else Phase.Idle h = absurd (miss (2 ∷ 3 ∷ 4 ∷ 5 ∷ []) 0 tt h)
-full-else Phase.MustReset h = absurd (miss (2 ∷ 3 ∷ 4 ∷ 5 ∷ []) 1 tt h)
-full-else Phase.AskedFull h = refl
-full-else Phase.AskedChange h = refl
-full-else (Phase.Loading kind session) h = refl
-full-else (Phase.Stopped stop) h = refl
-
--- what a full ask comes to, where it is due and where not
-abbrev fullAsked : Phase → Receiver → Bool → Type 0
-fullAsked p r true = fullQuery (stageOf p) r ≡ resetQuery r
-fullAsked p r false = fullQuery (stageOf p) r ≡ Query.refused 20
-
-full-by : (p : Phase) (r : Receiver) → fullAsked p r (mayAskFull p)
-full-by Phase.Idle r = refl
-full-by Phase.MustReset r = refl
-full-by Phase.AskedFull r = refl
-full-by Phase.AskedChange r = refl
-full-by (Phase.Loading kind session) r = refl
-full-by (Phase.Stopped stop) r = ap (λ (t : Stage). fullQuery t r) (stopped-is stop .2)
-
-pub full-asked : (p : Phase) (r : Receiver) (b : Bool) → b ≡ mayAskFull p → fullAsked p r b
-full-asked p r b e = subst (fullAsked p r) (sym e) (full-by p r)
+-- a full ask in another phase than Idle and MustReset
+pub full-else : (p : Phase) (r : Receiver) → OneOf (2 ∷ 3 ∷ 4 ∷ 5 ∷ []) (tag p) → fullQuery (stageOf p) r ≡ Query.refused 20
+full-else Phase.Idle r h = absurd (miss (2 ∷ 3 ∷ 4 ∷ 5 ∷ []) 0 tt h)
+full-else Phase.MustReset r h = absurd (miss (2 ∷ 3 ∷ 4 ∷ 5 ∷ []) 1 tt h)
+full-else Phase.AskedFull r h = refl
+full-else Phase.AskedChange r h = refl
+full-else (Phase.Loading kind session) r h = refl
+full-else (Phase.Stopped stop) r h = ap (λ (t : Stage). fullQuery t r) (stopped-is stop .2)
 
 -- a change ask in another phase than Idle
 pub change-else : (p : Phase) (r : Receiver) → OneOf (1 ∷ 2 ∷ 3 ∷ 4 ∷ 5 ∷ []) (tag p) → changeQuery (stageOf p) r ≡ Query.refused 20

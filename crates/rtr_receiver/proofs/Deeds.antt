@@ -1,15 +1,16 @@
 -- What each deed leaves in memory stands for what the definition makes of the receiver: a room that keeps the rules is the room of its records, so
 -- the laws of rooms say what a call makes of it. Assumes nothing.
 use Prim.Native.Nat.{ℕ, _*_}
-use mathlib.Core.Bool.{Bool, true, false, cond}
+use mathlib.Core.Bool.{Bool, true, cond}
 use mathlib.Core.List.{List, [], _∷_}
 use mathlib.Core.Logic.{⊎-elim}
-use mathlib.Core.Path.{_≡_, refl, sym, ap, ap₂, _∙_, subst}
+use mathlib.Core.Path.{_≡_, refl, sym, ap, ap₂, _∙_}
 use native.Mathlib.Omega.{arith}
 use borrow.Author.Tests.{eq-eqb, ne-eqb}
 use denote.Enum.Declared.{tagOf}
 use types.Run.{OneOf, miss}
 use lib.ListN.{length, take, replicate}
+use Rattle.rtr_models.specs.Values.{secondsOr}
 use Rattle.rtr_models.specs.declared.RtrEndOfData.{RtrEndOfData}
 use Rattle.rtr_codec.specs.Read.{Verdict}
 use Rattle.rtr_room.specs.Table.{Change, enter, leave}
@@ -23,7 +24,7 @@ use Rattle.rtr_receiver.specs.Contents.{Rooms}
 use Rattle.rtr_receiver.specs.Receiver.{Stage, Receiver, Deed, inStage, stop, onSerialNotify, startLoad, onChangeResponse, changedTo, onRecord, finish, noUpdate}
 use Rattle.rtr_receiver.specs.Receiver.Stage.{idle, mustReset, askedFull, askedChange, loading, stopped}
 use Rattle.rtr_receiver.specs.Promises.{stopSaid, stoppedBy, stageOf, receiverOf, leaves, inMemory}
-use Rattle.rtr_receiver.specs.Private.{BothRooms, IsSomeRoom, taking, SaidAs, Took, Stands, responseIn, resetIn, endIn, begun, carriedOut, Filled, stoppedSession, finishedSession}
+use Rattle.rtr_receiver.specs.Private.{BothRooms, Stands, Did, responseIn, resetIn, endIn, begun, carriedOut, Filled, stoppedSession}
 use Rattle.rtr_receiver.specs.declared.LoadKind.{LoadKind}
 use Rattle.rtr_receiver.specs.declared.Stop.{Stop}
 use Rattle.rtr_receiver.specs.declared.Phase.{Phase}
@@ -32,7 +33,6 @@ use Rattle.rtr_receiver.specs.declared.LiveTable.{LiveTable}
 use Rattle.rtr_receiver.specs.declared.Note.{Note}
 use Rattle.rtr_receiver.specs.declared.Counts.{Counts}
 use Rattle.rtr_receiver.specs.declared.Session.{Session}
-use Rattle.rtr_receiver.specs.declared.Taken.{Taken}
 use Rattle.rtr_receiver.specs.declared.Doing.{Doing}
 use Rattle.rtr_receiver.proofs.Phase as phase-enum
 use Rattle.rtr_receiver.proofs.Memory.{room-stands, room-size, with-limit, with-records, left-alike}
@@ -128,42 +128,6 @@ leave-on limit count s r h =
 abbrev Came : ℕ → List Record → Said → List ℕ → Change → Type 0
 Came limit t said left c = _≡_ {A = Outcome} (record { says = said; left = left }) (outcomeOf limit t c)
 
--- a refusal by a number is a change's refusal by that number, and leaves the room
-refused-came : (limit : ℕ) (t : List Record) (c : Change) (n : ℕ) (w : List ℕ) → Came limit t (refusedBy n) w c → (c ≡ Change.refused n) × (w ≡ room limit t)
-refused-came limit t (Change.changed u) n w e =
-    let said : refusedBy n ≡ counted (length u) = ap (λ (x : Outcome). x .says) (e ∙ changed-is limit t u) in
-    let z : _≡_ {A = ℕ} 0 1 = cc in absurd (omega arith)
-refused-came limit t (Change.refused m) n w e =
-    let o : _≡_ {A = Outcome} (record { says = refusedBy n; left = w }) (keeps m (room limit t)) = e ∙ refused-is limit m t in
-    let said : refusedBy n ≡ refusedBy m = ap (λ (x : Outcome). x .says) o in
-    let same : n ≡ m = cc in
-    (ap Change.refused (sym same), ap (λ (x : Outcome). x .left) o)
-
--- a call on a room never finds no room
-module _ (count : ℕ) (s : List ℕ) (r : Record) (some : IsSomeRoom count s) where
-  pub enters-a-room : (a : EnterAnswer) (w : List ℕ) → record { says = enterSaid a; left = w } ≡ entered s count r → a ≡ EnterAnswer.NotARoom → ⊥
-  enters-a-room a w e g =
-      ⊎-elim (λ p. omega arith) (λ p. omega arith)
-      (enter-refuses (some .0) 22 r _ (refused-came (some .0) (records count s) _ 22 w (ap (λ (x : EnterAnswer). record { says = enterSaid x; left = w }) (sym g) ∙ e ∙ enter-on (some .0) count s r (some .1)) .0))
-
-  pub leaves-a-room : (a : LeaveAnswer) (w : List ℕ) → record { says = leaveSaid a; left = w } ≡ gone s count r → a ≡ LeaveAnswer.NotARoom → ⊥
-  leaves-a-room a w e g =
-      let p : _≡_ {A = ℕ} 22 16 =
-      leave-refuses 22 r _ (refused-came (some .0) (records count s) _ 22 w (ap (λ (x : LeaveAnswer). record { says = leaveSaid x; left = w }) (sym g) ∙ e ∙ leave-on (some .0) count s r (some .1)) .0) in
-      omega arith
-
--- what came of a record, by what the room's call answered
-module _ (announced : Bool) (count : ℕ) (s : List ℕ) (r : Record) (w : List ℕ) (t : Taken) where
-  pub took-entering : announced ≡ true → (a : EnterAnswer) → record { says = enterSaid a; left = w } ≡ entered s count r → SaidAs (enterSaid a) t → Took (taking announced s count r) t w
-  took-entering e a f h =
-      subst (λ (b : Bool). Took (taking b s count r) t w) (sym e)
-      (subst (λ (x : Said). SaidAs x t) (ap (λ (o : Outcome). o .says) f) h, ap (λ (o : Outcome). o .left) f)
-
-  pub took-leaving : announced ≡ false → (a : LeaveAnswer) → record { says = leaveSaid a; left = w } ≡ gone s count r → SaidAs (leaveSaid a) t → Took (taking announced s count r) t w
-  took-leaving e a f h =
-      subst (λ (b : Bool). Took (taking b s count r) t w) (sym e)
-      (subst (λ (x : Said). SaidAs x t) (ap (λ (o : Outcome). o .says) f) h, ap (λ (o : Outcome). o .left) f)
-
 -- the session with another count in the working room
 abbrev withWorking : Session → ℕ → Session
 withWorking s n = record { life = s .life; phase = s .phase; table = s .table; note = s .note; live = s .live; working = record { records = n }; held = s .held }
@@ -173,7 +137,7 @@ abbrev loadingFrom : Session → LoadKind → ℕ → Counts → Session
 loadingFrom s kind id n = record { life = s .life; phase = Phase.Loading kind id; table = s .table; note = s .note; live = s .live; working = n; held = s .held }
 
 module _ (limit : ℕ) (s : Session) (live working : Rooms) (b : BothRooms limit s live working) where
-  changed-stands : (c : Change) (n : ℕ) (w : List ℕ) → Came limit (records (s .working .records) working) (counted n) w c → (r : Session) → r ≡ withWorking s n → Stands limit r live w (changedTo c (receiverOf s live working []))
+  pub changed-stands : (c : Change) (n : ℕ) (w : List ℕ) → Came limit (records (s .working .records) working) (counted n) w c → (r : Session) → r ≡ withWorking s n → Stands limit r live w (changedTo c (receiverOf s live working []))
   changed-stands (Change.changed t) n w e r q =
       let o : _≡_ {A = Outcome} (record { says = counted n; left = w }) (record { says = counted (length t); left = room limit t }) = e ∙ changed-is limit (records (s .working .records) working) t in
       let l = room-stands limit (s .live .records) live (b .0) in
@@ -185,32 +149,38 @@ module _ (limit : ℕ) (s : Session) (live working : Rooms) (b : BothRooms limit
       let said : counted n ≡ refusedBy m = ap (λ (x : Outcome). x .says) (e ∙ refused-is limit m (records (s .working .records) working)) in
       let z : _≡_ {A = ℕ} 0 1 = cc in absurd (omega arith)
 
-  refused-stands : (c : Change) (n : ℕ) (w : List ℕ) → Came limit (records (s .working .records) working) (refusedBy n) w c → (why : Stop) → stopSaid why ≡ Verdict.refused n [] → (r : Session) (w′ : List ℕ) → (r ≡ stoppedSession s why) × (w′ ≡ replicate (length w) 0) → Stands limit r live w′ (changedTo c (receiverOf s live working []))
+  -- a refusal by a number is a change's refusal by that number, and leaves the room
+  refused-came : (c : Change) (n : ℕ) (w : List ℕ) → Came limit (records (s .working .records) working) (refusedBy n) w c → (c ≡ Change.refused n) × (w ≡ room limit (records (s .working .records) working))
+  refused-came (Change.changed t) n w e =
+      let said : refusedBy n ≡ counted (length t) = ap (λ (x : Outcome). x .says) (e ∙ changed-is limit (records (s .working .records) working) t) in
+      let z : _≡_ {A = ℕ} 0 1 = cc in absurd (omega arith)
+  refused-came (Change.refused m) n w e =
+      let o : _≡_ {A = Outcome} (record { says = refusedBy n; left = w }) (keeps m (room limit (records (s .working .records) working))) = e ∙ refused-is limit m (records (s .working .records) working) in
+      let said : refusedBy n ≡ refusedBy m = ap (λ (x : Outcome). x .says) o in
+      let same : n ≡ m = cc in
+      (ap Change.refused (sym same), ap (λ (x : Outcome). x .left) o)
+
+  pub refused-stands : (c : Change) (n : ℕ) (w : List ℕ) → Came limit (records (s .working .records) working) (refusedBy n) w c → (why : Stop) → stopSaid why ≡ Verdict.refused n [] → (r : Session) (w′ : List ℕ) → (r ≡ stoppedSession s why) × (w′ ≡ replicate (length w) 0) → Stands limit r live w′ (changedTo c (receiverOf s live working []))
   refused-stands c n w e why k r w′ q =
       let m = room-stands limit (s .working .records) working (b .1) in
-      let f = refused-came limit (records (s .working .records) working) c n w e in
+      let f = refused-came c n w e in
       stop-stands limit s live working (b .4) (b .0) why (stopped n []) (ap stoppedBy k) w w′ (ap length (f .1) ∙ room-length limit _ (omega (arith, m .1, m .2))) (q .1) r (q .0)
       ∙ ap (λ (x : Change). inMemory limit (changedTo x (receiverOf s live working []))) (sym (f .0))
 
-  -- a record taken: what was said of the room comes to what the definition does with it
-  came-taking : (announced : Bool) (x : Record) (said : Said) (w : List ℕ) → record { says = said; left = w } ≡ taking announced working (s .working .records) x →
-      (c : Change) × (Came limit (records (s .working .records) working) said w c × (changedTo c (receiverOf s live working []) ≡ onRecord limit announced x (receiverOf s live working [])))
-  came-taking true x said w e = (_, (e ∙ enter-on limit (s .working .records) working x (b .1), refl))
-  came-taking false x said w e = (_, (e ∙ leave-on limit (s .working .records) working x (b .1), refl))
+  -- entering, by what the call answered
+  pub enter-came : (r : Record) (a : EnterAnswer) (w : List ℕ) → record { says = enterSaid a; left = w } ≡ entered working (s .working .records) r → (a′ : EnterAnswer) → a ≡ a′ → Came limit (records (s .working .records) working) (enterSaid a′) w (enter limit r (records (s .working .records) working))
+  enter-came r a w e a′ g = ap (λ (x : EnterAnswer). record { says = enterSaid x; left = w }) (sym g) ∙ e ∙ enter-on limit (s .working .records) working r (b .1)
 
-  pub counted-stands : (announced : Bool) (x : Record) (t : Taken) (n : ℕ) (w : List ℕ) → t ≡ Taken.Counted n → Took (taking announced working (s .working .records) x) t w →
-      (r : Session) → r ≡ withWorking s n → Stands limit r live w (onRecord limit announced x (receiverOf s live working []))
-  counted-stands announced x t n w e h r q =
-      let f = subst (λ (y : Taken). Took (taking announced working (s .working .records) x) y w) e h in
-      let came = came-taking announced x (counted n) w (λ i. record { says = f .0 i; left = f .1 i }) in
-      changed-stands (came .0) n w (came .1 .0) r q ∙ ap (inMemory limit) (came .1 .1)
+  -- the working room is a room
+  pub enters-a-room : (r : Record) (a : EnterAnswer) (w : List ℕ) → record { says = enterSaid a; left = w } ≡ entered working (s .working .records) r → a ≡ EnterAnswer.NotARoom → ⊥
+  enters-a-room r a w e g = ⊎-elim (λ p. omega arith) (λ p. omega arith) (enter-refuses limit 22 r _ (refused-came _ 22 w (enter-came r a w e _ g) .0))
 
-  pub stopped-stands : (announced : Bool) (x : Record) (t : Taken) (why : Stop) (w : List ℕ) → t ≡ Taken.Refused why → Took (taking announced working (s .working .records) x) t w →
-      (r : Session) (w′ : List ℕ) → (r ≡ stoppedSession s why) × (w′ ≡ replicate (length w) 0) → Stands limit r live w′ (onRecord limit announced x (receiverOf s live working []))
-  stopped-stands announced x t why w e h r w′ q =
-      let f = subst (λ (y : Taken). Took (taking announced working (s .working .records) x) y w) e h in
-      let came = came-taking announced x (refusedBy (f .0 .0)) w (λ i. record { says = f .0 .1 .1 i; left = f .1 i }) in
-      refused-stands (came .0) (f .0 .0) w (came .1 .0) why (f .0 .1 .0) r w′ q ∙ ap (inMemory limit) (came .1 .1)
+  -- leaving
+  pub leave-came : (r : Record) (a : LeaveAnswer) (w : List ℕ) → record { says = leaveSaid a; left = w } ≡ gone working (s .working .records) r → (a′ : LeaveAnswer) → a ≡ a′ → Came limit (records (s .working .records) working) (leaveSaid a′) w (leave r (records (s .working .records) working))
+  leave-came r a w e a′ g = ap (λ (x : LeaveAnswer). record { says = leaveSaid x; left = w }) (sym g) ∙ e ∙ leave-on limit (s .working .records) working r (b .1)
+
+  pub leaves-a-room : (r : Record) (a : LeaveAnswer) (w : List ℕ) → record { says = leaveSaid a; left = w } ≡ gone working (s .working .records) r → a ≡ LeaveAnswer.NotARoom → ⊥
+  leaves-a-room r a w e g = let p : _≡_ {A = ℕ} 22 16 = leave-refuses 22 r _ (refused-came _ 22 w (leave-came r a w e _ g) .0) in omega arith
 
   -- ---- loads
 
@@ -230,16 +200,28 @@ module _ (limit : ℕ) (s : Session) (live working : Rooms) (b : BothRooms limit
       e ∙ ap₂ copied (l .0) (m .0) ∙ copy-is limit _ _ (omega (arith, l .1, l .2)) (omega (arith, m .1, m .2)) .0
 
   -- the working room copied over the live one, and emptied
-  pub finish-stands : (p : RtrEndOfData) (q : Session) → q ≡ finishedSession s p →
-      (l w : List ℕ) → (l ≡ copied working live) × (w ≡ replicate (length working) 0) →
-      Stands limit q l w (finish p (receiverOf s live working []))
-  finish-stands p q f l w e =
+  pub finish-stands : (p : RtrEndOfData) (refresh retry expire : ℕ) → refresh ≡ secondsOr 3600 (p .«refresh_interval») → retry ≡ secondsOr 600 (p .«retry_interval») → expire ≡ secondsOr 7200 (p .«expire_interval») →
+      (l w : List ℕ) → l ≡ copied working live → w ≡ replicate (length working) 0 →
+      Stands limit
+      (record {
+        life = s .life;
+        phase = Phase.Idle;
+        table = LiveTable.Known (record { session = p .«session_id»; serial = p .«serial_number»; refresh = refresh; retry = retry; expire = expire });
+        note = s .note;
+        live = s .working;
+        working = record { records = 0 };
+        held = s .held;
+      })
+      l w (finish p (receiverOf s live working []))
+  finish-stands p refresh retry expire h₁ h₂ h₃ l w le we =
       let k = room-stands limit (s .live .records) live (b .0) in
       let m = room-stands limit (s .working .records) working (b .1) in
-      ap (λ (x : Session). leaves x l w []) f
-      ∙ left-alike (with-limit (b .4)) refl refl refl (with-records (sym (m .1))) refl (nothing-held (s .held) (b .2))
-      (e .0 ∙ ap₂ copied (m .0) (k .0) ∙ copy-is limit _ _ (omega (arith, m .1, m .2)) (omega (arith, k .1, k .2)) .0)
-      (zeros-stand limit working w (room-size limit (s .working .records) working (b .1) .0) (e .1))
+      let table : LiveTable.Known (record { session = p .«session_id»; serial = p .«serial_number»; refresh = refresh; retry = retry; expire = expire })
+      ≡ LiveTable.Known (record { session = p .«session_id»; serial = p .«serial_number»; refresh = secondsOr 3600 (p .«refresh_interval»); retry = secondsOr 600 (p .«retry_interval»); expire = secondsOr 7200 (p .«expire_interval») }) =
+      λ i. LiveTable.Known (record { session = p .«session_id»; serial = p .«serial_number»; refresh = h₁ i; retry = h₂ i; expire = h₃ i }) in
+      left-alike (with-limit (b .4)) refl table refl (with-records (sym (m .1))) refl (nothing-held (s .held) (b .2))
+      (le ∙ ap₂ copied (m .0) (k .0) ∙ copy-is limit _ _ (omega (arith, m .1, m .2)) (omega (arith, k .1, k .2)) .0)
+      (zeros-stand limit working w (room-size limit (s .working .records) working (b .1) .0) we)
       refl
 
   -- ---- what is decided is carried out
@@ -275,6 +257,10 @@ module _ (limit : ℕ) (s : Session) (live working : Rooms) (b : BothRooms limit
       Stands limit q live w (carriedOut limit (Doing.Stops why) (receiverOf s live working []) .then)
   stops why q w h = stop-stands limit s live working (b .4) (b .0) why _ refl working w (room-size limit (s .working .records) working (b .1) .0) (h .1) q (h .0)
 
+  -- a record announced or withdrawn
+  pub takes-stands : (announced is : Bool) (x : Record) → announced ≡ is → (q : Session) (l w : List ℕ) → Stands limit q l w (onRecord limit is x (receiverOf s live working [])) → Stands limit q l w (carriedOut limit (Doing.Takes announced x) (receiverOf s live working []) .then)
+  takes-stands announced is x e q l w h = h ∙ ap (λ (y : Bool). inMemory limit (onRecord limit y x (receiverOf s live working []))) (sym e)
+
   -- what a decision is in other words
   pub as-decided : (d e : Doing) → d ≡ e → (q : Session) (l w : List ℕ) → Stands limit q l w (carriedOut limit e (receiverOf s live working []) .then) → Stands limit q l w (carriedOut limit d (receiverOf s live working []) .then)
   as-decided d e f q l w h = h ∙ ap (λ (x : Doing). inMemory limit (carriedOut limit x (receiverOf s live working []) .then)) (sym f)
@@ -305,3 +291,9 @@ pub end-other : (e : RtrEndOfData) (r : Receiver) (p : Phase) (kind : LoadKind) 
 end-other e r p kind id q h =
     ap (λ (x : Phase). endIn (stageOf x) e r) q
     ∙ ap (λ (x : Bool). cond x (record { then = finish e r; updates = 1 }) (noUpdate (stop 15 [] r))) (ne-eqb (e .«session_id») id h)
+
+-- ---- deeds
+
+-- a session and how many updates finished, as decided
+pub did : (limit : ℕ) (live working : List ℕ) (q : Session) (n : ℕ) (to : Deed) → Stands limit q live working (to .then) → n ≡ to .updates → (deed : Deed) → to ≡ deed → Did limit (record { session = q; updates = n }) live working deed
+did limit live working q n to h k deed f = (h ∙ ap (λ (x : Deed). inMemory limit (x .then)) f, k ∙ ap (λ (x : Deed). x .updates) f)

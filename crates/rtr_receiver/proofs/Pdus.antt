@@ -1,8 +1,7 @@
 -- A PDU by what it is: what the definition makes of each kind, and that the code decides the same. By the cases of the PDU. Assumes nothing.
-use Prim.Native.Nat.{ℕ, _+_, _≤_}
+use Prim.Native.Nat.{ℕ, _+_}
 use mathlib.Core.Bool.{Bool, true, false, cond, false≢true}
 use mathlib.Core.List.{[], _∷_}
-use native.Mathlib.Omega.{arith}
 use mathlib.Core.Path.{_≡_, refl, sym, ap, ap₂, _∙_}
 use denote.Enum.Declared.{tagOf}
 use types.Run.{OneOf, miss}
@@ -25,14 +24,15 @@ use Rattle.rtr_models.proofs.RtrPdu as pdu-enum
 use Rattle.rtr_room.specs.declared.Record.{Record}
 use Rattle.rtr_room.specs.Table.{ipv4Record, ipv6Record}
 use Rattle.rtr_receiver.specs.Receiver.{Receiver, Deed, isDue, stop, onSerialNotify, onRecord, noUpdate, deedOf, onKind, ofVersion, onPdu, listens}
-use Rattle.rtr_receiver.specs.Promises.{isLoading, isStopped}
-use Rattle.rtr_receiver.specs.Private.{responseIn, recordIn, keyIn, resetIn, endIn, carriedBy, carriedOut, placed, Decides, Updates, answerIn}
+use Rattle.rtr_receiver.specs.Promises.{isLoading}
+use Rattle.rtr_receiver.specs.Private.{responseIn, recordIn, keyIn, resetIn, endIn, carriedBy, carriedOut, placed, Decides, Updates, goesOnIn, afterPdu}
 use Rattle.rtr_receiver.specs.declared.Carried.{Carried}
 use Rattle.rtr_receiver.specs.declared.Doing.{Doing}
 use Rattle.rtr_receiver.specs.declared.Stop.{Stop}
 use Rattle.rtr_receiver.specs.declared.LiveTable.{LiveTable}
 use Rattle.rtr_receiver.specs.declared.Phase.{Phase}
-use Rattle.rtr_receiver.specs.declared.FeedAnswer.{FeedAnswer}
+use Rattle.rtr_receiver.specs.declared.Then.{Then}
+use Rattle.rtr_receiver.specs.declared.DeedDone.{DeedDone}
 use Rattle.rtr_receiver.proofs.Phase as phase-enum
 use Rattle.rtr_receiver.proofs.Doing as doing-enum
 use Rattle.rtr_receiver.proofs.Turns.{notify-due, never-due, prefixes-alike, load-turn}
@@ -204,31 +204,16 @@ none-finished (Doing.Begins kind id) h limit r = refl
 none-finished (Doing.Takes announced x) h limit r = refl
 none-finished (Doing.Finishes p) h limit r = absurd (miss (0 ∷ 1 ∷ 2 ∷ 3 ∷ 4 ∷ 5 ∷ []) 6 tt h)
 
--- ---- the end of a feed
+-- ---- after a PDU
 
--- every phase but Stopped
-pub not-stopped : (p : Phase) → OneOf (0 ∷ 1 ∷ 2 ∷ 3 ∷ 4 ∷ []) (tagOf phase-enum.the-type p) → isStopped p ≡ false
-not-stopped Phase.Idle h = refl
-not-stopped Phase.MustReset h = refl
-not-stopped Phase.AskedFull h = refl
-not-stopped Phase.AskedChange h = refl
-not-stopped (Phase.Loading kind session) h = refl
-not-stopped (Phase.Stopped why) h = absurd (miss (0 ∷ 1 ∷ 2 ∷ 3 ∷ 4 ∷ []) 5 tt h)
+-- every phase but Stopped goes on
+pub goes-on : (p : Phase) → OneOf (0 ∷ 1 ∷ 2 ∷ 3 ∷ 4 ∷ []) (tagOf phase-enum.the-type p) → goesOnIn p ≡ Then.Again
+goes-on Phase.Idle h = refl
+goes-on Phase.MustReset h = refl
+goes-on Phase.AskedFull h = refl
+goes-on Phase.AskedChange h = refl
+goes-on (Phase.Loading kind session) h = refl
+goes-on (Phase.Stopped why) h = absurd (miss (0 ∷ 1 ∷ 2 ∷ 3 ∷ 4 ∷ []) 5 tt h)
 
-pub answers-on : (p : Phase) → OneOf (0 ∷ 1 ∷ 2 ∷ 3 ∷ 4 ∷ []) (tagOf phase-enum.the-type p) → answerIn p ≡ FeedAnswer.GoesOn
-answers-on Phase.Idle h = refl
-answers-on Phase.MustReset h = refl
-answers-on Phase.AskedFull h = refl
-answers-on Phase.AskedChange h = refl
-answers-on (Phase.Loading kind session) h = refl
-answers-on (Phase.Stopped why) h = absurd (miss (0 ∷ 1 ∷ 2 ∷ 3 ∷ 4 ∷ []) 5 tt h)
-
--- no decision finishes more than one
-pub few-finished : (d : Doing) (n : ℕ) → Updates d n → (limit : ℕ) (r : Receiver) → n ≤ 1
-few-finished Doing.Passes n h limit r = omega (arith, h limit r)
-few-finished (Doing.Notes id serial) n h limit r = omega (arith, h limit r)
-few-finished Doing.Resets n h limit r = omega (arith, h limit r)
-few-finished (Doing.Stops why) n h limit r = omega (arith, h limit r)
-few-finished (Doing.Begins kind id) n h limit r = omega (arith, h limit r)
-few-finished (Doing.Takes announced x) n h limit r = omega (arith, h limit r)
-few-finished (Doing.Finishes p) n h limit r = omega (arith, h limit r)
+pub step-is : (d : DeedDone) (next updates : ℕ) (then : Then) → then ≡ goesOnIn (d .session .phase) → record { session = d .session; next = next; updates = updates + d .updates; then = then } ≡ afterPdu d next updates
+step-is d next updates then e = ap (λ (x : Then). record { session = d .session; next = next; updates = updates + d .updates; then = x }) e

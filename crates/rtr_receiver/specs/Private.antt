@@ -1,6 +1,6 @@
 -- What the private functions of src/lib.rt promise each other; no public promise rests on this page.
 use Prim.Native.Nat.{ℕ, _+_, _≤_, _<_}
-use mathlib.Core.Bool.{Bool, true, false, cond}
+use mathlib.Core.Bool.{Bool, true, cond}
 use mathlib.Core.List.{List, []}
 use mathlib.Core.Path.{_≡_}
 use lib.ListN.{length, drop, replicate}
@@ -10,18 +10,13 @@ use Rattle.rtr_models.specs.declared.RtrPduType.{RtrPduType}
 use Rattle.rtr_models.specs.declared.RtrPdu.{RtrPdu}
 use Rattle.rtr_models.specs.declared.RtrPdu.the-variants.{SerialNotify, SerialQuery, ResetQuery, CacheResponse, IPv4Prefix, IPv6Prefix, EndOfData, CacheReset, RouterKey, ErrorReport}
 use Rattle.rtr_receiver.specs.Contents.{Rooms, nothing, areRooms}
-use Rattle.rtr_codec.specs.Read.{Verdict}
 use Rattle.rtr_room.specs.Table.{ipv4Record, ipv6Record}
-use Rattle.rtr_room.specs.Room.{Said, Outcome, isRoom, entered, gone, copied}
+use Rattle.rtr_room.specs.Room.{copied}
 use Rattle.rtr_room.specs.declared.Record.{Record}
-use Rattle.rtr_room.specs.declared.EnterAnswer.{EnterAnswer}
-use Rattle.rtr_room.specs.declared.LeaveAnswer.{LeaveAnswer}
-use Rattle.rtr_receiver.specs.History.{endSays}
 use Rattle.rtr_receiver.specs.Receiver.{Stage, Receiver, Deed, Feed, isDue, kindIn, sessionIn, inStage, stop, onSerialNotify, startLoad, onCacheResponse, onRecord, finish, noUpdate, onEndOfData, onPdu, listens, onPiece}
 use Rattle.rtr_receiver.specs.Receiver.Stage.{mustReset}
-use Rattle.rtr_receiver.specs.Promises.{stopSaid, stoppedBy, isStopped, stageOf, receiverOf, isReceiver, leaves, inMemory, fedTo, fedSaidBy}
+use Rattle.rtr_receiver.specs.Promises.{stopSaid, stoppedBy, stageOf, receiverOf, isReceiver, leaves, inMemory, fedTo, fedSaidBy}
 use Rattle.rtr_encode.specs.declared.EncodeAnswer.{EncodeAnswer}
-use Rattle.rtr_stream.specs.declared.StreamAnswer.{StreamAnswer}
 use Rattle.rtr_receiver.specs.declared.LoadKind.{LoadKind}
 use Rattle.rtr_receiver.specs.declared.Stop.{Stop}
 use Rattle.rtr_receiver.specs.declared.Phase.{Phase}
@@ -31,10 +26,11 @@ use Rattle.rtr_receiver.specs.declared.Session.{Session}
 use Rattle.rtr_receiver.specs.declared.AskError.{AskError}
 use Rattle.rtr_receiver.specs.declared.AskAnswer.{AskAnswer}
 use Rattle.rtr_receiver.specs.declared.AskedSession.{AskedSession}
-use Rattle.rtr_receiver.specs.declared.Taken.{Taken}
 use Rattle.rtr_receiver.specs.declared.Carried.{Carried}
 use Rattle.rtr_receiver.specs.declared.Doing.{Doing}
+use Rattle.rtr_receiver.specs.declared.DeedDone.{DeedDone}
 use Rattle.rtr_receiver.specs.declared.FeedAnswer.{FeedAnswer}
+use Rattle.rtr_receiver.specs.declared.Then.{Then}
 use Rattle.rtr_receiver.specs.declared.Step.{Step}
 
 -- both rooms keep the rules, nothing is held (a whole PDU has just been taken out of the hold), the receiver has not stopped, and the
@@ -47,48 +43,12 @@ BothRooms limit s live working =
     × (listens (stageOf (s .phase)) ≡ true)
     × (s .life .limit ≡ limit)
 
--- the same of the working room alone
-abbrev pub WorkingRoom : ℕ → Session → Rooms → Type 0
-WorkingRoom limit s working =
-    (areRooms limit (s .working) working ≡ true) × (s .held ≡ 0) × (listens (stageOf (s .phase)) ≡ true) × (s .life .limit ≡ limit)
-
--- a room of some limit, with so many records
-abbrev pub IsSomeRoom : ℕ → List ℕ → Type 0
-IsSomeRoom count room = (limit : ℕ) × (isRoom limit count room ≡ true)
-
--- what a record does to a room: it enters, or leaves
-abbrev pub taking : Bool → List ℕ → ℕ → Record → Outcome
-taking true room count x = entered room count x
-taking false room count x = gone room count x
-
--- a room's call was on a room
-abbrev pub EnteredRoom : EnterAnswer → Type 0
-EnteredRoom answer = answer ≡ EnterAnswer.NotARoom → ⊥
-
-abbrev pub LeftRoom : LeaveAnswer → Type 0
-LeftRoom answer = answer ≡ LeaveAnswer.NotARoom → ⊥
-
--- what a room's call says in other words: so many records, or a stop by its number
-abbrev pub SaidAs : Said → Taken → Type 0
-SaidAs said (Taken.Counted n) = Said.counted n ≡ said
-SaidAs said (Taken.Refused why) = (number : ℕ) × ((stopSaid why ≡ Verdict.refused number []) × (Said.refusedBy number ≡ said))
-
--- it came to that
-abbrev pub Took : Outcome → Taken → List ℕ → Type 0
-Took o t room = SaidAs (o .says) t × (room ≡ o .left)
-
 -- the session record and the rooms are this receiver's, nothing held
 abbrev pub Stands : ℕ → Session → Rooms → Rooms → Receiver → Type 0
 Stands limit s live working r = leaves s live working [] ≡ inMemory limit r
 
--- the same of a deed, with the updates that it finished
-abbrev pub Did : ℕ → Session → ℕ → Rooms → Rooms → Deed → Type 0
-Did limit s updates live working deed = Stands limit s live working (deed .then) × (updates ≡ deed .updates)
-
--- whatever is in the live room, the record is taken
-abbrev pub RecordDone : ℕ → Session → Bool → Record → Rooms → Session → Rooms → Type 0
-RecordDone limit s announced x working t to =
-    (live : Rooms) → areRooms limit (s .live) live ≡ true → Stands limit t live to (onRecord limit announced x (receiverOf s live working []))
+abbrev pub Did : ℕ → DeedDone → Rooms → Rooms → Deed → Type 0
+Did limit d live working deed = Stands limit (d .session) live working (deed .then) × (d .updates ≡ deed .updates)
 
 -- what comes of a PDU of a type in a phase: this where it is due, else 13
 abbrev pub inTurn : RtrPduType → Stage → Receiver → Receiver → Receiver
@@ -171,20 +131,11 @@ abbrev pub feedHere : ℕ → Session → Rooms → Rooms → List ℕ → List 
 feedHere limit s live working hold piece at updates =
     onPiece limit (length hold) (record { receiver = receiverOf s live working hold; taken = at; updates = updates }) (drop at piece)
 
--- what a feed says that is over in this phase
-abbrev pub answerIn : Phase → FeedAnswer
-answerIn Phase.Idle = FeedAnswer.GoesOn
-answerIn Phase.MustReset = FeedAnswer.GoesOn
-answerIn Phase.AskedFull = FeedAnswer.GoesOn
-answerIn Phase.AskedChange = FeedAnswer.GoesOn
-answerIn (Phase.Loading kind session) = FeedAnswer.GoesOn
-answerIn (Phase.Stopped stop) = FeedAnswer.Stopped stop
-
 -- one step: the feed is over, as the definition has it, or goes on from further in the piece to the same end
-abbrev pub SteppedTo : ℕ → Feed → List ℕ → ℕ → Session → ℕ → ℕ → Rooms → Rooms → List ℕ → Bool → Type 0
-SteppedTo limit f piece at s next updates live working hold true =
-    fedSaidBy (answerIn (s .phase)) next updates (leaves s live working hold) hold ≡ fedTo limit f
-SteppedTo limit f piece at s next updates live working hold false =
+abbrev pub SteppedTo : ℕ → Feed → List ℕ → ℕ → Session → ℕ → ℕ → Rooms → Rooms → List ℕ → Then → Type 0
+SteppedTo limit f piece at s next updates live working hold (Then.Done answer) =
+    fedSaidBy answer next updates (leaves s live working hold) hold ≡ fedTo limit f
+SteppedTo limit f piece at s next updates live working hold Then.Again =
     (isReceiver limit s live working hold ≡ true)
     × (listens (stageOf (s .phase)) ≡ true)
     × (at < next)
@@ -193,17 +144,12 @@ SteppedTo limit f piece at s next updates live working hold false =
     × (feedHere limit s live working hold piece next updates ≡ f)
 
 abbrev pub Stepped : ℕ → Feed → List ℕ → ℕ → Step → Rooms → Rooms → List ℕ → Type 0
-Stepped limit f piece at t live working hold = SteppedTo limit f piece at (t .session) (t .next) (t .updates) live working hold (t .over)
+Stepped limit f piece at t live working hold = SteppedTo limit f piece at (t .session) (t .next) (t .updates) live working hold (t .then)
 
 -- a session that stopped
 abbrev pub stoppedSession : Session → Stop → Session
 stoppedSession s stop =
     record { life = s .life; phase = Phase.Stopped stop; table = s .table; note = s .note; live = s .live; working = record { records = 0 }; held = 0 }
-
--- a session whose load finished
-abbrev pub finishedSession : Session → RtrEndOfData → Session
-finishedSession s p =
-    record { life = s .life; phase = Phase.Idle; table = LiveTable.Known (endSays p); note = s .note; live = s .working; working = record { records = 0 }; held = s .held }
 
 -- an ask whose query was written, or refused
 abbrev pub askedFor : Session → EncodeAnswer → Phase → AskedSession
@@ -222,59 +168,15 @@ StepAsks limit s live working hold piece at updates =
     × (at ≤ length piece)
     × (updates ≤ at)
 
--- a session that holds so many bytes
-abbrev pub heldIn : Session → ℕ → Session
-heldIn s held = record { life = s .life; phase = s .phase; table = s .table; note = s .note; live = s .live; working = s .working; held = held }
+-- after a PDU the feed goes on, unless it stopped
+abbrev pub goesOnIn : Phase → Then
+goesOnIn Phase.Idle = Then.Again
+goesOnIn Phase.MustReset = Then.Again
+goesOnIn Phase.AskedFull = Then.Again
+goesOnIn Phase.AskedChange = Then.Again
+goesOnIn (Phase.Loading kind session) = Then.Again
+goesOnIn (Phase.Stopped stop) = Then.Done (FeedAnswer.Stopped stop)
 
--- what was decided asks for both rooms, and for place to count one update more
-abbrev pub DoingAsks : ℕ → Session → Rooms → Rooms → ℕ → Type 0
-DoingAsks limit s live working updates = BothRooms limit s live working × (updates + 1 < 18446744073709551616)
-
--- a step that did this, and finished so many updates
-abbrev pub StepDid : ℕ → Deed → ℕ → ℕ → Step → Rooms → Rooms → Type 0
-StepDid limit deed next updates step live working =
-    (t : Session)
-    × ((n : ℕ)
-    × ((step ≡ record { session = t; next = next; updates = updates + n; over = isStopped (t .phase) })
-    × Did limit t n live working deed))
-
-abbrev pub DoingDone : ℕ → Session → Rooms → Rooms → Doing → ℕ → ℕ → Step → Rooms → Rooms → Type 0
-DoingDone limit s live working doing next updates step live′ working′ =
-    StepDid limit (carriedOut limit doing (receiverOf s live working [])) next updates step live′ working′
-
--- what a search's answer asks for: only a PDU may finish an update
-abbrev pub MayCount : StreamAnswer → ℕ → Type 0
-MayCount (StreamAnswer.Found pdu lies) updates = updates + 1 < 18446744073709551616
-MayCount (StreamAnswer.Refused error) updates = Unit
-MayCount StreamAnswer.More updates = Unit
-MayCount StreamAnswer.NotAStream updates = Unit
-
-abbrev pub AnswerAsks : ℕ → Session → Rooms → Rooms → StreamAnswer → ℕ → Type 0
-AnswerAsks limit s live working answer updates =
-    (areRooms limit (s .live) live ≡ true)
-    × (areRooms limit (s .working) working ≡ true)
-    × (listens (stageOf (s .phase)) ≡ true)
-    × MayCount answer updates
-
--- what comes of it: the PDU's deed with nothing held, a stop, or so many bytes held and the rooms as they were
-abbrev pub AnswerDone : ℕ → Session → Rooms → Rooms → StreamAnswer → ℕ → ℕ → ℕ → Step → Rooms → Rooms → Type 0
-AnswerDone limit s live working (StreamAnswer.Found pdu lies) held next updates step live′ working′ =
-    StepDid limit (onPdu limit pdu (receiverOf (heldIn s 0) live working [])) next updates step live′ working′
-AnswerDone limit s live working (StreamAnswer.Refused error) held next updates step live′ working′ =
-    (step ≡ record { session = stoppedSession s (Stop.Stream error); next = next; updates = updates; over = true })
-    × (live′ ≡ live)
-    × (working′ ≡ replicate (length working) 0)
-AnswerDone limit s live working StreamAnswer.More held next updates step live′ working′ =
-    (step ≡ record { session = heldIn s held; next = next; updates = updates; over = true })
-    × (live′ ≡ live)
-    × (working′ ≡ working)
-AnswerDone limit s live working StreamAnswer.NotAStream held next updates step live′ working′ = Unit
-
--- the whole table may be asked for
-abbrev pub mayAskFull : Phase → Bool
-mayAskFull Phase.Idle = true
-mayAskFull Phase.MustReset = true
-mayAskFull Phase.AskedFull = false
-mayAskFull Phase.AskedChange = false
-mayAskFull (Phase.Loading kind session) = false
-mayAskFull (Phase.Stopped stop) = false
+abbrev pub afterPdu : DeedDone → ℕ → ℕ → Step
+afterPdu d next updates =
+    record { session = d .session; next = next; updates = updates + d .updates; then = goesOnIn (d .session .phase) }

@@ -23,14 +23,16 @@ use rtr_stream::search;
 ghost use mathlib.Core.Path.{_≡_};
 ghost use mathlib.Core.List.{[]};
 ghost use mathlib.Core.Bool.{true, cond};
+ghost use Prim.Native.Nat.{_+_, _<_};
 ghost use lib.ListN.{length, replicate};
 ghost use lib.Dec.{eqb};
 ghost use Rattle.rtr_models.specs.Codes.{versionNumber};
 ghost use Rattle.rtr_codec.specs.Answers.{numberOf};
-ghost use Rattle.rtr_room.specs.Room.{copied, enterSaid, leaveSaid};
-ghost use Rattle.rtr_receiver.specs.Receiver.{noUpdate, onKind, listens, compared};
-ghost use Rattle.rtr_receiver.specs.Promises.{NotifySays, stopSaid, changeUnderWay, isLoading, isStopped, stageOf, receiverOf, inOrder, isReceiver, feedSays, FedAs, fedSaid, startSays, startSaid, fullAskSays, changeAskSays, askSaid, reconnectSays, reconnectSaid, notifySays, notifySaid, recordLimit, isLimit, tabled, cleared};
-ghost use Rattle.rtr_receiver.specs.Private.{BothRooms, WorkingRoom, IsSomeRoom, taking, EnteredRoom, LeftRoom, SaidAs, Took, RecordDone, Stands, responseIn, resetIn, endIn, carriedBy, carriedOut, Makes, Updates, Decides, DecidesOn, Filled, stoppedSession, finishedSession, askedFor, mayAskFull, answerIn, DoingAsks, DoingDone, AnswerAsks, AnswerDone, feedHere, StepAsks, Stepped};
+ghost use Rattle.rtr_room.specs.Table.{enter, leave};
+ghost use Rattle.rtr_room.specs.Room.{records};
+ghost use Rattle.rtr_receiver.specs.Receiver.{changedTo, finish, noUpdate, onKind, onPdu, listens, compared};
+ghost use Rattle.rtr_receiver.specs.Promises.{NotifySays, stopSaid, changeUnderWay, isLoading, stageOf, receiverOf, inOrder, isReceiver, FedAs, feedSays, fedSaid, startSays, startSaid, fullAskSays, changeAskSays, askSaid, reconnectSays, reconnectSaid, notifySays, notifySaid, recordLimit, isLimit, tabled, cleared};
+ghost use Rattle.rtr_receiver.specs.Private.{BothRooms, Stands, Did, responseIn, resetIn, endIn, carriedBy, carriedOut, Makes, Updates, Decides, DecidesOn, Filled, stoppedSession, askedFor, afterPdu, feedHere, StepAsks, Stepped};
 
 // How many records a room has at the most.
 pub const RECORD_LIMIT: usize = 1024;
@@ -334,11 +336,11 @@ fn asked(s: Session, answer: EncodeAnswer, phase: Phase) -> AskedSession
     ensures { λ r. ⌜ r ≡ askedFor s answer phase ⌝ }
 {
     match answer {
-        EncodeAnswer::Written(n) => return AskedSession {
+        EncodeAnswer::Written(n) => AskedSession {
             session: in_phase(s, phase),
             answer: AskAnswer::Written(n),
         },
-        EncodeAnswer::Refused(error) => return AskedSession {
+        EncodeAnswer::Refused(error) => AskedSession {
             session: s,
             answer: AskAnswer::Refused(AskError::Encoding(error)),
         },
@@ -351,17 +353,6 @@ fn ask_refused(s: Session, error: AskError) -> AskedSession
     AskedSession {
         session: s,
         answer: AskAnswer::Refused(error),
-    }
-}
-
-// The whole table is asked for in Idle and in MustReset.
-fn may_ask_full(phase: Phase) -> bool
-    ensures { λ r. ⌜ r ≡ mayAskFull phase ⌝ }
-{
-    match phase {
-        Phase::Idle => true,
-        Phase::MustReset => true,
-        _ => false,
     }
 }
 
@@ -378,14 +369,20 @@ pub fn full_ask(
     if !is_receiver(s, live, working, hold) {
         return ask_refused(s, AskError::NotAReceiver);
     }
-    let phase = s.phase;
-    if !may_ask_full(phase) {
-        return ask_refused(s, AskError::WrongPhase);
-    }
     let life = s.life;
     let version = life.version;
-    let answer = encode_reset_query(RtrResetQuery { version }, out);
-    asked(s, answer, Phase::AskedFull)
+    let phase = s.phase;
+    match phase {
+        Phase::Idle => {
+            let answer = encode_reset_query(RtrResetQuery { version }, out);
+            asked(s, answer, Phase::AskedFull)
+        }
+        Phase::MustReset => {
+            let answer = encode_reset_query(RtrResetQuery { version }, out);
+            asked(s, answer, Phase::AskedFull)
+        }
+        _ => ask_refused(s, AskError::WrongPhase),
+    }
 }
 
 // Asks for what changed since the table's serial: a Serial Query into the output.
@@ -406,7 +403,7 @@ pub fn change_ask(
         Phase::Idle => {
             let table = s.table;
             match table {
-                LiveTable::NoTable => return ask_refused(s, AskError::NoTable),
+                LiveTable::NoTable => ask_refused(s, AskError::NoTable),
                 LiveTable::Known(t) => {
                     let life = s.life;
                     let version = life.version;
@@ -418,11 +415,11 @@ pub fn change_ask(
                         },
                         out,
                     );
-                    return asked(s, answer, Phase::AskedChange);
+                    asked(s, answer, Phase::AskedChange)
                 }
             }
         }
-        _ => return ask_refused(s, AskError::WrongPhase),
+        _ => ask_refused(s, AskError::WrongPhase),
     }
 }
 
@@ -496,10 +493,17 @@ pub fn notify(s: Session, live: &[u32], working: &[u32], hold: &[u8]) -> NotifyA
 
 // ---- One PDU
 
-// A stop keeps the live room and the note; nothing is held, and nothing in the working room, which is emptied beside it.
-fn stopped(s: Session, stop: Stop) -> Session
-    ensures { λ r. ⌜ r ≡ stoppedSession s stop ⌝ }
+// A session and how many updates finished.
+struct DeedDone {
+    session: Session,
+    updates: usize,
+}
+
+// A stop clears the working room and what is held; it keeps the live room and the note.
+fn stop_with(s: Session, working: &mut [u32], stop: Stop) -> Session
+    ensures { λ r. ⌜ (r ≡ stoppedSession s stop) × (now (working .exit) ≡ replicate (length (now (working .entry))) 0) ⌝ }
 {
+    empty(working);
     let life = s.life;
     let table = s.table;
     let note = s.note;
@@ -573,78 +577,42 @@ fn with_working(s: Session, count: usize) -> Session
     }
 }
 
-// What came of a record in the working room: how many are in it now, or a stop.
-enum Taken {
-    Counted(usize),
-    Refused(Stop),
-}
-
-// 17 where it is in, then 18 where the room is full; a room it is.
-fn entered_as(answer: EnterAnswer) -> Taken
-    requires { ⌜ EnteredRoom answer ⌝ }
-    ensures { λ t. ⌜ SaidAs (enterSaid answer) t ⌝ }
-{
-    match answer {
-        EnterAnswer::Entered(n) => Taken::Counted(n),
-        EnterAnswer::AlreadyIn => Taken::Refused(Stop::AlreadyIn),
-        EnterAnswer::Full => Taken::Refused(Stop::RoomFull),
-        EnterAnswer::NotARoom => Taken::Refused(Stop::RoomFull),
-    }
-}
-
-// 16 where it is not in; a room it is.
-fn left_as(answer: LeaveAnswer) -> Taken
-    requires { ⌜ LeftRoom answer ⌝ }
-    ensures { λ t. ⌜ SaidAs (leaveSaid answer) t ⌝ }
-{
-    match answer {
-        LeaveAnswer::Left(n) => Taken::Counted(n),
-        LeaveAnswer::NotIn => Taken::Refused(Stop::NotIn),
-        LeaveAnswer::NotARoom => Taken::Refused(Stop::NotIn),
-    }
-}
-
-// An announcement enters, a withdrawal leaves.
-fn take(working: &mut [u32], count: usize, announced: bool, r: Record) -> Taken
-    requires { ⌜ IsSomeRoom count (now working) ⌝ }
-    ensures { λ t. ⌜ Took (taking announced (now (working .entry)) count r) t (now (working .exit)) ⌝ }
-{
-    if announced {
-        let answer = enter(working, count, r);
-        return entered_as(answer);
-    }
-    let answer = leave(working, count, r);
-    left_as(answer)
-}
-
-// A record in a load: the working room has it, or has it no more, or the receiver stops.
-fn on_record(s: Session, working: &mut [u32], announced: bool, r: Record) -> Session
-    requires { ⌜ WorkingRoom (s .life .limit) s (now working) ⌝ }
-    ensures { λ t. ⌜ RecordDone (s .life .limit) s announced r (now (working .entry)) t (now (working .exit)) ⌝ }
+// An announcement enters: 17 where it is in, then 18 where the room is full.
+fn on_announcement(s: Session, live: &[u32], working: &mut [u32], r: Record) -> Session
+    requires { ⌜ BothRooms (s .life .limit) s (now live) (now working) ⌝ }
+    ensures { λ t. ⌜ Stands (s .life .limit) t (now (live .entry)) (now (working .exit)) (changedTo (enter (s .life .limit) r (records (s .working .records) (now (working .entry)))) (receiverOf s (now (live .entry)) (now (working .entry)) [])) ⌝ }
 {
     let in_working = s.working;
-    let taken = take(working, in_working.records, announced, r);
-    match taken {
-        Taken::Counted(count) => return with_working(s, count),
-        Taken::Refused(stop) => {
-            empty(working);
-            return stopped(s, stop);
-        }
+    let answer = enter(working, in_working.records, r);
+    match answer {
+        EnterAnswer::Entered(count) => with_working(s, count),
+        EnterAnswer::AlreadyIn => stop_with(s, working, Stop::AlreadyIn),
+        EnterAnswer::Full => stop_with(s, working, Stop::RoomFull),
+        EnterAnswer::NotARoom => stop_with(s, working, Stop::RoomFull),
+    }
+}
+
+// A withdrawal leaves: 16 where it is not in.
+fn on_withdrawal(s: Session, live: &[u32], working: &mut [u32], r: Record) -> Session
+    requires { ⌜ BothRooms (s .life .limit) s (now live) (now working) ⌝ }
+    ensures { λ t. ⌜ Stands (s .life .limit) t (now (live .entry)) (now (working .exit)) (changedTo (leave r (records (s .working .records) (now (working .entry)))) (receiverOf s (now (live .entry)) (now (working .entry)) [])) ⌝ }
+{
+    let in_working = s.working;
+    let answer = leave(working, in_working.records, r);
+    match answer {
+        LeaveAnswer::Left(count) => with_working(s, count),
+        LeaveAnswer::NotIn => stop_with(s, working, Stop::NotIn),
+        LeaveAnswer::NotARoom => stop_with(s, working, Stop::NotIn),
     }
 }
 
 // The working room becomes the live one, whole, and is emptied: the one place where the live room is written after the start.
-fn make_live(live: &mut [u32], working: &mut [u32])
-    ensures { λ _. ⌜ (now (live .exit) ≡ copied (now (working .entry)) (now (live .entry))) × (now (working .exit) ≡ replicate (length (now (working .entry))) 0) ⌝ }
+fn finish(s: Session, live: &mut [u32], working: &mut [u32], p: RtrEndOfData) -> Session
+    requires { ⌜ BothRooms (s .life .limit) s (now live) (now working) ⌝ }
+    ensures { λ t. ⌜ Stands (s .life .limit) t (now (live .exit)) (now (working .exit)) (finish p (receiverOf s (now (live .entry)) (now (working .entry)) [])) ⌝ }
 {
     copy(working, live);
     empty(working);
-}
-
-// What an End of Data says of the table that is live now.
-fn finished(s: Session, p: RtrEndOfData) -> Session
-    ensures { λ r. ⌜ r ≡ finishedSession s p ⌝ }
-{
     let life = s.life;
     let note = s.note;
     let in_working = s.working;
@@ -719,8 +687,8 @@ fn in_load(phase: Phase, doing: Doing) -> Doing
     ensures { λ d. ⌜ d ≡ cond (isLoading phase) doing (Doing.Stops Stop.OutOfTurn) ⌝ }
 {
     match phase {
-        Phase::Loading(_, _) => return doing,
-        _ => return Doing::Stops(Stop::OutOfTurn),
+        Phase::Loading(_, _) => doing,
+        _ => Doing::Stops(Stop::OutOfTurn),
     }
 }
 
@@ -729,17 +697,17 @@ fn at_response(phase: Phase, table: LiveTable, session_id: u16) -> Doing
     ensures { λ d. ⌜ Decides phase table d (λ limit r. noUpdate (responseIn (stageOf phase) «session_id» r)) ⌝ }
 {
     match phase {
-        Phase::AskedFull => return Doing::Begins(LoadKind::Full, session_id),
+        Phase::AskedFull => Doing::Begins(LoadKind::Full, session_id),
         Phase::AskedChange => match table {
-            LiveTable::NoTable => return Doing::Stops(Stop::OtherSession),
+            LiveTable::NoTable => Doing::Stops(Stop::OtherSession),
             LiveTable::Known(t) => {
                 if session_id != t.session {
                     return Doing::Stops(Stop::OtherSession);
                 }
-                return Doing::Begins(LoadKind::Change, session_id);
+                Doing::Begins(LoadKind::Change, session_id)
             }
         },
-        _ => return Doing::Stops(Stop::OutOfTurn),
+        _ => Doing::Stops(Stop::OutOfTurn),
     }
 }
 
@@ -747,8 +715,8 @@ fn at_cache_reset(phase: Phase) -> Doing
     ensures { λ d. ⌜ Makes d (λ limit r. noUpdate (resetIn (stageOf phase) r)) ⌝ }
 {
     match phase {
-        Phase::AskedChange => return Doing::Resets,
-        _ => return Doing::Stops(Stop::OutOfTurn),
+        Phase::AskedChange => Doing::Resets,
+        _ => Doing::Stops(Stop::OutOfTurn),
     }
 }
 
@@ -761,9 +729,9 @@ fn at_end_of_data(phase: Phase, p: RtrEndOfData) -> Doing
             if p.session_id == session {
                 return Doing::Finishes(p);
             }
-            return Doing::Stops(Stop::OtherSession);
+            Doing::Stops(Stop::OtherSession)
         }
-        _ => return Doing::Stops(Stop::OutOfTurn),
+        _ => Doing::Stops(Stop::OutOfTurn),
     }
 }
 
@@ -773,12 +741,12 @@ fn decide_other(phase: Phase, table: LiveTable, pdu: RtrPdu) -> Doing
     ensures { λ d. ⌜ Decides phase table d (λ limit r. onKind limit pdu r) ⌝ }
 {
     match pdu {
-        RtrPdu::SerialNotify(p) => return Doing::Notes(p.session_id, p.serial_number),
-        RtrPdu::CacheResponse(p) => return at_response(phase, table, p.session_id),
-        RtrPdu::EndOfData(p) => return at_end_of_data(phase, p),
-        RtrPdu::CacheReset(_) => return at_cache_reset(phase),
-        RtrPdu::RouterKey(_) => return in_load(phase, Doing::Passes),
-        _ => return Doing::Stops(Stop::OutOfTurn),
+        RtrPdu::SerialNotify(p) => Doing::Notes(p.session_id, p.serial_number),
+        RtrPdu::CacheResponse(p) => at_response(phase, table, p.session_id),
+        RtrPdu::EndOfData(p) => at_end_of_data(phase, p),
+        RtrPdu::CacheReset(_) => at_cache_reset(phase),
+        RtrPdu::RouterKey(_) => in_load(phase, Doing::Passes),
+        _ => Doing::Stops(Stop::OutOfTurn),
     }
 }
 
@@ -789,11 +757,8 @@ fn decide_kind(phase: Phase, table: LiveTable, pdu: RtrPdu) -> Doing
 {
     let carried = carried_by(pdu);
     match carried {
-        Carried::Record(announced, record) => return in_load(
-            phase,
-            Doing::Takes(announced, record),
-        ),
-        Carried::Nothing => return decide_other(phase, table, pdu),
+        Carried::Record(announced, record) => in_load(phase, Doing::Takes(announced, record)),
+        Carried::Nothing => decide_other(phase, table, pdu),
     }
 }
 
@@ -805,7 +770,7 @@ fn decide_pdu(s: Session, pdu: RtrPdu) -> Doing
     match pdu {
         RtrPdu::ErrorReport(p) => {
             let code = p.error_code;
-            return Doing::Stops(Stop::ErrorReport(code));
+            Doing::Stops(Stop::ErrorReport(code))
         }
         _ => {
             let life = s.life;
@@ -815,7 +780,7 @@ fn decide_pdu(s: Session, pdu: RtrPdu) -> Doing
             }
             let phase = s.phase;
             let table = s.table;
-            return decide_kind(phase, table, pdu);
+            decide_kind(phase, table, pdu)
         }
     }
 }
@@ -827,11 +792,11 @@ fn fill(live: &[u32], working: &mut [u32], kind: LoadKind, in_live: Counts) -> C
     match kind {
         LoadKind::Full => {
             empty(working);
-            return Counts { records: 0 };
+            Counts { records: 0 }
         }
         LoadKind::Change => {
             copy(live, working);
-            return in_live;
+            in_live
         }
     }
 }
@@ -842,27 +807,22 @@ fn carry_out(s: Session, live: &mut [u32], working: &mut [u32], doing: Doing) ->
     ensures { λ t. ⌜ Stands (s .life .limit) t (now (live .exit)) (now (working .exit)) (carriedOut (s .life .limit) doing (receiverOf s (now (live .entry)) (now (working .entry)) []) .then) ⌝ }
 {
     match doing {
-        Doing::Passes => return s,
-        Doing::Notes(session_id, serial_number) => return on_serial_notify(
-            s,
-            session_id,
-            serial_number,
-        ),
-        Doing::Resets => return in_phase(s, Phase::MustReset),
-        Doing::Stops(stop) => {
-            empty(working);
-            return stopped(s, stop);
-        }
+        Doing::Passes => s,
+        Doing::Notes(session_id, serial_number) => on_serial_notify(s, session_id, serial_number),
+        Doing::Resets => in_phase(s, Phase::MustReset),
+        Doing::Stops(stop) => stop_with(s, working, stop),
         Doing::Begins(kind, session_id) => {
             let in_live = s.live;
             let in_working = fill(live, working, kind, in_live);
-            return loading(s, kind, session_id, in_working);
+            loading(s, kind, session_id, in_working)
         }
-        Doing::Takes(announced, record) => return on_record(s, working, announced, record),
-        Doing::Finishes(p) => {
-            make_live(live, working);
-            return finished(s, p);
+        Doing::Takes(announced, record) => {
+            if announced {
+                return on_announcement(s, live, working, record);
+            }
+            on_withdrawal(s, live, working, record)
         }
+        Doing::Finishes(p) => finish(s, live, working, p),
     }
 }
 
@@ -876,14 +836,32 @@ fn finished_by(doing: Doing) -> usize
     }
 }
 
+// One PDU: it is decided on the session alone and then carried out.
+fn on_pdu(s: Session, live: &mut [u32], working: &mut [u32], pdu: RtrPdu) -> DeedDone
+    requires { ⌜ BothRooms (s .life .limit) s (now live) (now working) ⌝ }
+    ensures { λ d. ⌜ Did (s .life .limit) d (now (live .exit)) (now (working .exit)) (onPdu (s .life .limit) pdu (receiverOf s (now (live .entry)) (now (working .entry)) [])) ⌝ }
+{
+    let doing = decide_pdu(s, pdu);
+    let updates = finished_by(doing);
+    DeedDone {
+        session: carry_out(s, live, working, doing),
+        updates,
+    }
+}
+
 // ---- Feed
 
-// A step of a feed: whether it was the last.
+// What is to be done after a step of a feed.
+enum Then {
+    Again,
+    Done(FeedAnswer),
+}
+
 struct Step {
     session: Session,
     next: usize,
     updates: usize,
-    over: bool,
+    then: Then,
 }
 
 // The session with another count in the hold.
@@ -907,89 +885,31 @@ fn with_held(s: Session, held: usize) -> Session
     }
 }
 
-fn is_stopped(phase: Phase) -> bool
-    ensures { λ r. ⌜ r ≡ isStopped phase ⌝ }
+// After a PDU the feed goes on, unless it stopped.
+fn after_pdu(d: DeedDone, next: usize, updates: usize) -> Step
+    requires { ⌜ updates + d .updates < 18446744073709551616 ⌝ }
+    ensures { λ r. ⌜ r ≡ afterPdu d next updates ⌝ }
 {
-    match phase {
-        Phase::Stopped(_) => true,
-        _ => false,
-    }
-}
-
-// What was decided is done; the feed goes on unless that stopped it.
-fn on_doing(
-    s: Session,
-    live: &mut [u32],
-    working: &mut [u32],
-    doing: Doing,
-    next: usize,
-    updates: usize,
-) -> Step
-    requires { ⌜ DoingAsks (s .life .limit) s (now live) (now working) updates ⌝ }
-    ensures { λ r. ⌜ DoingDone (s .life .limit) s (now (live .entry)) (now (working .entry)) doing next updates r (now (live .exit)) (now (working .exit)) ⌝ }
-{
-    let count = finished_by(doing);
-    let session = carry_out(s, live, working, doing);
+    let session = d.session;
     let phase = session.phase;
-    Step {
-        session,
-        next,
-        updates: updates + count,
-        over: is_stopped(phase),
+    match phase {
+        Phase::Stopped(stop) => Step {
+            session,
+            next,
+            updates: updates + d.updates,
+            then: Then::Done(FeedAnswer::Stopped(stop)),
+        },
+        _ => Step {
+            session,
+            next,
+            updates: updates + d.updates,
+            then: Then::Again,
+        },
     }
 }
 
-// By the search's answer: a PDU is decided on and that is done, a refusal stops, and a wish for more ends the feed with so much held. NotAStream
-// never comes behind the shape test.
-fn on_answer(
-    s: Session,
-    live: &mut [u32],
-    working: &mut [u32],
-    answer: StreamAnswer,
-    held: usize,
-    next: usize,
-    updates: usize,
-) -> Step
-    requires { ⌜ AnswerAsks (s .life .limit) s (now live) (now working) answer updates ⌝ }
-    ensures { λ r. ⌜ AnswerDone (s .life .limit) s (now (live .entry)) (now (working .entry)) answer held next updates r (now (live .exit)) (now (working .exit)) ⌝ }
-{
-    match answer {
-        StreamAnswer::Found(pdu, _) => {
-            let quiet = with_held(s, 0);
-            let doing = decide_pdu(quiet, pdu);
-            return on_doing(quiet, live, working, doing, next, updates);
-        }
-        StreamAnswer::Refused(error) => {
-            empty(working);
-            return Step {
-                session: stopped(s, Stop::Stream(error)),
-                next,
-                updates,
-                over: true,
-            };
-        }
-        StreamAnswer::More => {
-            return Step {
-                session: with_held(s, held),
-                next,
-                updates,
-                over: true,
-            };
-        }
-        StreamAnswer::NotAStream => {
-            return Step {
-                session: s,
-                next,
-                updates,
-                over: true,
-            };
-        }
-    }
-}
-
-// What a feed does next: the stream's next PDU, its refusal, or its wish for more. Its promise is that of one PDU; any number of them may be
-// taken at once.
-fn next_step(
+// One step: the stream's next PDU, its refusal, or its wish for more.
+fn one_step(
     s: Session,
     live: &mut [u32],
     working: &mut [u32],
@@ -1002,68 +922,49 @@ fn next_step(
     ensures { λ r. ⌜ Stepped (s .life .limit) (feedHere (s .life .limit) s (now (live .entry)) (now (working .entry)) (now (hold .entry)) (now (piece .entry)) at updates) (now (piece .entry)) at r (now (live .exit)) (now (working .exit)) (now (hold .exit)) ⌝ }
 {
     let searched = search(hold, Stream { held: s.held }, piece, at);
+    let next = searched.next;
     let stream = searched.stream;
     let answer = searched.answer;
-    on_answer(
-        s,
-        live,
-        working,
-        answer,
-        stream.held,
-        searched.next,
-        updates,
-    )
-}
-
-// A feed that is over says its stop, or that it goes on.
-fn answer_in(phase: Phase) -> FeedAnswer
-    ensures { λ r. ⌜ r ≡ answerIn phase ⌝ }
-{
-    match phase {
-        Phase::Stopped(stop) => FeedAnswer::Stopped(stop),
-        _ => FeedAnswer::GoesOn,
-    }
-}
-
-fn fed_by(step: Step) -> Fed
-    ensures { λ r. ⌜ r ≡ record { session = step .session; done = record { taken = step .next; updates = step .updates; answer = answerIn (step .session .phase) } } ⌝ }
-{
-    let session = step.session;
-    let phase = session.phase;
-    Fed {
-        session,
-        done: Done {
-            taken: step.next,
-            updates: step.updates,
-            answer: answer_in(phase),
+    match answer {
+        StreamAnswer::Found(pdu, _) => {
+            let d = on_pdu(with_held(s, 0), live, working, pdu);
+            after_pdu(d, next, updates)
+        }
+        StreamAnswer::Refused(error) => Step {
+            session: stop_with(s, working, Stop::Stream(error)),
+            next,
+            updates,
+            then: Then::Done(FeedAnswer::Stopped(Stop::Stream(error))),
+        },
+        StreamAnswer::More => Step {
+            session: with_held(s, stream.held),
+            next,
+            updates,
+            then: Then::Done(FeedAnswer::GoesOn),
+        },
+        StreamAnswer::NotAStream => Step {
+            session: s,
+            next,
+            updates,
+            then: Then::Done(FeedAnswer::NotAReceiver),
         },
     }
 }
 
-// From PDU to PDU until the piece is taken or a stop; in Stopped none is taken.
-fn feed_on(s: Session, live: &mut [u32], working: &mut [u32], hold: &mut [u8], piece: &[u8]) -> Fed
-    requires { ⌜ isReceiver (s .life .limit) s (now live) (now working) (now hold) ≡ true ⌝ }
-    ensures { λ r. ⌜ fedSaid r (now (live .exit)) (now (working .exit)) (now (hold .exit)) ≡ feedSays (s .life .limit) s (now (live .entry)) (now (working .entry)) (now (hold .entry)) (now (piece .entry)) ⌝ }
+// What a feed does next. Its promise is that of one PDU; any number of them may be taken at once.
+fn next_step(
+    s: Session,
+    live: &mut [u32],
+    working: &mut [u32],
+    hold: &mut [u8],
+    piece: &[u8],
+    at: usize,
+    updates: usize,
+) -> Step
+    requires { ⌜ StepAsks (s .life .limit) s (now live) (now working) (now hold) (now piece) at updates ⌝ }
+    ensures { λ r. ⌜ Stepped (s .life .limit) (feedHere (s .life .limit) s (now (live .entry)) (now (working .entry)) (now (hold .entry)) (now (piece .entry)) at updates) (now (piece .entry)) at r (now (live .exit)) (now (working .exit)) (now (hold .exit)) ⌝ }
 {
-    let phase = s.phase;
-    let mut step = Step {
-        session: s,
-        next: 0,
-        updates: 0,
-        over: is_stopped(phase),
-    };
-    while !step.over {
-        step = next_step(
-            step.session,
-            live,
-            working,
-            hold,
-            piece,
-            step.next,
-            step.updates,
-        );
-    }
-    fed_by(step)
+    one_step(s, live, working, hold, piece, at, updates)
 }
 
 // A piece of any length: it is searched PDU by PDU until it is taken or a stop; in Stopped none is taken and the stop is given again.
@@ -1080,5 +981,36 @@ pub fn feed(s: Session, live: &mut [u32], working: &mut [u32], hold: &mut [u8], 
             },
         };
     }
-    feed_on(s, live, working, hold, piece)
+    let phase = s.phase;
+    if let Phase::Stopped(stop) = phase {
+        return Fed {
+            session: s,
+            done: Done {
+                taken: 0,
+                updates: 0,
+                answer: FeedAnswer::Stopped(stop),
+            },
+        };
+    }
+    let mut session = s;
+    let mut at = 0;
+    let mut updates = 0;
+    let answer = loop {
+        let step = next_step(session, live, working, hold, piece, at, updates);
+        session = step.session;
+        at = step.next;
+        updates = step.updates;
+        let then = step.then;
+        if let Then::Done(done) = then {
+            break done;
+        }
+    };
+    Fed {
+        session,
+        done: Done {
+            taken: at,
+            updates,
+            answer,
+        },
+    }
 }

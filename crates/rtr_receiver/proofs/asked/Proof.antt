@@ -25,4 +25,4 @@ returns-2 c =
 
 pub asked-spec : {M : Type 1} → statement M
 asked-spec =
-    tie.close (tie.spec enum-known-answer in-phase-requires returns enum-known-answer-2 returns-2)
+    tie.close (tie.spec enum-known-answer in-phase-requires enum-known-answer-2 returns returns-2)

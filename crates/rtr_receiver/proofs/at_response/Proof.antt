@@ -22,18 +22,18 @@ enum-told-3 c = search needs
 enum-known-table : tie.Need-enum-known-table
 enum-known-table c = search needs
 
-returns-3 : tie.Need-returns-3
-returns-3 c =
+returns : tie.Need-returns
+returns c =
     let a = c .before .before .before .before .before .before .before .args in
     λ limit r. response-change (a .phase) (a .session-id) (placed (a .phase) (a .table) r) _ (c .before .before .before .before .before .enum-told2 .given .1) (other-session _ _ _ (c .before .before .before .table .given .1) (c .if1 .taken) _)
 
-returns : tie.Need-returns
-returns c =
+returns-2 : tie.Need-returns-2
+returns-2 c =
     let a = c .before .before .args in
     λ limit r. ap (λ (p : Phase). noUpdate (responseIn (stageOf p) (a .session-id) (placed (a .phase) (a .table) r))) (sym (c .enum-told .given .1))
 
-returns-2 : tie.Need-returns-2
-returns-2 c =
+returns-3 : tie.Need-returns-3
+returns-3 c =
     let a = c .before .before .before .before .args in
     λ limit r. response-change (a .phase) (a .session-id) (placed (a .phase) (a .table) r) _ (c .before .before .enum-told2 .given .1) (ap (λ (t : LiveTable). onChangeResponse t (a .session-id) (placed (a .phase) (a .table) r)) (c .enum-told3 .given .1))
 
@@ -50,4 +50,13 @@ returns-5 c =
 pub at-response-spec : {M : Type 1} → statement M
 at-response-spec =
     tie.close
-    (tie.spec enum-told returns enum-told-2 enum-told-3 returns-2 enum-known-table returns-3 returns-4 returns-5)
+    (tie.spec
+    enum-told
+    enum-told-2
+    enum-told-3
+    enum-known-table
+    returns
+    returns-2
+    returns-3
+    returns-4
+    returns-5)

@@ -72,4 +72,18 @@ returns-4 c =
 pub change-ask-spec : {M : Type 1} → statement M
 change-ask-spec =
     tie.close
-    (tie.spec is-receiver-requires ask-refused-requires returns enum-told enum-told-2 ask-refused-requires-2 returns-2 enum-known-table encode-serial-query-requires asked-requires same-length returns-3 ask-refused-requires-3 returns-4)
+    (tie.spec
+    is-receiver-requires
+    ask-refused-requires
+    returns
+    enum-told
+    enum-told-2
+    ask-refused-requires-2
+    enum-known-table
+    encode-serial-query-requires
+    asked-requires
+    ask-refused-requires-3
+    returns-2
+    same-length
+    returns-3
+    returns-4)

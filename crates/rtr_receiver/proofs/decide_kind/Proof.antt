@@ -32,4 +32,11 @@ returns-2 c = search needs
 pub decide-kind-spec : {M : Type 1} → statement M
 decide-kind-spec =
     tie.close
-    (tie.spec carried-by-requires enum-known-carried in-load-requires returns enum-told decide-other-requires returns-2)
+    (tie.spec
+    carried-by-requires
+    enum-known-carried
+    in-load-requires
+    enum-told
+    decide-other-requires
+    returns
+    returns-2)

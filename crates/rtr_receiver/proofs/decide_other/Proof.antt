@@ -68,17 +68,17 @@ decide-other-spec =
     tie.close
     (tie.spec
     enum-known-pdu
-    returns
     enum-known-pdu-2
     at-response-requires
-    returns-2
     enum-known-pdu-3
     at-end-of-data-requires
-    returns-3
     enum-told
     at-cache-reset-requires
-    returns-4
     enum-told-2
     in-load-requires
+    returns
+    returns-2
+    returns-3
+    returns-4
     returns-5
     returns-6)

@@ -18,16 +18,16 @@ version-requires c κs = search needs
 is-version-requires : tie.Need-is-version-requires
 is-version-requires c κs = search needs
 
-returns-2 : tie.Need-returns-2
-returns-2 c =
+returns : tie.Need-returns
+returns c =
     let a = c .before .before .before .before .before .args in
     λ limit live working. sym (of-version limit (receiverOf (a .s) live working []) (a .pdu) (c .before .before .before .before .match .keys2) (c .before .before .version .result) (c .before .before .version .ensures) (c .before .is-version .result) (c .before .is-version .ensures) false (not-true _ (c .if1 .taken)))
 
 decide-kind-requires : tie.Need-decide-kind-requires
 decide-kind-requires c κs = search needs
 
-returns : tie.Need-returns
-returns c =
+returns-2 : tie.Need-returns-2
+returns-2 c =
     let a = c .before .before .before .args in
     λ limit live working. sym (pdu-report limit (receiverOf (a .s) live working []) (a .pdu) _ (c .before .pdu .given .1))
 
@@ -39,4 +39,4 @@ returns-3 c =
 pub decide-pdu-spec : {M : Type 1} → statement M
 decide-pdu-spec =
     tie.close
-    (tie.spec enum-known-pdu returns version-requires is-version-requires returns-2 decide-kind-requires returns-3)
+    (tie.spec enum-known-pdu version-requires is-version-requires returns decide-kind-requires returns-2 returns-3)

@@ -38,4 +38,12 @@ returns-2 c =
 pub fill-spec : {M : Type 1} → statement M
 fill-spec =
     tie.close
-    (tie.spec enum-told empty-requires same-length returns enum-told-2 copy-requires same-length-2 returns-2)
+    (tie.spec
+    enum-told
+    empty-requires
+    enum-told-2
+    copy-requires
+    same-length
+    returns
+    same-length-2
+    returns-2)

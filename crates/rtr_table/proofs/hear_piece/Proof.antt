@@ -1,29 +1,17 @@
--- `hear_piece` feeds nothing or the piece that was read. Assumes nothing.
-use mathlib.Core.Path.{refl}
+-- `hear_piece` feeds nothing where nothing was read, and else all that was read. Assumes nothing.
+use mathlib.Core.Path.{refl, sym}
 use native.Mathlib.Omega.{arith}
+use lib.Seq.{length-take-le}
 use borrow.Author.Needs.{needs}
-use Rattle.rtr_receiver.specs.Runs.{Step}
 use Rattle.rtr_table.specs.Feeding.{Turn}
 use Rattle.rtr_table.proofs.hear_piece.Statement.{statement}
 use Rattle.rtr_table.proofs.hear_piece.Tie as tie
 
-read-requires : tie.Need-read-requires
-read-requires c κs = search needs
-
-count-requires : tie.Need-count-requires
-count-requires c κs = search needs
-
-same-length : tie.Need-same-length
-same-length c = search needs
-
 returns : tie.Need-returns
-returns c = Turn.over refl
-
-slice-reshare-prefix-feed : tie.Need-slice-reshare-prefix-feed
-slice-reshare-prefix-feed c = search needs
+returns c = Turn.over (c .if1 .taken) refl refl
 
 slice-aggregate-feed : tie.Need-slice-aggregate-feed
-slice-aggregate-feed c = search needs
+slice-aggregate-feed c = sym (length-take-le _ _ (c .before .before .before .before .before .before .before .before .before .pre))
 
 feed-requires : tie.Need-feed-requires
 feed-requires c κs = search needs
@@ -31,39 +19,31 @@ feed-requires c κs = search needs
 goes-on-requires : tie.Need-goes-on-requires
 goes-on-requires c κs = search needs
 
+same-length : tie.Need-same-length
+same-length c = search needs
+
 same-length-2 : tie.Need-same-length-2
 same-length-2 c = search needs
 
 same-length-3 : tie.Need-same-length-3
 same-length-3 c = search needs
 
-same-length-4 : tie.Need-same-length-4
-same-length-4 c = search needs
-
-same-length-5 : tie.Need-same-length-5
-same-length-5 c = search needs
-
 returns-2 : tie.Need-returns-2
 returns-2 c =
     let call = c .before .before .before .before .before .before .before .before .before .feed in
-    let count = c .before .before .before .before .before .before .before .before .before .before .before .before .before .before .before .count in
     let some = c .before .before .before .before .before .before .before .before .before .before .before .before .before .before .if1 .left in
-    Turn.heard (count .result) _ (omega (arith, some)) (omega (arith, count .ensures .0)) (Step.fed (call .result .session) (call .result .done) _ _ _ (call .ensures .1) (call .ensures .0))
+    let enter = c .before .before .before .before .before .before .before .before .before .before .before .before .before .before .before .before .before .before .before in
+    Turn.heard (call .result .done) (omega (arith, some)) (enter .pre) (call .ensures) (c .goes-on .ensures)
 
 pub hear-piece-spec : {M : Type 1} → statement M
 hear-piece-spec =
     tie.close
     (tie.spec
-    read-requires
-    count-requires
-    same-length
     returns
-    slice-reshare-prefix-feed
     slice-aggregate-feed
     feed-requires
     goes-on-requires
+    same-length
     same-length-2
     same-length-3
-    same-length-4
-    same-length-5
     returns-2)
