@@ -3,7 +3,7 @@
  *
  * Every call takes every input and answers; nothing is allocated, and nothing is kept between calls but the memory that you lend. A call's answer is 0 or a refusal's number (below); where several
  * would fit, the first in the order that the call names is given. What is proved of calls one after another (the table is that of the last finished update, however the bytes were cut) is `c-history` of crates/rtr_c: it asks that
- * the same session, rooms and hold are lent each time, the hold with one length, and that nobody else writes them in between. A refused call changes nothing, but for the numbers that it answers with (written, taken, updates, level, end, value, compared), which are
+ * the same session, rooms and hold are lent each time, the hold with one length, and that nobody else writes them in between. A refused call changes nothing, but for the numbers that it answers with (written, taken, updates, level, end, value, compared, state), which are
  * then 0 unless the call says otherwise. A stop is no such refusal: it is the receiver's new state.
  *
  * What you owe: a slice is a pointer and a length in elements, one behind the other, and so many elements are there, readable, set to something, and writable where there is no const. A pointer is never NULL (not
@@ -67,8 +67,9 @@ enum hingemoss_refusal {
     HINGEMOSS_REFUSED_ROOM_FULL = 18,      /* a new announcement with 1,024 in it */
     HINGEMOSS_REFUSED_ERROR_REPORT = 19,   /* the cache sent an Error Report: code */
     HINGEMOSS_REFUSED_WRONG_PHASE = 20,    /* an ask in a wrong phase */
-    HINGEMOSS_REFUSED_NO_TABLE = 21,       /* a change asked for without a table */
-    HINGEMOSS_REFUSED_NOT_A_RECEIVER = 22  /* lent memory is not of receiver shape, or numbers are no session's or no PDU's */
+    HINGEMOSS_REFUSED_NO_TABLE = 21,       /* a change asked for, or a route asked about, without a table */
+    HINGEMOSS_REFUSED_NOT_A_RECEIVER = 22, /* lent memory is not of receiver shape, or numbers are no session's, no PDU's, or not six of a route */
+    HINGEMOSS_REFUSED_ROUTE = 23           /* a route longer than its family allows, of no known family, or with IPv4 spares that are not 0 */
 };
 
 /* A session: the place of each of its HINGEMOSS_SESSION_NUMBERS numbers. */
@@ -149,6 +150,21 @@ enum hingemoss_record {
     HINGEMOSS_RECORD_NUMBERS = 6
 };
 
+/* A route: the place of each of its six numbers. */
+enum hingemoss_route {
+    HINGEMOSS_ROUTE_KIND = 0,          /* family (4 or 6) * 65536 + length: all sixteen low bits are the length, where a record has its max too */
+    HINGEMOSS_ROUTE_ADDRESS = 1,       /* four numbers, as in a record: an IPv4 address is the first, and the other three are 0. Address bits behind the length are not looked at */
+    HINGEMOSS_ROUTE_ORIGIN = 5,        /* the origin's AS number; 0 stands for a path that ends in an AS_SET, and is never valid */
+    HINGEMOSS_ROUTE_NUMBERS = 6
+};
+
+/* What a route is by the live table (RFC 6811). */
+enum hingemoss_state {
+    HINGEMOSS_STATE_NOT_FOUND = 0,     /* no record covers it */
+    HINGEMOSS_STATE_VALID = 1,         /* a record matches it */
+    HINGEMOSS_STATE_INVALID = 2        /* a record covers it, and none matches */
+};
+
 /* How a walk ends, and the end's value. */
 enum hingemoss_end {
     HINGEMOSS_END_PLAIN = 0,           /* a PDU that is no Error Report: its type */
@@ -213,6 +229,11 @@ uint8_t hingemoss_notify(const uint64_t *session, size_t session_len, const uint
 
 /* The stop and the table as lines of text. 22, which asks of the session, the live room and the table alone; 9, written is how many bytes are needed. 0: written is how many bytes. */
 uint8_t hingemoss_listing(const uint64_t *session, size_t session_len, const uint32_t *live, size_t live_len, uint8_t *out, size_t out_len, uint64_t *written);
+
+/* Whether a route is good (RFC 6811), by the live table in any phase; nothing but state is written. In this order: 22, also where route is not exactly HINGEMOSS_ROUTE_NUMBERS numbers; 21; 23: of no
+ * known family, longer than 32 (IPv4) or 128 (IPv6), or an IPv4 route whose second to fourth address number is not 0. 0: state is enum hingemoss_state's. On 22, 21 and 23 it is 0. */
+uint8_t hingemoss_validate(const uint64_t *session, size_t session_len, const uint32_t *live, size_t live_len, const uint32_t *working, size_t working_len,
+                           const uint8_t *hold, size_t hold_len, const uint32_t *route, size_t route_len, uint64_t *state);
 
 #ifdef __cplusplus
 }

@@ -180,6 +180,59 @@ static void receiver(void)
     EXPECT(memcmp(before, session, sizeof before) == 0);
 }
 
+/* Whether a route is good: every state, every refusal in its order, and nothing written but the state. */
+static void routes(void)
+{
+    static uint32_t kept_live[HINGEMOSS_ROOM_NUMBERS], kept_working[HINGEMOSS_ROOM_NUMBERS];
+    static uint8_t kept_hold[sizeof hold];
+    const uint32_t good[HINGEMOSS_ROUTE_NUMBERS] = { 4u * 65536 + 24, 0xc0000200u, 0, 0, 0, 64496 };
+    uint32_t route[HINGEMOSS_ROUTE_NUMBERS + 1] = { 0 }, kept[HINGEMOSS_ROUTE_NUMBERS + 1];
+    uint64_t taken, updates, state;
+#define ASKED(lent, number, said) (state = 9, memcpy(kept, route, sizeof kept), hingemoss_validate(SESSION, LIVE, WORKING, HOLD, route, lent, &state) == (number) && state == (said) && memcmp(kept, route, sizeof kept) == 0)
+#define ASKED_WITH(place, value, number, said) (memcpy(route, good, sizeof good), route[place] = (value), ASKED(HINGEMOSS_ROUTE_NUMBERS, number, said))
+    EXPECT(hingemoss_start(1, SESSION, LIVE, WORKING, HOLD) == HINGEMOSS_OK);
+    EXPECT(ASKED_WITH(0, good[0], HINGEMOSS_REFUSED_NO_TABLE, 0));
+    EXPECT(ASKED_WITH(HINGEMOSS_ROUTE_KIND, 4u * 65536 + 33, HINGEMOSS_REFUSED_NO_TABLE, 0));
+    EXPECT(ASKED(HINGEMOSS_ROUTE_NUMBERS - 1, HINGEMOSS_REFUSED_NOT_A_RECEIVER, 0));
+    EXPECT(hingemoss_full_ask(SESSION, LIVE, WORKING, HOLD, out, HINGEMOSS_FULL_QUERY) == HINGEMOSS_OK);
+    EXPECT(hingemoss_feed(SESSION, LIVE, WORKING, HOLD, load, sizeof load, &taken, &updates) == HINGEMOSS_OK && updates == 1);
+    memcpy(before, session, sizeof before), memcpy(kept_live, live, sizeof live), memcpy(kept_working, working, sizeof working), memcpy(kept_hold, hold, sizeof hold);
+
+    EXPECT(ASKED_WITH(0, good[0], HINGEMOSS_OK, HINGEMOSS_STATE_VALID));
+    EXPECT(ASKED_WITH(HINGEMOSS_ROUTE_ADDRESS, 0xc00002ffu, HINGEMOSS_OK, HINGEMOSS_STATE_VALID)); /* host bits of a route are not looked at */
+    EXPECT(ASKED_WITH(HINGEMOSS_ROUTE_ORIGIN, 64497, HINGEMOSS_OK, HINGEMOSS_STATE_INVALID));
+    EXPECT(ASKED_WITH(HINGEMOSS_ROUTE_ORIGIN, 0, HINGEMOSS_OK, HINGEMOSS_STATE_INVALID));
+    EXPECT(ASKED_WITH(HINGEMOSS_ROUTE_KIND, 4u * 65536 + 25, HINGEMOSS_OK, HINGEMOSS_STATE_INVALID)); /* over max */
+    EXPECT(ASKED_WITH(HINGEMOSS_ROUTE_KIND, 4u * 65536 + 32, HINGEMOSS_OK, HINGEMOSS_STATE_INVALID));
+    EXPECT(ASKED_WITH(HINGEMOSS_ROUTE_KIND, 4u * 65536 + 23, HINGEMOSS_OK, HINGEMOSS_STATE_NOT_FOUND));
+    EXPECT(ASKED_WITH(HINGEMOSS_ROUTE_ADDRESS, 0xc0000300u, HINGEMOSS_OK, HINGEMOSS_STATE_NOT_FOUND));
+    EXPECT(ASKED_WITH(HINGEMOSS_ROUTE_KIND, 6u * 65536 + 24, HINGEMOSS_OK, HINGEMOSS_STATE_NOT_FOUND));
+    EXPECT(ASKED_WITH(HINGEMOSS_ROUTE_KIND, 6u * 65536 + 128, HINGEMOSS_OK, HINGEMOSS_STATE_NOT_FOUND));
+
+    EXPECT(ASKED_WITH(HINGEMOSS_ROUTE_KIND, 4u * 65536 + 33, HINGEMOSS_REFUSED_ROUTE, 0));
+    EXPECT(ASKED_WITH(HINGEMOSS_ROUTE_KIND, 6u * 65536 + 129, HINGEMOSS_REFUSED_ROUTE, 0));
+    EXPECT(ASKED_WITH(HINGEMOSS_ROUTE_KIND, 4u * 65536 + 24 * 256 + 24, HINGEMOSS_REFUSED_ROUTE, 0)); /* a record's first number */
+    EXPECT(ASKED_WITH(HINGEMOSS_ROUTE_KIND, 5u * 65536 + 24, HINGEMOSS_REFUSED_ROUTE, 0));
+    EXPECT(ASKED_WITH(HINGEMOSS_ROUTE_KIND, 0x1040018u, HINGEMOSS_REFUSED_ROUTE, 0));
+    for (int i = HINGEMOSS_ROUTE_ADDRESS + 1; i < HINGEMOSS_ROUTE_ORIGIN; i++)
+        EXPECT(ASKED_WITH(i, 1, HINGEMOSS_REFUSED_ROUTE, 0));
+    memcpy(route, good, sizeof good);
+    EXPECT(ASKED(HINGEMOSS_ROUTE_NUMBERS - 1, HINGEMOSS_REFUSED_NOT_A_RECEIVER, 0) && ASKED(HINGEMOSS_ROUTE_NUMBERS + 1, HINGEMOSS_REFUSED_NOT_A_RECEIVER, 0) && ASKED(0, HINGEMOSS_REFUSED_NOT_A_RECEIVER, 0));
+    EXPECT((state = 9, hingemoss_validate(session, HINGEMOSS_SESSION_NUMBERS - 1, LIVE, WORKING, HOLD, route, HINGEMOSS_ROUTE_NUMBERS, &state)) == HINGEMOSS_REFUSED_NOT_A_RECEIVER && state == 0);
+    EXPECT((state = 9, hingemoss_validate(SESSION, live, HINGEMOSS_ROOM_NUMBERS - 1, WORKING, HOLD, route, HINGEMOSS_ROUTE_NUMBERS, &state)) == HINGEMOSS_REFUSED_NOT_A_RECEIVER && state == 0);
+    EXPECT((state = 9, hingemoss_validate(SESSION, LIVE, working, HINGEMOSS_ROOM_NUMBERS - 1, HOLD, route, HINGEMOSS_ROUTE_NUMBERS, &state)) == HINGEMOSS_REFUSED_NOT_A_RECEIVER && state == 0);
+    EXPECT((state = 9, hingemoss_validate(SESSION, LIVE, WORKING, hold, HINGEMOSS_HOLD_LEAST - 1, route, HINGEMOSS_ROUTE_NUMBERS, &state)) == HINGEMOSS_REFUSED_NOT_A_RECEIVER && state == 0);
+    EXPECT(memcmp(before, session, sizeof before) == 0 && memcmp(kept_live, live, sizeof live) == 0 && memcmp(kept_working, working, sizeof working) == 0 && memcmp(kept_hold, hold, sizeof hold) == 0);
+    session[HINGEMOSS_SESSION_FIRST] = 1;
+    EXPECT(ASKED_WITH(0, good[0], HINGEMOSS_REFUSED_NOT_A_RECEIVER, 0));
+
+    /* The live table answers in every phase: while another is loading, and behind a stop. */
+    session[HINGEMOSS_SESSION_FIRST] = 0;
+    EXPECT(hingemoss_full_ask(SESSION, LIVE, WORKING, HOLD, out, HINGEMOSS_FULL_QUERY) == HINGEMOSS_OK && ASKED_WITH(0, good[0], HINGEMOSS_OK, HINGEMOSS_STATE_VALID));
+    EXPECT(hingemoss_feed(SESSION, LIVE, WORKING, HOLD, load, 8, &taken, &updates) == HINGEMOSS_OK && ASKED_WITH(0, good[0], HINGEMOSS_OK, HINGEMOSS_STATE_VALID));
+    EXPECT(hingemoss_feed(SESSION, LIVE, WORKING, HOLD, load, 8, &taken, &updates) == HINGEMOSS_REFUSED_OUT_OF_TURN && ASKED_WITH(0, good[0], HINGEMOSS_OK, HINGEMOSS_STATE_VALID));
+}
+
 int main(void)
 {
     codec();
@@ -187,6 +240,7 @@ int main(void)
     ends();
     stops();
     receiver();
+    routes();
     puts(bad ? "calls: not all as expected" : "calls: all as expected");
     return bad;
 }

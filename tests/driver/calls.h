@@ -51,4 +51,8 @@ uint8_t test_held_reconnect(uint64_t *session, size_t session_len, const uint32_
 uint8_t test_held_notify(const uint64_t *session, size_t session_len, const uint32_t *live, size_t live_len, const uint32_t *working, size_t working_len,
                          const uint8_t *hold, size_t hold_len);
 
+/* Whether a route is good, by the plain scan: hingemoss_validate's parameters and answers. */
+uint8_t test_validate_by_scan(const uint64_t *session, size_t session_len, const uint32_t *live, size_t live_len, const uint32_t *working, size_t working_len,
+                              const uint8_t *hold, size_t hold_len, const uint32_t *route, size_t route_len, uint64_t *state);
+
 #endif

@@ -26,5 +26,6 @@ void captures(const char *folder);
 void loads(const char *folder, int all);
 void rooms(void);
 void hosts(void);
+void routes(void);
 
 #endif

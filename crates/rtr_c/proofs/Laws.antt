@@ -28,7 +28,12 @@ use Rattle.rtr_pdu_numbers.specs.Back.{pduOf}
 use Rattle.rtr_numbers.specs.declared.SessionFound.{SessionFound}
 use Rattle.rtr_pdu_numbers.specs.declared.PduFound.{PduFound}
 use Rattle.rtr_numbers.proofs.Laws.{numbers-of-session}
-use Rattle.rtr_c.specs.Calls.{startGives, startLeft, startFound, startC, askGives, askLeft, askFound, fullAskC, changeAskC, feedGives, feedLeft, feedFound, feedC, reconnectGives, reconnectLeft, reconnectFound, reconnectC, notifyGives, notifyLeft, notifyFound, notifyC, encodeGives, encodeLeft, encodeFound, encodeC, listingFound, listingC}
+use Rattle.rtr_origin.specs.Promises.{RouteSays, validateSays}
+use Rattle.rtr_origin.specs.Numbers.{routeOf}
+use Rattle.rtr_origin.specs.declared.Route.{Route}
+use Rattle.rtr_origin.specs.declared.RouteFound.{RouteFound}
+use Rattle.rtr_origin.proofs.Shaped as origin
+use Rattle.rtr_c.specs.Calls.{startGives, startLeft, startFound, startC, askGives, askLeft, askFound, fullAskC, changeAskC, feedGives, feedLeft, feedFound, feedC, reconnectGives, reconnectLeft, reconnectFound, reconnectC, notifyGives, notifyLeft, notifyFound, notifyC, encodeGives, encodeLeft, encodeFound, encodeC, listingFound, listingC, validateGives, validateLeft, validateFound, validateC}
 
 -- numbers that are no session's
 module _ (n live working hold : List ℕ) (none : sessionOf n ≡ SessionFound.Unknown) where
@@ -55,6 +60,14 @@ module _ (n live working hold : List ℕ) (none : sessionOf n ≡ SessionFound.U
   pub unknown-keeps-listing : (out : List ℕ) → listingC n live out ≡ encodeGives 22 0 out
   unfolding listingC
   unknown-keeps-listing out = ap (λ (x : SessionFound). listingFound x live out) none
+
+  pub unknown-validate : (route : List ℕ) → validateC n live working hold route ≡ validateGives 22 0
+  unfolding validateC
+  unknown-validate route = ap (λ (x : SessionFound). cond (eqb (length route) 6) (validateFound x (routeOf route) live working hold) (validateGives 22 0)) none ∙ either (eqb (length route) 6)
+    where
+      either : (b : Bool) → cond b (validateGives 22 0) (validateGives 22 0) ≡ validateGives 22 0
+      either true = refl
+      either false = refl
 
 -- numbers that are no PDU's
 pub unknown-keeps-output : (n payload out : List ℕ) → pduOf n ≡ PduFound.Unknown → encodeC n payload out ≡ encodeGives 22 0 out
@@ -95,6 +108,21 @@ module _ (n live working hold : List ℕ) (s : Session) (known : sessionOf n ≡
   pub shapeless-notify : notifyC n live working hold ≡ notifyGives 22 0
   unfolding notifyC
   shapeless-notify = ap (λ (x : SessionFound). notifyFound x live working hold) known ∙ ap notifyLeft (shaped.shapeless-notify (s .life .limit) s live working hold e)
+
+  pub shapeless-validate : (route : List ℕ) → validateC n live working hold route ≡ validateGives 22 0
+  unfolding validateC
+  shapeless-validate route =
+      ap (λ (x : SessionFound). cond (eqb (length route) 6) (validateFound x (routeOf route) live working hold) (validateGives 22 0)) known
+      ∙ either (eqb (length route) 6) (by-route (routeOf route))
+    where
+      by-route : (f : RouteFound) → validateFound (SessionFound.Known s) f live working hold ≡ validateGives 22 0
+      by-route (RouteFound.Known q) = ap validateLeft (origin.shapeless-validate (s .life .limit) s live working hold q e)
+      by-route RouteFound.Unknown = rw e
+
+      either : (b : Bool) → validateFound (SessionFound.Known s) (routeOf route) live working hold ≡ validateGives 22 0
+          → cond b (validateFound (SessionFound.Known s) (routeOf route) live working hold) (validateGives 22 0) ≡ validateGives 22 0
+      either true h = h
+      either false h = refl
 
 -- a listing asks less of memory: the live room's rules, and a table where it has records
 pub shapeless-keeps-listing : (n live out : List ℕ) (s : Session) → sessionOf n ≡ SessionFound.Known s → isListed (s .life .limit) s live ≡ false → listingC n live out ≡ encodeGives 22 0 out

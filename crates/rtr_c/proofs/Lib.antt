@@ -1,5 +1,6 @@
--- `Laws`, `Answers`, `Unique`, `Runs` (demand 3) and `Coded` are for readers; `Steps` is what the calls' proofs cite.
+-- `Laws`, `Answers`, `Unique`, `Runs` (demand 3) and `Coded` are for readers; `Steps` and `Questions` are what the calls' proofs cite.
 mod Steps
+mod Questions
 pub mod Laws
 pub mod Answers
 pub mod Unique

@@ -3,7 +3,7 @@
 use mathlib.Core.Path.{_≡_, sym, ap, _∙_}
 use denote.Ref.{now}
 use Rattle.rtr_base.proofs.Unique.{only-this}
-use Rattle.rtr_c.specs.Calls.{ReadLeft, EncodeLeft, WalkLeft, StartLeft, AskLeft, FeedLeft, ReconnectLeft, NotifyLeft, heldOf}
+use Rattle.rtr_c.specs.Calls.{ReadLeft, EncodeLeft, WalkLeft, StartLeft, AskLeft, FeedLeft, ReconnectLeft, NotifyLeft, ValidateLeft, heldOf}
 use Rattle.rtr_c.proofs.hingemoss_read.Reads as read-reads
 use Rattle.rtr_c.proofs.hingemoss_encode.Reads as encode-reads
 use Rattle.rtr_c.proofs.hingemoss_walk.Reads as walk-reads
@@ -15,6 +15,7 @@ use Rattle.rtr_c.proofs.hingemoss_reconnect.Reads as reconnect-reads
 use Rattle.rtr_c.proofs.hingemoss_notify.Reads as notify-reads
 use Rattle.rtr_c.proofs.hingemoss_listing.Reads as listing-reads
 use Rattle.rtr_c.proofs.hingemoss_read_value.Reads as read-value-reads
+use Rattle.rtr_c.proofs.hingemoss_validate.Reads as validate-reads
 
 pub read-unique : (κs : _) (a : _) (r r′ : _) (s s′ : _) → read-reads.Post κs a r s → read-reads.Post κs a r′ s′
     → (r ≡ r′) × (now (s .1 .0) ≡ now (s′ .1 .0))
@@ -101,4 +102,11 @@ listing-unique κs a r r′ s s′ p q = (
   ap (λ (x : EncodeLeft). x .answer) (p ∙ sym q),
   ap (λ (x : EncodeLeft). x .written) (p ∙ sym q),
   ap (λ (x : EncodeLeft). x .out) (p ∙ sym q),
+)
+
+pub validate-unique : (κs : _) (a : _) (r r′ : _) (s s′ : _) → validate-reads.Post κs a r s → validate-reads.Post κs a r′ s′
+    → (r ≡ r′) × (now (s .1 .1 .1 .1 .1 .0) ≡ now (s′ .1 .1 .1 .1 .1 .0))
+validate-unique κs a r r′ s s′ p q = (
+  ap (λ (x : ValidateLeft). x .answer) (p ∙ sym q),
+  ap (λ (x : ValidateLeft). x .state) (p ∙ sym q),
 )

@@ -1,4 +1,4 @@
--- Read, encode and listing by their answer: for each number that the call returns, when it does so and what it leaves. proofs/Answers.antt has that
+-- Read, encode, listing and validate by their answer: for each number that the call returns, when it does so and what it leaves. proofs/Answers.antt has that
 -- each call is one of these, whatever it is lent.
 use Prim.Native.Nat.{ℕ, _≤_, _<_}
 use mathlib.Core.Bool.{true, false}
@@ -12,13 +12,21 @@ use Rattle.rtr_encode.specs.Encode.{encodedLength, encoding, placesInside, text
 use Rattle.rtr_listing.specs.Listing as lines
 use Rattle.rtr_listing.specs.Promises.{ListReason}
 use Rattle.rtr_receiver.specs.Contents.{contents}
+use Rattle.rtr_receiver.specs.History.{hasTable}
+use Rattle.rtr_receiver.specs.Promises.{Reason}
+use Rattle.rtr_receiver.specs.declared.LiveTable.{LiveTable}
 use Rattle.rtr_receiver.specs.declared.Session.{Session}
 use Rattle.rtr_numbers.specs.Back.{sessionOf}
 use Rattle.rtr_numbers.specs.declared.SessionFound.{SessionFound}
 use Rattle.rtr_pdu_numbers.specs.Numbers.{pduNumbers}
 use Rattle.rtr_pdu_numbers.specs.Back.{pduOf}
 use Rattle.rtr_pdu_numbers.specs.declared.PduFound.{PduFound}
-use Rattle.rtr_c.specs.Calls.{ReadLeft, readGives, EncodeLeft, encodeGives}
+use Rattle.rtr_origin.specs.Origin.{stateOf}
+use Rattle.rtr_origin.specs.Numbers.{routeOf}
+use Rattle.rtr_origin.specs.declared.Route.{Route}
+use Rattle.rtr_origin.specs.declared.RouteFound.{RouteFound}
+use Rattle.rtr_origin.specs.declared.RouteState.{RouteState}
+use Rattle.rtr_c.specs.Calls.{ReadLeft, readGives, EncodeLeft, encodeGives, ValidateLeft, validateGives}
 
 -- read: 9 where not 12 numbers are lent; 0 and the PDU's numbers; or the read's refusal, 1 to 8, and the numbers as they were
 pub data ReadAnswers (bytes numbers : List ℕ) : ReadLeft → Type 0 where
@@ -90,3 +98,46 @@ pub data ListingAnswers (session live out : List ℕ) : EncodeLeft → Type 0 wh
       (ListReason (s .life .limit) s live → ⊥) →
       length (textOf s live) ≤ length out →
       ListingAnswers session live out (encodeGives 0 (length (textOf s live)) (textOf s live ++ drop (length (textOf s live)) out))
+
+-- nothing stands in the way of a question but a table and a route: a session, six numbers, and no reason for 22
+pub record Askable (session live working hold route : List ℕ) (s : Session) : Type 0 where
+  pub known : sessionOf session ≡ SessionFound.Known s
+  pub six : length route ≡ 6
+  pub no-reason : Reason (s .life .limit) s live working hold → ⊥
+
+-- the numbers are this route's, and this is its RFC 6811 state by the live table
+pub record HasState (live route : List ℕ) (s : Session) (q : Route) (state : RouteState) : Type 0 where
+  pub tabled : hasTable (s .table) ≡ true
+  pub routed : routeOf route ≡ RouteFound.Known q
+  pub is-state : stateOf q (contents (s .live) live) ≡ state
+
+-- validate: 22 where not six numbers are lent, where the session's are no session's, or where there is a reason; then 21 without a table, and 23 where the six
+-- are no route's; or 0 and the number of the state
+pub data ValidateAnswers (session live working hold route : List ℕ) : ValidateLeft → Type 0 where
+  notSix : (length route ≡ 6 → ⊥) → ValidateAnswers session live working hold route (validateGives 22 0)
+  unknown : sessionOf session ≡ SessionFound.Unknown → ValidateAnswers session live working hold route (validateGives 22 0)
+  shapeless : (s : Session) →
+      sessionOf session ≡ SessionFound.Known s →
+      Reason (s .life .limit) s live working hold →
+      ValidateAnswers session live working hold route (validateGives 22 0)
+  untabled : (s : Session) →
+      Askable session live working hold route s →
+      s .table ≡ LiveTable.NoTable →
+      ValidateAnswers session live working hold route (validateGives 21 0)
+  unrouted : (s : Session) →
+      Askable session live working hold route s →
+      hasTable (s .table) ≡ true →
+      routeOf route ≡ RouteFound.Unknown →
+      ValidateAnswers session live working hold route (validateGives 23 0)
+  notFound : (s : Session) (q : Route) →
+      Askable session live working hold route s →
+      HasState live route s q RouteState.NotFound →
+      ValidateAnswers session live working hold route (validateGives 0 0)
+  valid : (s : Session) (q : Route) →
+      Askable session live working hold route s →
+      HasState live route s q RouteState.Valid →
+      ValidateAnswers session live working hold route (validateGives 0 1)
+  invalid : (s : Session) (q : Route) →
+      Askable session live working hold route s →
+      HasState live route s q RouteState.Invalid →
+      ValidateAnswers session live working hold route (validateGives 0 2)

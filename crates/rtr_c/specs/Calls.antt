@@ -1,5 +1,5 @@
 -- What each call from C answers and leaves, through the crates below: a session is its 24 numbers (rtr_numbers) and a PDU its 12 (rtr_pdu_numbers), rooms are
--- of the limit that the session holds. Numbers that are no session's and no PDU's are refused by 22.
+-- of the limit that the session holds. Numbers that are no session's and no PDU's are refused by 22. A route is its six (rtr_origin).
 use Prim.Native.Nat.{ℕ}
 use mathlib.Core.Bool.{Bool, true, false, cond}
 use mathlib.Core.List.{List}
@@ -14,7 +14,8 @@ use Rattle.rtr_encode.specs.Answers.{numberOf}
 use Rattle.rtr_listing.specs.Promises.{listingSays}
 use Rattle.rtr_walk.specs.Walk.{End, WalkVerdict, walk}
 use Rattle.rtr_receiver.specs.Receiver.{Notified}
-use Rattle.rtr_receiver.specs.Promises.{Ending, FeedSays, StartSays, AskSays, ReconnectSays, NotifySays, feedSays, startSays, fullAskSays, changeAskSays, reconnectSays, notifySays, recordLimit}
+use Rattle.rtr_receiver.specs.History.{hasTable}
+use Rattle.rtr_receiver.specs.Promises.{Ending, FeedSays, StartSays, AskSays, ReconnectSays, NotifySays, isReceiver, feedSays, startSays, fullAskSays, changeAskSays, reconnectSays, notifySays, recordLimit}
 use Rattle.rtr_receiver.specs.declared.Session.{Session}
 use Rattle.rtr_numbers.specs.Numbers.{leftNumbers, sessionSize}
 use Rattle.rtr_pdu_numbers.specs.Numbers.{pduNumbers}
@@ -22,6 +23,10 @@ use Rattle.rtr_numbers.specs.Back.{sessionOf}
 use Rattle.rtr_pdu_numbers.specs.Back.{pduOf}
 use Rattle.rtr_numbers.specs.declared.SessionFound.{SessionFound}
 use Rattle.rtr_pdu_numbers.specs.declared.PduFound.{PduFound}
+use Rattle.rtr_origin.specs.Origin.{stateNumber}
+use Rattle.rtr_origin.specs.Promises.{RouteSays, validateSays}
+use Rattle.rtr_origin.specs.Numbers.{routeOf}
+use Rattle.rtr_origin.specs.declared.RouteFound.{RouteFound}
 
 -- ---- whether numbers are a session's; those that are none are refused by 22 in every call but start, which writes them
 abbrev pub isKnown : SessionFound → Bool
@@ -292,3 +297,31 @@ listingFound SessionFound.Unknown live out = encodeGives 22 0 out
 -- the promise of `hingemoss_listing`
 unfoldable pub listingC : List ℕ → List ℕ → List ℕ → EncodeLeft
 listingC session live out = listingFound (sessionOf session) live out
+
+-- ---- validate: 0 and the number of the route's state by the live table; or 22, 21 or 23, and 0
+pub record ValidateLeft : Type 0 where
+  pub answer : ℕ
+  pub state : ℕ
+
+-- what the answer and the memory that it leaves say
+abbrev pub validateGives : ℕ → ℕ → ValidateLeft
+validateGives answer state = record { answer = answer; state = state }
+
+-- what a question says
+abbrev pub validateLeft : RouteSays → ValidateLeft
+validateLeft (RouteSays.state s) = validateGives 0 (stateNumber s)
+validateLeft (RouteSays.refused number) = validateGives number 0
+
+-- a session that was found is asked of a route; where six numbers are no route's, 23 comes behind 22 and 21 as for one that is too long
+abbrev pub validateFound : SessionFound → RouteFound → List ℕ → List ℕ → List ℕ → ValidateLeft
+validateFound (SessionFound.Known s) (RouteFound.Known q) live working hold = validateLeft (validateSays (s .life .limit) s live working hold q)
+validateFound (SessionFound.Known s) RouteFound.Unknown live working hold =
+    cond (isReceiver (s .life .limit) s live working hold)
+    (cond (hasTable (s .table)) (validateGives 23 0) (validateGives 21 0))
+    (validateGives 22 0)
+validateFound SessionFound.Unknown route live working hold = validateGives 22 0
+
+-- the promise of `hingemoss_validate`
+unfoldable pub validateC : List ℕ → List ℕ → List ℕ → List ℕ → List ℕ → ValidateLeft
+validateC session live working hold route =
+    cond (eqb (length route) 6) (validateFound (sessionOf session) (routeOf route) live working hold) (validateGives 22 0)

@@ -7,6 +7,10 @@ use rtr_listing::ListAnswer;
 use rtr_listing::ListError;
 use rtr_models::*;
 use rtr_numbers::SessionFound;
+use rtr_origin::Route;
+use rtr_origin::RouteFound;
+use rtr_origin::RoutePrefix;
+use rtr_origin::ValidateAnswer;
 use rtr_pdu_numbers::PduFound;
 use rtr_receiver::AskAnswer;
 use rtr_receiver::AskError;
@@ -27,8 +31,8 @@ ghost use Rattle.rtr_receiver.specs.Runs.{Call};
 ghost use Rattle.rtr_receiver.specs.declared.LoadKind.{LoadKind};
 ghost use Rattle.rtr_numbers.specs.Numbers.{valueOf};
 ghost use Rattle.rtr_walk.specs.Walk.{endSaid};
-ghost use Rattle.rtr_c.specs.Calls.{isSession, amountOf, endNumber, endValue, readGives, readC, encodeGives, encodeC, walkGives, walkC, startGives, startC, askGives, fullAskC, changeAskC, feedGives, feedC, reconnectGives, reconnectC, notifyGives, notifyC, listingC};
-ghost use Rattle.rtr_c.specs.Private.{feedNumber, notifyNumber, notifyCompared};
+ghost use Rattle.rtr_c.specs.Calls.{isSession, amountOf, endNumber, endValue, readGives, readC, encodeGives, encodeC, walkGives, walkC, startGives, startC, askGives, fullAskC, changeAskC, feedGives, feedC, reconnectGives, reconnectC, notifyGives, notifyC, listingC, validateGives, validateC};
+ghost use Rattle.rtr_c.specs.Private.{feedNumber, notifyNumber, notifyCompared, validateNumber, validateState, askedRoute};
 ghost use Rattle.rtr_c.specs.Runs.{memory, LeadsOn, Begins};
 
 // ---- Numbers of answers
@@ -158,6 +162,38 @@ fn notify_compared(answer: NotifyAnswer) -> u64
         NotifyAnswer::Older => 4,
         NotifyAnswer::Undefined => 5,
         NotifyAnswer::NotAReceiver => 0,
+    }
+}
+
+fn validate_number(answer: ValidateAnswer) -> u8
+    ensures { λ r. ⌜ r ≡ validateNumber answer ⌝ }
+{
+    match answer {
+        ValidateAnswer::State(_) => 0,
+        ValidateAnswer::Refused(error) => error.number(),
+    }
+}
+
+fn validate_state(answer: ValidateAnswer) -> u64
+    ensures { λ r. ⌜ r ≡ validateState answer ⌝ }
+{
+    match answer {
+        ValidateAnswer::State(state) => state.number() as u64,
+        ValidateAnswer::Refused(_) => 0,
+    }
+}
+
+// Where numbers are no route's, one that is too long stands for them: it is refused by 23 in its turn.
+fn asked_route(found: RouteFound) -> Route
+    ensures { λ r. ⌜ r ≡ askedRoute found ⌝ }
+{
+    match found {
+        RouteFound::Known(q) => q,
+        RouteFound::Unknown => Route {
+            prefix: RoutePrefix::IPv4(0),
+            length: 255,
+            origin: 0,
+        },
     }
 }
 
@@ -435,6 +471,37 @@ pub extern "C" fn hingemoss_listing(
         }
         SessionFound::Unknown => {
             *written = 0;
+            22
+        }
+    }
+}
+
+// Whether a route is good (RFC 6811) by the live table: 0 and its state, or the refusal.
+#[no_mangle]
+pub extern "C" fn hingemoss_validate(
+    session: &[u64],
+    live: &[u32],
+    working: &[u32],
+    hold: &[u8],
+    route: &[u32],
+    state: &mut u64,
+) -> u8
+    ensures { λ r. ⌜ validateGives r (now (state .exit)) ≡ validateC (now (session .entry)) (now (live .entry)) (now (working .entry)) (now (hold .entry)) (now (route .entry)) ⌝ }
+{
+    if route.len() != 6 {
+        *state = 0;
+        return 22;
+    }
+    let found = rtr_numbers::session_of(session);
+    match found {
+        SessionFound::Known(s) => {
+            let asked = asked_route(rtr_origin::route_of(route));
+            let answer = rtr_origin::validate(s, live, working, hold, asked);
+            *state = validate_state(answer);
+            validate_number(answer)
+        }
+        SessionFound::Unknown => {
+            *state = 0;
             22
         }
     }

@@ -90,6 +90,10 @@ ordered-at = keys.ordered-at
 pub in-rule-at : (d : Record) (t : List Record) (i : ℕ) → isTable t ≡ true → i < length t → inRule (getD t i d) ≡ true
 in-rule-at = keys.in-rule-at
 
+-- a record is in exactly where it stands at some place
+pub in-exactly : (d r : Record) (t : List Record) → isIn r t ≡ true ↔ ((i : ℕ) × (i < length t) × (getD t i d ≡ r))
+in-exactly = keys.in-exactly
+
 -- a record in rule is no longer than its max, and that no longer than 128
 pub in-rule-lengths : (r : Record) → inRule r ≡ true → (prefixOf r ≤ maxOf r) × (maxOf r ≤ 128)
 in-rule-lengths = keys.in-rule-lengths

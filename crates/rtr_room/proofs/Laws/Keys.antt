@@ -1,18 +1,19 @@
 -- Tables by places, for those who look things up: a record is before another exactly where its key is lower at the first number in which they
--- differ; of two places of a table the lower has the record that is before; and what stands in a table is in rule. By the keys' numbers, and
+-- differ; of two places of a table the lower has the record that is before; what stands in a table is in rule, and a
+-- record is in where it stands somewhere. By the keys' numbers, and
 -- by the table. Assumes nothing.
 use Prim.Native.Nat.{ℕ, zero, suc, _<_, _≤_}
 use mathlib.Core.Bool.{Bool, true, false, _&&_, _||_, false≢true}
 use mathlib.Core.List.{List, [], _∷_}
 use mathlib.Core.Logic.{_↔_, _⊎_, inl, inr}
-use mathlib.Core.Path.{_≡_, refl, sym, ap, _∙_}
+use mathlib.Core.Path.{_≡_, refl}
 use native.Mathlib.Omega.{arith}
 use borrow.Author.Tests.{ltb-true, leb-true, eqb-true, lt-ltb, le-ltb, eq-eqb}
 use lib.Dec.{leb, ltb, eqb}
 use lib.ListN.{length, getD}
-use Rattle.rtr_room.specs.Table.{familyOf, prefixOf, maxOf, lengthsWithin, inRule, key, lower, before, ordered, allInRule, isTable, rank}
+use Rattle.rtr_room.specs.Table.{familyOf, prefixOf, maxOf, lengthsWithin, inRule, key, lower, before, ordered, allInRule, isTable, same, isIn, rank}
 use Rattle.rtr_room.specs.declared.Record.{Record}
-use Rattle.rtr_room.proofs.Laws.Tests.{first-of, second-of, both}
+use Rattle.rtr_room.proofs.Laws.Tests.{first-of, second-of}
 use Rattle.rtr_room.proofs.Laws.Order.{same-is-equal}
 use Rattle.rtr_room.proofs.Laws.Ranks.{before-rank, only-at-rank}
 
@@ -59,10 +60,41 @@ in-rule-at d t i h l = go t i (first-of (allInRule t) _ h) l
     go (x ∷ t) zero e l = first-of (inRule x) _ e
     go (x ∷ t) (suc i) e l = go t i (second-of (inRule x) _ e) (omega arith)
 
+-- a record is in exactly where it stands at some place
+in-out : (d r : Record) (t : List Record) → isIn r t ≡ true → (i : ℕ) × (i < length t) × (getD t i d ≡ r)
+unfolding isIn
+in-out d r [] e = absurd (false≢true e)
+in-out d r (x ∷ t) e = go (same x r) refl e (in-out d r t)
+  where
+    go : (b : Bool) → same x r ≡ b → b || isIn r t ≡ true → (isIn r t ≡ true → (i : ℕ) × (i < length t) × (getD t i d ≡ r))
+        → (i : ℕ) × (i < suc (length t)) × (getD (x ∷ t) i d ≡ r)
+    go true f e rest = (0, omega arith, same-is-equal x r .0 f)
+    go false f e rest = let k = rest e in (suc (k .0), omega (arith, k .1), k .2)
+
+in-in : (d r : Record) (t : List Record) (i : ℕ) → i < length t → getD t i d ≡ r → isIn r t ≡ true
+unfolding isIn
+in-in d r [] i l e = absurd (omega arith)
+in-in d r (x ∷ t) zero l e = rw (same-is-equal x r .1 e)
+in-in d r (x ∷ t) (suc i) l e = go (same x r) (in-in d r t i (omega arith) e)
+  where
+    go : (b : Bool) → isIn r t ≡ true → b || isIn r t ≡ true
+    go true f = refl
+    go false f = f
+
+pub in-exactly : (d r : Record) (t : List Record) → isIn r t ≡ true ↔ ((i : ℕ) × (i < length t) × (getD t i d ≡ r))
+in-exactly d r t = (in-out d r t, λ k. in-in d r t (k .0) (k .1) (k .2))
+
 -- a record in rule is no longer than its max, and that no longer than 128
+either : (a b c d e : Bool) → (a && (b && c)) || (d && e) ≡ true → (b ≡ true) ⊎ (e ≡ true)
+either a true c d e h = inl refl
+either true false c true e h = inr h
+either true false c false e h = absurd (false≢true h)
+either false false c true e h = inr h
+either false false c false e h = absurd (false≢true h)
+
 pub in-rule-lengths : (r : Record) → inRule r ≡ true → (prefixOf r ≤ maxOf r) × (maxOf r ≤ 128)
 unfolding inRule
-in-rule-lengths r e = go (eqb (familyOf r) 4) (eqb (familyOf r) 6) e
+in-rule-lengths r e = go (either (eqb (familyOf r) 4) (lengthsWithin 32 r) _ (eqb (familyOf r) 6) (lengthsWithin 128 r) e)
   where
     within : (limit : ℕ) → limit ≤ 128 → lengthsWithin limit r ≡ true → (prefixOf r ≤ maxOf r) × (maxOf r ≤ 128)
     within limit n f =
@@ -70,12 +102,6 @@ in-rule-lengths r e = go (eqb (familyOf r) 4) (eqb (familyOf r) 6) e
         let b = leb-true (maxOf r) limit (second-of (leb (prefixOf r) (maxOf r)) _ f) in
         (a, omega arith)
 
-    four : (b : Bool) → (lengthsWithin 32 r && (eqb (r .w1) 0 && (eqb (r .w2) 0 && eqb (r .w3) 0))) || (b && lengthsWithin 128 r) ≡ true → (c : Bool) → (lengthsWithin 32 r && (eqb (r .w1) 0 && (eqb (r .w2) 0 && eqb (r .w3) 0))) ≡ c → (prefixOf r ≤ maxOf r) × (maxOf r ≤ 128)
-    four b f true g = within 32 (omega arith) (first-of _ _ g)
-    four true f false g = within 128 (omega arith) (rw g at f)
-    four false f false g = absurd (false≢true (rw g at f))
-
-    go : (a b : Bool) → (a && (lengthsWithin 32 r && (eqb (r .w1) 0 && (eqb (r .w2) 0 && eqb (r .w3) 0)))) || (b && lengthsWithin 128 r) ≡ true → (prefixOf r ≤ maxOf r) × (maxOf r ≤ 128)
-    go true b f = four b f (lengthsWithin 32 r && (eqb (r .w1) 0 && (eqb (r .w2) 0 && eqb (r .w3) 0))) refl
-    go false true f = within 128 (omega arith) f
-    go false false f = absurd (false≢true f)
+    go : (lengthsWithin 32 r ≡ true) ⊎ (lengthsWithin 128 r ≡ true) → (prefixOf r ≤ maxOf r) × (maxOf r ≤ 128)
+    go (inl f) = within 32 (omega arith) f
+    go (inr f) = within 128 (omega arith) f

@@ -1,0 +1,16 @@
+-- `Laws`, `Samples`, `Shaped`, `Numbers`, `Unique` and `Engines` are for readers and other crates; the others are the argument. `Leading` and `Hosts` have the words that `Laws` speaks in.
+pub mod Laws
+pub mod Leading
+pub mod Hosts
+pub mod Samples
+pub mod Shaped
+pub mod Numbers
+pub mod Unique
+pub mod Engines
+mod Addresses
+mod Walks
+mod Bits
+mod Judging
+mod Tabled
+mod Engine
+mod Answers
