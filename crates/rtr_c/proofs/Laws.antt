@@ -28,9 +28,7 @@ use Rattle.rtr_pdu_numbers.specs.Back.{pduOf}
 use Rattle.rtr_numbers.specs.declared.SessionFound.{SessionFound}
 use Rattle.rtr_pdu_numbers.specs.declared.PduFound.{PduFound}
 use Rattle.rtr_numbers.proofs.Laws.{numbers-of-session}
-use Rattle.rtr_origin.specs.Promises.{RouteSays, validateSays}
 use Rattle.rtr_origin.specs.Numbers.{routeOf}
-use Rattle.rtr_origin.specs.declared.Route.{Route}
 use Rattle.rtr_origin.specs.declared.RouteFound.{RouteFound}
 use Rattle.rtr_origin.proofs.Shaped as origin
 use Rattle.rtr_c.specs.Calls.{startGives, startLeft, startFound, startC, askGives, askLeft, askFound, fullAskC, changeAskC, feedGives, feedLeft, feedFound, feedC, reconnectGives, reconnectLeft, reconnectFound, reconnectC, notifyGives, notifyLeft, notifyFound, notifyC, encodeGives, encodeLeft, encodeFound, encodeC, listingFound, listingC, validateGives, validateLeft, validateFound, validateC}

@@ -5,7 +5,6 @@ use mathlib.Core.List.{List}
 use mathlib.Core.Path.{_≡_, refl, sym, ap, _∙_}
 use native.Mathlib.Omega.{arith}
 use borrow.Author.Tests.{eq-eqb, ne-eqb}
-use lib.Dec.{eqb}
 use lib.ListN.{length}
 use Rattle.rtr_receiver.specs.History.{hasTable}
 use Rattle.rtr_receiver.specs.Promises.{isReceiver}
@@ -13,13 +12,13 @@ use Rattle.rtr_receiver.specs.declared.LiveTable.{LiveTable}
 use Rattle.rtr_receiver.specs.declared.Session.{Session}
 use Rattle.rtr_numbers.specs.Back.{sessionOf}
 use Rattle.rtr_numbers.specs.declared.SessionFound.{SessionFound}
-use Rattle.rtr_origin.specs.Promises.{RouteSays, validateSays, routeSaid}
+use Rattle.rtr_origin.specs.Promises.{validateSays, routeSaid}
 use Rattle.rtr_origin.specs.Numbers.{routeOf}
 use Rattle.rtr_origin.specs.declared.Route.{Route}
 use Rattle.rtr_origin.specs.declared.RouteFound.{RouteFound}
 use Rattle.rtr_origin.specs.declared.ValidateAnswer.{ValidateAnswer}
 use Rattle.rtr_origin.proofs.Shaped as origin
-use Rattle.rtr_c.specs.Calls.{ValidateLeft, validateGives, validateLeft, validateFound, validateC}
+use Rattle.rtr_c.specs.Calls.{validateGives, validateLeft, validateFound, validateC}
 use Rattle.rtr_c.specs.Private.{validateNumber, validateState, askedRoute}
 
 -- the numbers of the code's answer are those of what it says

@@ -3,10 +3,10 @@ use mathlib.Core.List.{List, [], _∷_}
 use mathlib.Core.Path.{_≡_, refl}
 use Rattle.rtr_room.specs.Table.{ipv4Record, ipv6Record}
 use Rattle.rtr_room.specs.declared.Record.{Record}
-use Rattle.rtr_models.specs.declared.Ipv6Addr.{Ipv6Addr}
-use Rattle.rtr_origin.specs.Origin.{agree, covers, matches, any, stateOf}
+use Rattle.rtr_origin.specs.Origin.{agree, covers, matches, any, stateOf, stateNumber}
+use Rattle.rtr_origin.specs.Promises.{routeRefusal}
+use Rattle.rtr_origin.specs.declared.ValidateError.the-variants.{NotAReceiver, NoTable, TooLong}
 use Rattle.rtr_origin.specs.declared.RoutePrefix.the-variants.{IPv4, IPv6}
-use Rattle.rtr_origin.specs.declared.Route.{Route}
 use Rattle.rtr_origin.specs.declared.RouteState.the-variants.{NotFound, Valid, Invalid}
 
 -- 10.0.0.0/8 to 24 of AS 64496; 10.1.2.3/16 of AS 64497, its host bits kept; 2001:db8:a000::/36 to 48 of AS 64496; 192.0.2.0/24 of AS 0
@@ -84,3 +84,10 @@ whole-address = refl
 pub last-bit : stateOf (record { prefix = IPv6 (record { w0 = 1; w1 = 2; w2 = 3; w3 = 5 }); length = 128; origin = 64496 }) host ≡ NotFound
 unfolding stateOf any matches covers agree
 last-bit = refl
+
+-- document 02's numbers: of the states (request Two) and of the refusals (request One)
+pub numbers-of-states : (stateNumber NotFound ≡ 0) × (stateNumber Valid ≡ 1) × (stateNumber Invalid ≡ 2)
+numbers-of-states = (refl, refl, refl)
+
+pub numbers-of-refusals : (routeRefusal NotAReceiver ≡ 22) × (routeRefusal NoTable ≡ 21) × (routeRefusal TooLong ≡ 23)
+numbers-of-refusals = (refl, refl, refl)

@@ -1,7 +1,7 @@
 -- The code's calls are the steps of a run: each contract, as Rattle reads it off the source, is the step of specs/Runs.antt. So what is proved of runs is proved of the code; a
 -- contract that is weakened breaks this file. A slice that is lent keeps its length. Assumes nothing.
 use mathlib.Core.List.{[]}
-use mathlib.Core.Path.{_≡_, refl}
+use mathlib.Core.Path.{refl}
 use denote.Ref.{now}
 use lib.ListN.{length}
 use Rattle.rtr_receiver.specs.Promises.{recordLimit}

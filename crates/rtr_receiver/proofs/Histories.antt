@@ -2,7 +2,7 @@
 -- update exactly where the page finishes one (`Follows`). So each byte, ask and reconnect leads from receiver and place to receiver and place (`Leads`): the updates that finish between make the new live table, are
 -- as many as a feed counts (`Counts`), and come before those still to come. Assumes nothing.
 use Prim.Native.Nat.{ℕ, _+_}
-use mathlib.Core.Bool.{Bool, true, false, cond, _&&_, false≢true}
+use mathlib.Core.Bool.{Bool, true, false, cond, false≢true}
 use mathlib.Core.List.{List, [], _∷_, _++_, append-assoc, append-nil}
 use mathlib.Core.Path.{_≡_, refl, sym, ap, _∙_, subst}
 use native.Mathlib.Omega.{arith}

@@ -3,7 +3,7 @@
 -- table, updates, phase with its stop and working table are what History's page says, which knows nothing of these steps (`receives-history`). Assumes nothing.
 use Prim.Native.Nat.{ℕ, _+_, _-_}
 use mathlib.Core.Bool.{Bool, true, false, cond}
-use mathlib.Core.List.{List, [], _∷_, _++_, append-assoc, append-nil}
+use mathlib.Core.List.{List, [], _∷_, _++_, append-nil}
 use mathlib.Core.Logic.{_⊎_, inl, inr}
 use mathlib.Core.Path.{_≡_, refl, sym, ap, _∙_, subst}
 use native.Mathlib.Omega.{arith}
@@ -13,16 +13,15 @@ use Rattle.rtr_models.specs.declared.RtrProtocolVersion.{RtrProtocolVersion}
 use Rattle.rtr_codec.specs.Reading.{inUse}
 use Rattle.rtr_stream.specs.Stream.{Heard, judge}
 use Rattle.rtr_stream.proofs.Laws.{nothing-waits}
-use Rattle.rtr_receiver.specs.Contents.{Contents}
 use Rattle.rtr_receiver.specs.Receiver.{Stage, Receiver, Feed, fresh, holding, inStage, heard, listens, onPdu, onByte, onPiece, feed, fullQuery, serialQuery, changeQuery, ask, reconnected, notified}
-use Rattle.rtr_receiver.specs.History.{Event, Update, Live, Place, noTable, withAll, base, withUpdates, tableOf, finished, standsAfter}
-use Rattle.rtr_receiver.specs.Promises.{Left, FeedSays, NotifySays, receiverOf, stageOf, leaves, inMemory, endingOf, fedTo, feedSays, askedTo, fullAskSays, changeAskSays, reconnectSays, notifySays}
+use Rattle.rtr_receiver.specs.History.{Event, Update, Place, withUpdates, tableOf, finished, standsAfter}
+use Rattle.rtr_receiver.specs.Promises.{Left, FeedSays, NotifySays, receiverOf, stageOf, inMemory, endingOf, fedTo, feedSays, askedTo, fullAskSays, changeAskSays, reconnectSays, notifySays}
 use Rattle.rtr_receiver.specs.Receives.{asking, onEvent, onEvents, receives, stageAt, workingAt}
-use Rattle.rtr_receiver.specs.Runs.{Call, Memory, Step, Run, bytes, historyOf, leftIn}
+use Rattle.rtr_receiver.specs.Runs.{Call, Memory, Run, bytes, historyOf, leftIn}
 use Rattle.rtr_receiver.specs.declared.LoadKind.{LoadKind}
 use Rattle.rtr_receiver.specs.declared.LiveTable.{LiveTable}
 use Rattle.rtr_receiver.proofs.Feeds.{from}
-use Rattle.rtr_receiver.proofs.Good.{Good, fresh-good, loadingIn}
+use Rattle.rtr_receiver.proofs.Good.{fresh-good, loadingIn}
 use Rattle.rtr_receiver.proofs.Histories.{At, Leads, liveOf, onward-by, all-between, ends-there, full-is, change-is, byte-follows, full-follows, change-follows, reconnect-follows, Quietly}
 use Rattle.rtr_receiver.proofs.Runs.{Sound, Stands, after, start-stands, in-shape, is-receiver, step-stands, history-snoc, byte-sound, full-sound, change-sound, reconnect-sound}
 use Rattle.rtr_receiver.proofs.Shaped.{shaped-feed, shaped-full-ask, shaped-change-ask, shaped-reconnect, shaped-notify}

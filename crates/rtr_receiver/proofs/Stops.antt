@@ -2,16 +2,16 @@
 -- over all later calls up to the next reconnect (`stop-holds`): memory stays as it is (the hold past the held count is anyone's), every feed takes nothing and says the same stop, every ask is refused by 20 and leaves its output. `refused-full-keeps`, `refused-change-keeps`:
 -- what a refused ask of a run leaves. Assumes nothing.
 use Prim.Native.Nat.{ℕ, suc, _*_, _<_}
-use mathlib.Core.Bool.{Bool, true, false, cond, _||_}
+use mathlib.Core.Bool.{true, false}
 use mathlib.Core.List.{List, [], _∷_, _++_}
-use mathlib.Core.Path.{_≡_, refl, sym, ap, _∙_, subst}
+use mathlib.Core.Path.{_≡_, refl, sym, ap, _∙_}
 use native.Mathlib.Omega.{arith}
 use lib.ListN.{length, take, replicate}
 use Rattle.rtr_models.specs.declared.RtrProtocolVersion.{RtrProtocolVersion}
 use Rattle.rtr_encode.specs.Encode.{Writing}
 use Rattle.rtr_room.proofs.Laws.{empty-is}
-use Rattle.rtr_receiver.specs.Contents.{Rooms, countsOf, roomsOf}
-use Rattle.rtr_receiver.specs.Receiver.{Stage, Receiver, Feed, stop, feed, fullQuery, changeQuery, listens, onPiece, ask}
+use Rattle.rtr_receiver.specs.Contents.{countsOf, roomsOf}
+use Rattle.rtr_receiver.specs.Receiver.{Stage, Receiver, Feed, stop, feed, fullQuery, changeQuery, listens, ask}
 use Rattle.rtr_receiver.specs.Receiver.Stage.{stopped}
 use Rattle.rtr_receiver.specs.Promises.{Left, Ending, FeedSays, AskSays, isReceiver, receiverOf, stageOf, leaves, inMemory, fedSaidBy, feedSays, askedTo, askSaid, askWriting, fullAskSays, changeAskSays}
 use Rattle.rtr_receiver.specs.Receives.{receives}
@@ -19,14 +19,12 @@ use Rattle.rtr_receiver.specs.Runs.{Call, Memory, Step, Steps, Run, hist
 use Rattle.rtr_receiver.specs.declared.LoadKind.{LoadKind}
 use Rattle.rtr_receiver.specs.declared.Session.{Session}
 use Rattle.rtr_receiver.specs.declared.AskAnswer.{AskAnswer}
-use Rattle.rtr_receiver.specs.declared.Done.{Done}
 use Rattle.rtr_receiver.specs.declared.FeedAnswer.{FeedAnswer}
 use Rattle.rtr_receiver.proofs.Feeds.{from}
 use Rattle.rtr_receiver.proofs.Memory.{standing}
 use Rattle.rtr_receiver.proofs.Kept.{Cleared, piece-keeps}
 use Rattle.rtr_receiver.proofs.Laws.{keeps-shape, stop-clears, stop-repeats, refused-keeps-full, refused-keeps-change}
-use Rattle.rtr_receiver.proofs.Receives.{memory-is, receives-piece, piece-after, stands-for-history}
-use Rattle.rtr_receiver.proofs.Runs.{Stands, in-shape, is-receiver, step-stands}
+use Rattle.rtr_receiver.proofs.Receives.{memory-is, receives-piece, piece-after}
 use Rattle.rtr_receiver.proofs.Shaped.{shaped-full-ask, shaped-change-ask}
 
 -- ---- What a stop leaves

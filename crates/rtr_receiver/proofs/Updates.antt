@@ -23,7 +23,7 @@ use Rattle.rtr_stream.specs.Stream.{Heard, judge}
 use Rattle.rtr_stream.proofs.Laws.{whole-is-read}
 use Rattle.rtr_room.specs.Table.{Change, ipv4Record, ipv6Record}
 use Rattle.rtr_receiver.specs.Contents.{Contents, Entry}
-use Rattle.rtr_receiver.specs.History.{Event, Changed, Update, Live, Item, Place, Next, noTable, applied, kept, withAll, base, updated, withUpdates, tableOf, itemsBy, items, hasTable, onAsk, ofSession, isDueAt, kindAt, sessionAt, recordsAt, onResponse, takenIn, onPrefix, endSays, onEnd, onTold, ofVersion, onPduAt, unlessLost, onItem, orFinished, outcome, finished}
+use Rattle.rtr_receiver.specs.History.{Event, Changed, Update, Live, Item, Place, Next, noTable, applied, kept, withAll, base, updated, withUpdates, tableOf, itemsBy, items, hasTable, onAsk, ofSession, isDueAt, kindAt, sessionAt, recordsAt, onResponse, takenIn, onPrefix, endSays, onTold, ofVersion, onPduAt, unlessLost, onItem, orFinished, outcome, finished}
 use Rattle.rtr_receiver.specs.History.Next.{goes, finishes}
 use Rattle.rtr_receiver.specs.Runs.{Call, Memory, Run, historyOf}
 use Rattle.rtr_receiver.specs.declared.LoadKind.{LoadKind}
@@ -59,6 +59,19 @@ module _ (limit : ℕ) (v : RtrProtocolVersion) (P : Live → Place → Type 0) 
       go : ((l : Live) (q : Place) → P l q → Each l (outcome limit v l q is .updates)) → (n : Next) → Fine live n → Each live (orFinished limit live n (λ l q. outcome limit v l q is) .updates)
       go rest (goes q) f = rest live q f
       go rest (finishes u) f = (f, rest (updated limit live u) Place.idle (idle (updated limit live u)))
+
+  -- a lost connection stays lost
+  still-lost : (live : Live) (p : Place) (n : Next) → ((number : ℕ) (values : List ℕ) → P live (Place.lost number values)) → Fine live n → Fine live (unlessLost p n)
+  still-lost live Place.idle n lost x = x
+  still-lost live Place.mustReset n lost x = x
+  still-lost live (Place.asked kind) n lost x = x
+  still-lost live (Place.loading kind session cs) n lost x = x
+  still-lost live (Place.lost number values) n lost x = lost number values
+
+  -- by a test
+  fine-if : (live : Live) (b : Bool) (n n′ : Next) → (b ≡ true → Fine live n) → Fine live n′ → Fine live (cond b n n′)
+  fine-if live true n n′ x y = x refl
+  fine-if live false n n′ x y = y
 
   -- one among them
   one-of : (before : List Update) (u : Update) (later : List Update) (live : Live) → Each live (before ++ u ∷ later) → Q (withUpdates limit live before) u
@@ -96,8 +109,7 @@ module _ (limit : ℕ) where
   Well live n = Fine limit V1 Applying Applied AnyItem live n
 
   either : (live : Live) (b : Bool) (n n′ : Next) → Well live n → Well live n′ → Well live (cond b n n′)
-  either live true n n′ x y = x
-  either live false n n′ x y = y
+  either live b n n′ x y = fine-if limit V1 Applying Applied AnyItem live b n n′ (λ _. x) y
 
   either-place : (live : Live) (b : Bool) (p p′ : Place) → Applying live p → Applying live p′ → Applying live (cond b p p′)
   either-place live true p p′ x y = x
@@ -146,17 +158,10 @@ module _ (limit : ℕ) where
         either live (eqb (typeNumber (typeOf pdu)) 10) n (cond (ofVersion v pdu) due (goes (Place.lost 14 []))) told
         (either live (ofVersion v pdu) due (goes (Place.lost 14 [])) (either live (isDueAt (typeOf pdu) p) n (goes (Place.lost 13 [])) told tt) tt)
 
-    unless-lost : (live : Live) (p : Place) (n : Next) → Well live n → Well live (unlessLost p n)
-    unless-lost live Place.idle n x = x
-    unless-lost live Place.mustReset n x = x
-    unless-lost live (Place.asked kind) n x = x
-    unless-lost live (Place.loading kind session cs) n x = x
-    unless-lost live (Place.lost number values) n x = tt
-
     item-applies : (live : Live) (p : Place) (i : Item) → AnyItem i → Applying live p → Well live (onItem limit v live p i)
     item-applies live p (Item.asks kind space) any a = ask-applies live p kind space a
-    item-applies live p (Item.told pdu) any a = unless-lost live p (onPduAt limit v live p pdu) (pdu-applies live p pdu a)
-    item-applies live p (Item.refusal number values) any a = unless-lost live p (goes (Place.lost number values)) tt
+    item-applies live p (Item.told pdu) any a = still-lost limit V1 Applying Applied AnyItem live p (onPduAt limit v live p pdu) (λ _ _. tt) (pdu-applies live p pdu a)
+    item-applies live p (Item.refusal number values) any a = still-lost limit V1 Applying Applied AnyItem live p (goes (Place.lost number values)) (λ _ _. tt) tt
     item-applies live p Item.anew any a = tt
 
     any-items : (is : List Item) → All limit v Applying Applied AnyItem is
@@ -213,8 +218,7 @@ module _ (limit H : ℕ) where
   end-defaults q s V1 e k = absurd (let z : _≡_ {A = ℕ} 0 1 = cc in omega arith)
 
   zero-either : (live : Live) (b : Bool) (n n′ : Next) → (b ≡ true → Zero live n) → Zero live n′ → Zero live (cond b n n′)
-  zero-either live true n n′ x y = x refl
-  zero-either live false n n′ x y = y
+  zero-either = fine-if limit V0 AnyPlace OfDefaults WasRead
 
   -- the version, then the turn
   zero-turn : (live : Live) (p : Place) (pdu : RtrPdu) → (ofVersion V0 pdu ≡ true → Zero live (onTold limit live p pdu)) →
@@ -238,17 +242,10 @@ module _ (limit H : ℕ) where
   zero-told live p (RouterKey q) w = zero-turn live p (RouterKey q) (λ e. tt)
   zero-told live p (ErrorReport q) w = tt
 
-  zero-unless-lost : (live : Live) (p : Place) (n : Next) → Zero live n → Zero live (unlessLost p n)
-  zero-unless-lost live Place.idle n x = x
-  zero-unless-lost live Place.mustReset n x = x
-  zero-unless-lost live (Place.asked kind) n x = x
-  zero-unless-lost live (Place.loading kind session cs) n x = x
-  zero-unless-lost live (Place.lost number values) n x = tt
-
   zero-item : (live : Live) (p : Place) (i : Item) → WasRead i → AnyPlace live p → Zero live (onItem limit V0 live p i)
   zero-item live p (Item.asks kind space) w a = tt
-  zero-item live p (Item.told pdu) w a = zero-unless-lost live p (onPduAt limit V0 live p pdu) (zero-told live p pdu w)
-  zero-item live p (Item.refusal number values) w a = zero-unless-lost live p (goes (Place.lost number values)) tt
+  zero-item live p (Item.told pdu) w a = still-lost limit V0 AnyPlace OfDefaults WasRead live p (onPduAt limit V0 live p pdu) (λ _ _. tt) (zero-told live p pdu w)
+  zero-item live p (Item.refusal number values) w a = still-lost limit V0 AnyPlace OfDefaults WasRead live p (goes (Place.lost number values)) (λ _ _. tt) tt
   zero-item live p Item.anew w a = tt
 
   zero-each : (es : List Event) → Each limit V0 AnyPlace OfDefaults WasRead noTable (finished limit H V0 es)

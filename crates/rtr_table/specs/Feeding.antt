@@ -14,7 +14,6 @@ use Rattle.rtr_receiver.specs.declared.Fed.{Fed}
 use Rattle.rtr_receiver.specs.declared.FeedAnswer.{FeedAnswer}
 use Rattle.rtr_receiver.specs.declared.LoadKind.{LoadKind}
 use Rattle.rtr_receiver.specs.declared.Session.{Session}
-use Rattle.rtr_table.specs.declared.Ended.{Ended}
 use Rattle.rtr_table.specs.declared.HearAnswer.{HearAnswer}
 
 abbrev pub memory : Session → Rooms → Rooms → List ℕ → Memory

@@ -1,7 +1,7 @@
 -- `rtr_held::feed_in_place` meets its contract: InPlaceFeed.antt's walk, at the session record and `feed`. What is left for this file is what the slices own: each `&mut` slice goes to the callee at its own lifetime, share and name,
 -- and is given up for good (`gave-slice`); of each `&` slice, which can be copied, one copy is kept. All that the proof knows of `feed` is that it meets its contract, and what that ensures is what is said here, of the record at exit.
 -- Assumes nothing.
-use mathlib.Core.Path.{_≡_, refl}
+use mathlib.Core.Path.{refl}
 use Prim.Native.Nat.{ℕ}
 use mathlib.Core.List.{[], _∷_, List}
 use lib.ListN.{length}

@@ -1,5 +1,4 @@
 -- `as_record`: each family has its first number, and the length is a byte. Assumes nothing.
-use mathlib.Core.Path.{sym}
 use native.Mathlib.Omega.{arith}
 use Rattle.rtr_origin.proofs.Judging.{target-four, target-six}
 use borrow.Author.Needs.{needs}
