@@ -6,6 +6,7 @@
 #   kit_cc OUT WORD..    compiles the .c files among the words for x86-64 (other words go to the compiler), links them with the .a files, and writes OUT
 #   kit_archives NAME..  target/staticlib/libNAME.a, which is written where NAME is proved; one that is there is taken where neither the kit nor a file that it comes from has changed
 #   kit_driver OUT       builds tests/driver over rtr_c and test_calls
+#   kit_program NAME     sets PROGRAM: bin/NAME.c over rtr_c, built where it or rtr_c is new; false, with a reason in NAME's name, where that cannot be done
 #
 # Nothing is installed, and no header or library of the machine's is used: tests/libc declares what the tests need of C's library.
 kit_find() {
@@ -88,4 +89,21 @@ kit_driver() {
     local top
     top=$(cd "$(dirname "${BASH_SOURCE[0]}")/.." && pwd -P)
     kit_archives rtr_c test_calls && kit_cc "$1" -I "$top/tests/driver" "$top"/tests/driver/*.c "$top/target/staticlib/librtr_c.a" "$top/target/staticlib/libtest_calls.a"
+}
+
+# Only what has changed since the last time is proved and built; who may not write here runs what was built.
+kit_program() { # NAME
+    local name=$1 top library log said file
+    top=$(cd "$(dirname "${BASH_SOURCE[0]}")/.." && pwd -P)
+    said=$(kit_find 2>&1) || { echo "$name: $said" >&2; return 1; }
+    kit_find
+    PROGRAM=$top/target/bin/$name library=$top/target/staticlib/librtr_c.a log=$top/target/$name.log
+    [ ! -x "$PROGRAM" ] || [ -w "$top/target" ] || return 0
+    mkdir -p "$top/target/bin" || { echo "$name: cannot write to $top, where the program is to be built" >&2; return 1; }
+    (cd "$top" && [ -f "$library" ] && [ "$(cat target/staticlib/rtr_c.stamp 2>/dev/null)" = "$(kit_stamp rtr_c)" ]) || echo "$name: proving and building what is new; on first use this takes some minutes" >&2
+    kit_archives rtr_c >"$log" 2>&1 </dev/null || { tail -n 5 "$log" >&2; echo "$name: rtr_c is not proved or not built; all of it is in target/$name.log" >&2; return 1; }
+    for file in "$library" "$top/bin/$name.c" "$top/bin/route-text.h" "$top/include/hingemoss.h"; do
+        [ ! -x "$PROGRAM" ] || [ "$file" -nt "$PROGRAM" ] || continue
+        { kit_cc "$PROGRAM.new" "$top/bin/$name.c" "$library" >"$log" 2>&1 </dev/null && mv "$PROGRAM.new" "$PROGRAM"; } || { tail -n 5 "$log" >&2; echo "$name: cannot build the program" >&2; return 1; }
+    done
 }
