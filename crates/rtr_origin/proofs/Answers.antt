@@ -91,7 +91,8 @@ module _ (limit : ℕ) (s : Session) (live working : Rooms) (hold : List ℕ) (q
       go true true false e p = absurd (omega arith)
       go true true true e p = (e, refl)
 
-  -- a receiver's live room is the room of a table
+-- a receiver's live room is the room of a table
+module _ (limit : ℕ) (s : Session) (live working : Rooms) (hold : List ℕ) where
   of-limit : isReceiver limit s live working hold ≡ true → isRoom limit (s .live .records) live ≡ true
   of-limit e = go (isRoom limit (s .live .records) live) refl
     where
@@ -116,7 +117,7 @@ module _ (limit : ℕ) (s : Session) (live working : Rooms) (hold : List ℕ) (q
 
 -- 0 and 0 are always low enough
 pub under-none : (q : Route) (t : List Record) → Under 0 0 q t
-under-none q t = record { none-shorter = λ d i l f. omega arith; none-looser = λ d i l f p. omega arith }
+under-none q t = record { none-shorter = λ d i l f p. omega arith; none-looser = λ d i l f p. omega arith }
 
 -- ---- states
 

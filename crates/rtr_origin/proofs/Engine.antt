@@ -3,6 +3,7 @@
 use Prim.Native.Nat.{ℕ, _+_, _-_, _*_, _/_, _%_, _≤_, _<_}
 use mathlib.Core.Bool.{Bool, true, false}
 use mathlib.Core.List.{List, [], _∷_}
+use mathlib.Core.Logic.{⊎-elim}
 use mathlib.Core.Path.{_≡_, refl, sym, ap, _∙_, subst}
 use native.Mathlib.Omega.{arith}
 use lib.Dec.{ltb}
@@ -31,7 +32,7 @@ lt-of-ne {m} {n} h f = go (ltb m n) refl
 -- ---- probes
 
 module _ (a : Record) (b low asn : ℕ) (l : low < 65536) where
-  probe-words : words (probeOf a b low asn) ≡ cut b (words a)
+  pub probe-words : words (probeOf a b low asn) ≡ cut b (words a)
   unfolding probeOf
   probe-words =
       sym (cut-word b (a .w0) _ ∙ ap (λ (w : List ℕ). cutWord b (a .w0) ∷ w) (cut-word (b - 32) (a .w1) _
@@ -167,23 +168,32 @@ module _ (s : List ℕ) (count : ℕ) (h : isRoom (limitOf s) count s ≡ true) 
       at-most b w l n e =
           leb-true l b (sym (w .exactly l (omega arith)) ∙ (rw (sym (words-at (p - 1) last), k .words-are) e))
 
-      pub jumped : (to : ℕ) → to < p → Jumps least a (recordAt s (p - 1)) s count to → Going a s count best to
+      pub jumped : (to : ℕ) → to < p → Jumps least a (recordAt s (p - 1)) s count p to → Going a s count best to
       jumped to l j = record { below = λ i w. g .below i (omega arith); judged = λ i w c e. go i w c e (ltb i p) refl (ltb (j .bits) least) refl }
         where
+          searched : (i : ℕ) → to ≤ i → (c : i < count) → plain (recordAt s i) ≡ true → i < p → to ≡ rank (probeOf a (j .bits) (j .bits * 256 + 255) 4294967295) t → strength a (recordAt s i) ≤ best
+          searched i w c e x z =
+              quiet i best (λ o.
+              omega (
+                arith,
+                jump-misses-none q t (table-is s count h) d _ i (p - 1) (j .bits) (high-probe q a k (j .bits) (j .in-common .within)) (omega arith) (inside (p - 1) last)
+                    (family-at (p - 1) last f) near not-it (at-most (j .bits) (j .in-common)) (plain-at i c ∙ e) (covers-at i c ∙ o),
+                z,
+              ))
+
+          -- the next place down passes over the record that was looked at alone
+          stepped : (i : ℕ) → to ≤ i → i < p → to ≡ p - 1 → strength a (recordAt s i) ≤ best
+          stepped i w x z =
+              let n : i ≡ p - 1 = omega arith in
+              rw n (omega (arith, v))
+
           go : (i : ℕ) → to ≤ i → i < count → plain (recordAt s i) ≡ true → (b : Bool) → ltb i p ≡ b → (b′ : Bool) → ltb (j .bits) least ≡ b′ → strength a (recordAt s i) ≤ best
           go i w c e false x b′ y = g .judged i (ltb-false i p x) c e
           go i w c e true x true y =
               unless-covers i best c
               (too-short-ends q t (table-is s count h) d least loose i (p - 1) (j .bits) u (ltb-true _ _ y) (omega (arith, ltb-true i p x)) (inside (p - 1) last)
-              (family-at (p - 1) last f) near not-it (at-most (j .bits) (j .in-common)))
-          go i w c e true x false y =
-              quiet i best (λ o.
-              omega (
-                arith,
-                jump-misses-none q t (table-is s count h) d _ i (p - 1) (j .bits) (high-probe q a k (j .bits) (j .in-common .within)) (omega (arith, ltb-true i p x)) (inside (p - 1) last)
-                    (family-at (p - 1) last f) near not-it (at-most (j .bits) (j .in-common)) (plain-at i c ∙ e) (covers-at i c ∙ o),
-                j .goes (ltb-false _ _ y),
-              ))
+              (family-at (p - 1) last f) near not-it (at-most (j .bits) (j .in-common)) (plain-at i c ∙ e))
+          go i w c e true x false y = ⊎-elim (searched i w c e (ltb-true i p x)) (stepped i w (ltb-true i p x)) (j .goes (ltb-false _ _ y))
 
   -- ---- the run
 

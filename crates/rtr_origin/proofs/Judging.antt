@@ -1,9 +1,9 @@
 -- How strongly records speak for a route: the tests of one record, the strongest of many as bounds (it bounds each, and what bounds each
 -- bounds it), and the page's state from it. By the cases of each test, and by induction over the records. Assumes nothing.
 use Prim.Native.Nat.{ℕ, zero, suc, _+_, _*_, _/_, _%_, _≤_, _<_}
-use mathlib.Core.Bool.{Bool, true, false, cond, _||_}
+use mathlib.Core.Bool.{Bool, true, false, cond, _&&_, _||_}
 use mathlib.Core.List.{List, [], _∷_, _++_}
-use mathlib.Core.Path.{_≡_, refl, sym}
+use mathlib.Core.Path.{_≡_, refl, sym, _∙_}
 use native.Mathlib.Omega.{arith}
 use lib.Dec.{leb, ltb, eqb}
 use borrow.Author.Tests.{ltb-true, ltb-false, eq-eqb, ne-eqb, le-leb, lt-leb}
@@ -12,7 +12,7 @@ use Rattle.rtr_room.specs.Table.{familyOf, prefixOf, maxOf}
 use Rattle.rtr_room.specs.Room.{records, recordAt}
 use Rattle.rtr_room.specs.declared.Record.{Record}
 use Rattle.rtr_room.proofs.Laws.{records-none, records-next}
-use Rattle.rtr_origin.specs.Origin.{words, covers, matches, any, stateOf}
+use Rattle.rtr_origin.specs.Origin.{words, agree, covers, matches, any, stateOf}
 use Rattle.rtr_origin.specs.Judged.{Asks, Common, targetOf, coversBy, matchesBy, strength, strongest, named}
 use Rattle.rtr_origin.specs.declared.Route.{Route}
 use Rattle.rtr_origin.specs.declared.RoutePrefix.{RoutePrefix}
@@ -34,9 +34,22 @@ module _ (a x : Record) where
   unfolding coversBy
   as-common f h r k = rw (eq-eqb (familyOf x) (familyOf a) f, le-leb (prefixOf x) (prefixOf a) h) (sym (k .exactly (prefixOf x) (omega arith)))
 
+  -- where fewer bits are in common than the record is long it does not cover, whatever its family and its length
+  few : (r : ℕ) → Common (words x) (words a) r → r < prefixOf x → coversBy a x ≡ false
+  unfolding coversBy
+  few r k h = go (eqb (familyOf x) (familyOf a)) (leb (prefixOf x) (prefixOf a)) (agree (prefixOf x) (words x) (words a)) (k .exactly (prefixOf x) (omega arith) ∙ lt-leb (prefixOf x) r h)
+    where
+      go : (f l b : Bool) → b ≡ false → f && (l && b) ≡ false
+      go true true b e = e
+      go true false b e = refl
+      go false l b e = refl
+
   pub uncovered : coversBy a x ≡ false → 0 ≡ strength a x
   unfolding strength matchesBy
   uncovered e = rw e
+
+  pub few-in-common : (r n : ℕ) → Common (words x) (words a) r → n ≡ prefixOf x → r < n → 0 ≡ strength a x
+  few-in-common r n k e h = uncovered (few r k (omega (arith, e)))
 
   module _ (e : coversBy a x ≡ true) where
     pub over-max : maxOf x < prefixOf a → 1 ≡ strength a x

@@ -7,12 +7,11 @@ use mathlib.Core.Path.{_≡_, sym, ap, _∙_}
 use native.Mathlib.Omega.{arith}
 use lib.ListN.{length, getD}
 use Rattle.rtr_room.specs.Table.{isTable, ordered, allInRule, isIn, rank}
-use Rattle.rtr_room.specs.Room.{Found, room, records, recordAt, recordFound, isRoom, limitOf, lookUp, found}
+use Rattle.rtr_room.specs.Room.{Found, room, records, recordAt, isRoom, limitOf, lookUp, found}
 use Rattle.rtr_room.specs.Room.Found.{standsAt, missingAt}
 use Rattle.rtr_room.specs.declared.Record.{Record}
 use Rattle.rtr_room.specs.declared.LookUp.{LookUp}
-use Rattle.rtr_room.specs.declared.RecordFound.{RecordFound}
-use Rattle.rtr_room.proofs.Laws.{records-of-room, record-of-room, records-length, rules-exactly, rules-size, look-up-is, found-inside}
+use Rattle.rtr_room.proofs.Laws.{records-of-room, record-of-room, records-length, rules-exactly, rules-size, look-up-is}
 use Rattle.rtr_room.proofs.Laws.Tests.{second-of}
 use Rattle.rtr_room.proofs.Laws.Ranks.{rank-within}
 
@@ -75,16 +74,3 @@ module _ (s : List ℕ) (count : ℕ) (h : isRoom (limitOf s) count s ≡ true) 
 
   pub ranked-never : (a : LookUp) → a ≡ LookUp.NotARoom → found a ≡ lookUp s count r → ⊥
   ranked-never a e f = never-refused (isIn r (records count s)) 22 _ (sym (ap found e) ∙ f ∙ rank-is s count h r)
-
--- a record that is there is found
-module _ (s : List ℕ) (i : ℕ) where
-  pub found-it : (f : RecordFound) (x : Record) → f ≡ RecordFound.Found x → f ≡ recordFound s i → 6 * i + 6 ≤ length s → x ≡ recordAt s i
-  found-it f x e g h =
-      let k : RecordFound.Found x ≡ RecordFound.Found (recordAt s i) = sym e ∙ g ∙ found-inside s i h in
-      cc
-
-  pub found-not : (f : RecordFound) → f ≡ RecordFound.Outside → f ≡ recordFound s i → 6 * i + 6 ≤ length s → ⊥
-  found-not f e g h =
-      let k : RecordFound.Outside ≡ RecordFound.Found (recordAt s i) = sym e ∙ g ∙ found-inside s i h in
-      let z : _≡_ {A = ℕ} 0 1 = cc in
-      omega arith

@@ -176,14 +176,14 @@ module _ (q : Route) (t : List Record) (h : isTable t ≡ true) (d : Record) whe
       → plain (getD t i d) ≡ true → covers q (getD t i d) ≡ true → i < rank k t
   jump-misses-none k i j b p l m f u co at pl ci = plain-before-probe k b i p (omega arith) pl ci (no-longer i j b l m f u co at ci)
 
-  -- and where those bits are fewer than any record of the family has, none covers
+  -- and where those bits are fewer than any plain record of the family has, no plain one covers
   pub too-short-ends : (least loose i j b : ℕ) → Under least loose q t → b < least → i ≤ j → j < length t
       → familyOf (getD t j d) ≡ familyIn (q .prefix) → upTo (words (getD t j d)) (wordsIn (q .prefix)) ≡ true
-      → covers q (getD t j d) ≡ false → AtMost b (words (getD t j d)) (wordsIn (q .prefix)) → covers q (getD t i d) ≡ false
-  too-short-ends least loose i j b un s l m f u co at =
+      → covers q (getD t j d) ≡ false → AtMost b (words (getD t j d)) (wordsIn (q .prefix)) → plain (getD t i d) ≡ true → covers q (getD t i d) ≡ false
+  too-short-ends least loose i j b un s l m f u co at pl =
       unless (covers q (getD t i d))
       (λ ci. let x = no-longer i j b l m f u co at ci in
-      let y = un .none-shorter d i (omega arith) (covers-parts q (getD t i d) ci .0) in
+      let y = un .none-shorter d i (omega arith) (covers-parts q (getD t i d) ci .0) pl in
       omega arith)
 
   -- before a record of a lower family none covers
@@ -268,7 +268,7 @@ module _ (q : Route) (t : List Record) (h : isTable t ≡ true) (d : Record) whe
 
 -- 0 and 0 are low enough for every table
 pub under-zero : (q : Route) (t : List Record) → Under 0 0 q t
-under-zero q t = record { none-shorter = λ d i l f. omega arith; none-looser = λ d i l f p. omega arith }
+under-zero q t = record { none-shorter = λ d i l f p. omega arith; none-looser = λ d i l f p. omega arith }
 
 -- ---- states by places
 

@@ -3,6 +3,7 @@
 use Prim.Native.Nat.{ℕ, _+_, _-_, _*_, _/_, _^_, _≤_, _<_}
 use mathlib.Core.Bool.{Bool, true, false, cond, not, _&&_}
 use mathlib.Core.List.{List, [], _∷_}
+use mathlib.Core.Logic.{_⊎_}
 use mathlib.Core.Path.{_≡_}
 use lib.Dec.{leb, eqb}
 use Rattle.rtr_receiver.specs.Contents.{Rooms}
@@ -88,12 +89,12 @@ probeOf a bits low asn =
 abbrev pub Found : Record → List ℕ → ℕ → ℕ → Type 0
 Found a s count r = r ≤ strongest a (records count s)
 
--- where a walk goes on: below the probe of the bits in common, or to the end where they are fewer than the least
-pub record Jumps (least : ℕ) (a x : Record) (s : List ℕ) (count r : ℕ) : Type 0 where
+-- where a walk goes on: to the end where fewer bits are in common than the least, else below the probe of those bits, or to the next place
+pub record Jumps (least : ℕ) (a x : Record) (s : List ℕ) (count p r : ℕ) : Type 0 where
   pub bits : ℕ
   pub in-common : Common (words x) (words a) bits
   pub ends : bits < least → r ≡ 0
-  pub goes : least ≤ bits → r ≡ rank (probeOf a bits (bits * 256 + 255) 4294967295) (records count s)
+  pub goes : least ≤ bits → (r ≡ rank (probeOf a bits (bits * 256 + 255) 4294967295) (records count s)) ⊎ (r ≡ p - 1)
 
 -- what a walk finds is there, and no plain record speaks stronger
 pub record Walked (least : ℕ) (a : Record) (s : List ℕ) (count r : ℕ) : Type 0 where

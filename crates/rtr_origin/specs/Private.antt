@@ -26,9 +26,10 @@ upTo (x ∷ xs) (y ∷ ys) = ltb x y || (eqb x y && upTo xs ys)
 unfoldable pub plain : Record → Bool
 plain r = agree 128 (words r) (cut (prefixOf r) (words r))
 
--- two numbers are low enough: no record of the route's family is shorter than the first, and none that is not plain shorter than the second
+-- two numbers are low enough: of the route's family no plain record is shorter than the first, and no other shorter than the second
 pub record Under (least loose : ℕ) (q : Route) (t : List Record) : Type 0 where
-  pub none-shorter : (d : Record) (i : ℕ) → i < length t → familyOf (getD t i d) ≡ familyIn (q .prefix) → least ≤ prefixOf (getD t i d)
+  pub none-shorter : (d : Record) (i : ℕ) → i < length t → familyOf (getD t i d) ≡ familyIn (q .prefix) → plain (getD t i d) ≡ true
+      → least ≤ prefixOf (getD t i d)
   pub none-looser : (d : Record) (i : ℕ) → i < length t → familyOf (getD t i d) ≡ familyIn (q .prefix) → plain (getD t i d) ≡ false
       → loose ≤ prefixOf (getD t i d)
 

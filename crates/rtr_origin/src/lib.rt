@@ -5,8 +5,6 @@ use rtr_receiver::Session;
 use rtr_receiver::is_receiver;
 use rtr_room::LookUp;
 use rtr_room::Record;
-use rtr_room::RecordFound;
-use rtr_room::get;
 use rtr_room::look_up;
 ghost use Prim.Native.Nat.{ℕ, _+_, _-_, _*_, _/_, _%_, _<_, _≤_};
 ghost use mathlib.Core.Bool.{true, not};
@@ -206,16 +204,14 @@ fn record_of(live: &[u32], i: usize) -> Record
     requires { ⌜ 6 * i + 6 ≤ length (now live) ⌝ }
     ensures { λ r. ⌜ r ≡ recordAt (now (live .entry)) i ⌝ }
 {
-    match get(live, i) {
-        RecordFound::Found(r) => r,
-        RecordFound::Outside => Record {
-            kind: 0,
-            w0: 0,
-            w1: 0,
-            w2: 0,
-            w3: 0,
-            asn: 0,
-        },
+    let at = 6 * i;
+    Record {
+        kind: live[at],
+        w0: live[at + 1],
+        w1: live[at + 2],
+        w2: live[at + 3],
+        w3: live[at + 4],
+        asn: live[at + 5],
     }
 }
 
@@ -301,14 +297,20 @@ fn rank_of(live: &[u32], count: usize, r: Record) -> usize
     }
 }
 
-// Where the walk goes from a record that does not cover: before the probe of the bits that it has in common with the route.
-fn jump(live: &[u32], count: usize, least: u32, a: Record, x: Record) -> usize
-    requires { ⌜ isRoom (limitOf (now live)) count (now live) ≡ true ⌝ }
-    ensures { λ r. ⌜ Jumps least a x (now (live .entry)) count r ⌝ }
+// Where the walk goes from a record that does not cover, the one before place p: before the probe of the bits that it has in common with the route. Where the next one down has fewer in common, that
+// is the next place, and needs no search.
+fn jump(live: &[u32], count: usize, least: u32, a: Record, x: Record, p: usize) -> usize
+    requires { ⌜ (isRoom (limitOf (now live)) count (now live) ≡ true) × (p ≤ count) ⌝ }
+    ensures { λ r. ⌜ Jumps least a x (now (live .entry)) count p r ⌝ }
 {
     let bits = common(x, a);
     if bits < least {
         return 0;
+    }
+    if p > 1 {
+        if common(record_of(live, p - 2), a) < bits {
+            return p - 1;
+        }
     }
     rank_of(live, count, high_probe(a, bits))
 }
@@ -333,7 +335,7 @@ fn walk(live: &[u32], count: usize, least: u32, a: Record) -> u32
             best = 1;
             p -= 1;
         } else {
-            let at = jump(live, count, least, a, x);
+            let at = jump(live, count, least, a, x, p);
             if at >= p {
                 return scan(live, count, a);
             }
@@ -355,15 +357,21 @@ fn run(live: &[u32], count: usize, loose: u32, a: Record) -> u32
         if x.family() != a.family() {
             return best;
         }
-        if common(x, a) < loose {
+        let bits = common(x, a);
+        if bits < loose {
             return best;
         }
-        let more = judge(a, x);
-        if more == 2 {
-            return 2;
+        // most records in the run are longer than the bits in common, and need no more tests
+        if x.prefix_length() > bits {
+            i += 1;
+        } else {
+            let more = judge(a, x);
+            if more == 2 {
+                return 2;
+            }
+            best = higher(best, more);
+            i += 1;
         }
-        best = higher(best, more);
-        i += 1;
     }
     best
 }

@@ -19,7 +19,7 @@ use lib.Dec.{leb}
 use lib.ListN.{length, getD, replicate}
 use Rattle.rtr_room.specs.Table.{Change, packed, ipv4Record, ipv6Record, familyOf, prefixOf, maxOf, before, same, inRule, ordered, allInRule, isTable, isIn, rank, insert, remove, enter, leave, key}
 use Rattle.rtr_room.specs.Table.Change.{changed}
-use Rattle.rtr_room.specs.Room.{room, recordAt, recordFound, records, isRoom, limitOf, place, stands, lookUp, keeps, entered, gone, outcomeOf, copied, copySays}
+use Rattle.rtr_room.specs.Room.{room, recordFrom, recordAt, recordFound, records, isRoom, limitOf, place, stands, lookUp, keeps, entered, gone, outcomeOf, copied, copySays}
 use Rattle.rtr_room.specs.Room.Found.{standsAt, missingAt}
 use Rattle.rtr_room.specs.Room.Said.{counted, refusedBy}
 use Rattle.rtr_room.specs.declared.Record.{Record}
@@ -150,6 +150,11 @@ records-of-room = rooms.records-of-room
 -- record i of a table's room is the table's
 pub record-of-room : (limit : ℕ) (t : List Record) (i : ℕ) (d : Record) → i < length t → recordAt (room limit t) i ≡ getD t i d
 record-of-room = rooms.record-of-room
+
+-- record i of any numbers is made of the six from 6 * i on
+pub record-from : (s : List ℕ) (i : ℕ) → recordAt s i ≡ recordFrom s (6 * i)
+unfolding recordAt
+record-from s i = refl
 
 -- the first records of some numbers, and one more
 pub records-none : (s : List ℕ) → records 0 s ≡ []

@@ -1,28 +1,89 @@
--- `record_of`: a room that has the record's six numbers has the record. Assumes nothing.
+-- `record_of`: each of the six places is inside, since six numbers from the first on are, and what is read there is the record's number.
+-- Assumes nothing.
+use mathlib.Core.Path.{sym}
 use denote.Ref.{now}
-use Rattle.rtr_origin.proofs.Tabled.{found-it, found-not}
 use borrow.Author.Needs.{needs}
+use Rattle.rtr_room.proofs.Laws.{record-from}
 use Rattle.rtr_origin.proofs.record_of.Statement.{statement}
 use Rattle.rtr_origin.proofs.record_of.Tie as tie
 
-get-requires : tie.Need-get-requires
-get-requires c κs = search needs
+mul-at : tie.Need-mul-at
+mul-at c = search needs
 
-enum-known-r : tie.Need-enum-known-r
-enum-known-r c = search needs
+mul-t4 : tie.Need-mul-t4
+mul-t4 c = search needs
 
-enum-told : tie.Need-enum-told
-enum-told c = search needs
+shared-slice-read-t6 : tie.Need-shared-slice-read-t6
+shared-slice-read-t6 c = search needs
+
+add-t7 : tie.Need-add-t7
+add-t7 c = search needs
+
+mul-t8 : tie.Need-mul-t8
+mul-t8 c = search needs
+
+shared-slice-read-t10 : tie.Need-shared-slice-read-t10
+shared-slice-read-t10 c = search needs
+
+add-t11 : tie.Need-add-t11
+add-t11 c = search needs
+
+mul-t12 : tie.Need-mul-t12
+mul-t12 c = search needs
+
+shared-slice-read-t14 : tie.Need-shared-slice-read-t14
+shared-slice-read-t14 c = search needs
+
+add-t15 : tie.Need-add-t15
+add-t15 c = search needs
+
+mul-t16 : tie.Need-mul-t16
+mul-t16 c = search needs
+
+shared-slice-read-t18 : tie.Need-shared-slice-read-t18
+shared-slice-read-t18 c = search needs
+
+add-t19 : tie.Need-add-t19
+add-t19 c = search needs
+
+mul-t20 : tie.Need-mul-t20
+mul-t20 c = search needs
+
+shared-slice-read-t22 : tie.Need-shared-slice-read-t22
+shared-slice-read-t22 c = search needs
+
+add-t23 : tie.Need-add-t23
+add-t23 c = search needs
+
+mul-t24 : tie.Need-mul-t24
+mul-t24 c = search needs
+
+shared-slice-read-t26 : tie.Need-shared-slice-read-t26
+shared-slice-read-t26 c = search needs
 
 returns : tie.Need-returns
-returns c =
-    let a = c .before .before .before .before .before .args in
-    found-it (now (a .live)) (a .i) _ _ (c .before .r .given .1) (c .before .before .before .get .ensures) (c .before .before .before .before .before .pre)
-
-returns-2 : tie.Need-returns-2
-returns-2 c =
-    let a = c .before .before .before .before .args in
-    absurd (found-not (now (a .live)) (a .i) _ (c .enum-told .given .1) (c .before .before .get .ensures) (c .before .before .before .before .pre))
+returns c = (let a = c .before .before .before .before .before .before .args in sym (record-from (now (a .live)) (a .i)))
 
 pub record-of-spec : {M : Type 1} → statement M
-record-of-spec = tie.close (tie.spec get-requires enum-known-r enum-told returns returns-2)
+record-of-spec =
+    tie.close
+    (tie.spec
+    mul-at
+    mul-t4
+    shared-slice-read-t6
+    add-t7
+    mul-t8
+    shared-slice-read-t10
+    add-t11
+    mul-t12
+    shared-slice-read-t14
+    add-t15
+    mul-t16
+    shared-slice-read-t18
+    add-t19
+    mul-t20
+    shared-slice-read-t22
+    add-t23
+    mul-t24
+    shared-slice-read-t26
+    returns)

@@ -10,7 +10,7 @@ use Rattle.rtr_room.specs.Room.{records, recordAt}
 use Rattle.rtr_room.specs.declared.Record.{Record}
 use Rattle.rtr_origin.specs.Origin.{words, agree}
 use Rattle.rtr_origin.specs.Judged.{strength, strongest, probeOf}
-use Rattle.rtr_origin.proofs.Judging.{each-within, strength-within, one-more-from}
+use Rattle.rtr_origin.proofs.Judging.{each-within, strength-within, few-in-common, one-more-from}
 use Rattle.rtr_origin.proofs.Tabled.{size}
 use Rattle.rtr_origin.proofs.Engine.{run-ends}
 use Rattle.rtr_origin.proofs.run.Statement.{statement}
@@ -77,21 +77,8 @@ returns-2 c =
           ));
     }
 
-judge-requires : tie.Need-judge-requires Inv-loop μ-loop
-judge-requires c κs = search needs
-
-returns-3 : tie.Need-returns-3 Inv-loop μ-loop
-returns-3 c =
-    let a = c .before .before .before .before .before .before .before .before .before .before .before .before .before .args in
-    let at-loop = c .before .before .before .before .before .before .before .before .before .loop in
-    let told = c .before .judge .ensures ∙ ap (strength (a .a)) (c .before .before .before .before .before .before .before .record-of .ensures) in
-    record {
-      there = omega (arith, told, c .if3 .taken, each-within (a .a) (now (a .live)) (a .count) (at-loop .i) (omega arith));
-      all-loose = λ q least k u m l e. strength-within (a .a) (recordAt (now (a .live)) m);
-    }
-
-higher-requires : tie.Need-higher-requires Inv-loop μ-loop
-higher-requires c κs = search needs
+prefix-length-requires : tie.Need-prefix-length-requires Inv-loop μ-loop
+prefix-length-requires c κs = search needs
 
 add-i : tie.Need-add-i Inv-loop μ-loop
 add-i c = omega arith
@@ -101,9 +88,44 @@ loop-less c = omega arith
 
 loop-again : tie.Need-loop-again Inv-loop μ-loop
 loop-again c =
-    let a = c .before .before .before .before .before .before .before .before .before .before .before .before .before .before .args in
-    let at-loop = c .before .before .before .before .before .before .before .before .before .before .loop in
-    let told = c .before .before .judge .ensures ∙ ap (strength (a .a)) (c .before .before .before .before .before .before .before .before .record-of .ensures) in (
+    let alike = c .before .before .before in
+    let taken = alike .before .before .before .before in
+    let at-loop = taken .before .before .loop in
+    let a = taken .before .before .before .before .before .before .args in
+    let none = few-in-common (a .a) _ _ _ (alike .common .ensures) (c .before .prefix-length .ensures) (c .if3 .taken) ∙ ap (strength (a .a)) (taken .record-of .ensures) in (
+      at-loop .inv .0,
+      omega (arith, at-loop .inv .1),
+      one-more-from (λ k. strength (a .a) (recordAt (now (a .live)) k)) _ (at-loop .i) (at-loop .best) (at-loop .best) (at-loop .inv .2) (omega arith) (omega (arith, none)),
+      at-loop .inv .3,
+    )
+
+judge-requires : tie.Need-judge-requires Inv-loop μ-loop
+judge-requires c κs = search needs
+
+returns-3 : tie.Need-returns-3 Inv-loop μ-loop
+returns-3 c =
+    let a = c .before .before .before .before .before .before .before .before .before .before .before .before .before .before .before .args in
+    let at-loop = c .before .before .before .before .before .before .before .before .before .before .before .loop in
+    let told = c .before .judge .ensures ∙ ap (strength (a .a)) (c .before .before .before .before .before .before .before .before .before .record-of .ensures) in
+    record {
+      there = omega (arith, told, c .if4 .taken, each-within (a .a) (now (a .live)) (a .count) (at-loop .i) (omega arith));
+      all-loose = λ q least k u m l e. strength-within (a .a) (recordAt (now (a .live)) m);
+    }
+
+higher-requires : tie.Need-higher-requires Inv-loop μ-loop
+higher-requires c κs = search needs
+
+add-i-2 : tie.Need-add-i-2 Inv-loop μ-loop
+add-i-2 c = omega arith
+
+loop-less-2 : tie.Need-loop-less-2 Inv-loop μ-loop
+loop-less-2 c = omega arith
+
+loop-again-2 : tie.Need-loop-again-2 Inv-loop μ-loop
+loop-again-2 c =
+    let a = c .before .before .before .before .before .before .before .before .before .before .before .before .before .before .before .before .args in
+    let at-loop = c .before .before .before .before .before .before .before .before .before .before .before .before .loop in
+    let told = c .before .before .judge .ensures ∙ ap (strength (a .a)) (c .before .before .before .before .before .before .before .before .before .before .record-of .ensures) in (
       at-loop .inv .0,
       omega (arith, at-loop .inv .1),
       one-more-from (λ k. strength (a .a) (recordAt (now (a .live)) k)) _ (at-loop .i) (at-loop .best) (c .higher .result) (at-loop .inv .2) (c .higher .ensures .0) (omega (arith, told, c .higher .ensures .1)),
@@ -136,10 +158,14 @@ run-spec =
     returns
     common-requires
     returns-2
-    judge-requires
-    returns-3
-    higher-requires
+    prefix-length-requires
     add-i
     loop-less
     loop-again
+    judge-requires
+    returns-3
+    higher-requires
+    add-i-2
+    loop-less-2
+    loop-again-2
     returns-4)

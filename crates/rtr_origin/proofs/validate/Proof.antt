@@ -20,7 +20,7 @@ enum-told c = search needs
 by-order-requires : tie.Need-by-order-requires
 by-order-requires c κs =
     let a = c .before .before .before .before .before .before .before .args in
-    (live-room (a .s .life .limit) (a .s) (now (a .live)) (now (a .working)) (now (a .hold)) (a .q) (open-is (a .s .life .limit) (a .s) (now (a .live)) (now (a .working)) (now (a .hold)) (a .q) _ (c .before .enum-told .given .1) (c .before .before .before .barred .ensures) .0), under-none (a .q) (contents (a .s .live) (now (a .live))))
+    (live-room (a .s .life .limit) (a .s) (now (a .live)) (now (a .working)) (now (a .hold)) (open-is (a .s .life .limit) (a .s) (now (a .live)) (now (a .working)) (now (a .hold)) (a .q) _ (c .before .enum-told .given .1) (c .before .before .before .barred .ensures) .0), under-none (a .q) (contents (a .s .live) (now (a .live))))
 
 returns : tie.Need-returns
 returns c =

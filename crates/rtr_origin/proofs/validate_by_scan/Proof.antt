@@ -24,7 +24,7 @@ as-record-requires c κs = search needs
 scan-requires : tie.Need-scan-requires
 scan-requires c κs =
     let a = c .before .before .before .before .before .before .before .before .args in
-    size (now (a .live)) (a .s .live .records) (live-room (a .s .life .limit) (a .s) (now (a .live)) (now (a .working)) (now (a .hold)) (a .q) (open-is (a .s .life .limit) (a .s) (now (a .live)) (now (a .working)) (now (a .hold)) (a .q) _ (c .before .before .enum-told .given .1) (c .before .before .before .before .barred .ensures) .0))
+    size (now (a .live)) (a .s .live .records) (live-room (a .s .life .limit) (a .s) (now (a .live)) (now (a .working)) (now (a .hold)) (open-is (a .s .life .limit) (a .s) (now (a .live)) (now (a .working)) (now (a .hold)) (a .q) _ (c .before .before .enum-told .given .1) (c .before .before .before .before .barred .ensures) .0))
 
 name-requires : tie.Need-name-requires
 name-requires c κs = search needs

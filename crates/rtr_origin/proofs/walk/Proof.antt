@@ -101,7 +101,7 @@ loop-again c =
     )
 
 jump-requires : tie.Need-jump-requires Inv-loop μ-loop
-jump-requires c κs = c .before .before .before .before .before .before .before .before .before .before .before .before .before .pre
+jump-requires c κs = (c .before .before .before .before .before .before .before .before .before .before .before .before .before .pre, c .before .before .before .before .before .before .before .before .loop .inv .0)
 
 scan-requires : tie.Need-scan-requires Inv-loop μ-loop
 scan-requires c κs = (let a = c .before .before .before .before .before .before .before .before .before .before .before .before .before .before .before .args in size (now (a .live)) (a .count) (c .before .before .before .before .before .before .before .before .before .before .before .before .before .before .before .pre))
@@ -131,7 +131,7 @@ loop-again-2 c =
           (sym (c .before .before .before .before .before .before .before .family .ensures ∙ ap familyOf read) ∙ c .before .before .before .before .before .if1 .left ∙ c .before .before .before .before .before .before .family2 .ensures)
           (omega (arith, told, c .before .before .before .if2 .left, c .before .before .if3 .left, strength-within (a .a) (recordAt (now (a .live)) (at-loop .p - 1))))
           (a .least) loose u (c .before .jump .result) (c .if4 .left)
-          (subst (λ (x : Record). Jumps (a .least) (a .a) x (now (a .live)) (a .count) (c .before .jump .result)) read (c .before .jump .ensures)),
+          (subst (λ (x : Record). Jumps (a .least) (a .a) x (now (a .live)) (a .count) (at-loop .p) (c .before .jump .result)) read (c .before .jump .ensures)),
     )
 
 returns-4 : tie.Need-returns-4 Inv-loop μ-loop
