@@ -168,16 +168,16 @@ module _ (s : List ℕ) (count : ℕ) (h : isRoom (limitOf s) count s ≡ true) 
       at-most b w l n e =
           leb-true l b (sym (w .exactly l (omega arith)) ∙ (rw (sym (words-at (p - 1) last), k .words-are) e))
 
-      pub jumped : (to : ℕ) → to < p → Jumps least a (recordAt s (p - 1)) s count p to → Going a s count best to
-      jumped to l j = record { below = λ i w. g .below i (omega arith); judged = λ i w c e. go i w c e (ltb i p) refl (ltb (j .bits) least) refl }
+      pub jumped : (bits to : ℕ) → Common (words (recordAt s (p - 1))) (words a) bits → to < p → Jumps least a bits s count p to → Going a s count best to
+      jumped bits to m l j = record { below = λ i w. g .below i (omega arith); judged = λ i w c e. go i w c e (ltb i p) refl (ltb bits least) refl }
         where
-          searched : (i : ℕ) → to ≤ i → (c : i < count) → plain (recordAt s i) ≡ true → i < p → to ≡ rank (probeOf a (j .bits) (j .bits * 256 + 255) 4294967295) t → strength a (recordAt s i) ≤ best
+          searched : (i : ℕ) → to ≤ i → (c : i < count) → plain (recordAt s i) ≡ true → i < p → to ≡ rank (probeOf a bits (bits * 256 + 255) 4294967295) t → strength a (recordAt s i) ≤ best
           searched i w c e x z =
               quiet i best (λ o.
               omega (
                 arith,
-                jump-misses-none q t (table-is s count h) d _ i (p - 1) (j .bits) (high-probe q a k (j .bits) (j .in-common .within)) (omega arith) (inside (p - 1) last)
-                    (family-at (p - 1) last f) near not-it (at-most (j .bits) (j .in-common)) (plain-at i c ∙ e) (covers-at i c ∙ o),
+                jump-misses-none q t (table-is s count h) d _ i (p - 1) bits (high-probe q a k bits (m .within)) (omega arith) (inside (p - 1) last)
+                    (family-at (p - 1) last f) near not-it (at-most bits m) (plain-at i c ∙ e) (covers-at i c ∙ o),
                 z,
               ))
 
@@ -187,12 +187,12 @@ module _ (s : List ℕ) (count : ℕ) (h : isRoom (limitOf s) count s ≡ true) 
               let n : i ≡ p - 1 = omega arith in
               rw n (omega (arith, v))
 
-          go : (i : ℕ) → to ≤ i → i < count → plain (recordAt s i) ≡ true → (b : Bool) → ltb i p ≡ b → (b′ : Bool) → ltb (j .bits) least ≡ b′ → strength a (recordAt s i) ≤ best
+          go : (i : ℕ) → to ≤ i → i < count → plain (recordAt s i) ≡ true → (b : Bool) → ltb i p ≡ b → (b′ : Bool) → ltb bits least ≡ b′ → strength a (recordAt s i) ≤ best
           go i w c e false x b′ y = g .judged i (ltb-false i p x) c e
           go i w c e true x true y =
               unless-covers i best c
-              (too-short-ends q t (table-is s count h) d least loose i (p - 1) (j .bits) u (ltb-true _ _ y) (omega (arith, ltb-true i p x)) (inside (p - 1) last)
-              (family-at (p - 1) last f) near not-it (at-most (j .bits) (j .in-common)) (plain-at i c ∙ e))
+              (too-short-ends q t (table-is s count h) d least loose i (p - 1) bits u (ltb-true _ _ y) (omega (arith, ltb-true i p x)) (inside (p - 1) last)
+              (family-at (p - 1) last f) near not-it (at-most bits m) (plain-at i c ∙ e))
           go i w c e true x false y = ⊎-elim (searched i w c e (ltb-true i p x)) (stepped i w (ltb-true i p x)) (j .goes (ltb-false _ _ y))
 
   -- ---- the run

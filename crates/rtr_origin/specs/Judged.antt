@@ -90,9 +90,7 @@ abbrev pub Found : Record → List ℕ → ℕ → ℕ → Type 0
 Found a s count r = r ≤ strongest a (records count s)
 
 -- where a walk goes on: to the end where fewer bits are in common than the least, else below the probe of those bits, or to the next place
-pub record Jumps (least : ℕ) (a x : Record) (s : List ℕ) (count p r : ℕ) : Type 0 where
-  pub bits : ℕ
-  pub in-common : Common (words x) (words a) bits
+pub record Jumps (least : ℕ) (a : Record) (bits : ℕ) (s : List ℕ) (count p r : ℕ) : Type 0 where
   pub ends : bits < least → r ≡ 0
   pub goes : least ≤ bits → (r ≡ rank (probeOf a bits (bits * 256 + 255) 4294967295) (records count s)) ⊎ (r ≡ p - 1)
 

@@ -11,7 +11,7 @@ ghost use mathlib.Core.Bool.{true, not};
 ghost use mathlib.Core.Path.{_≡_};
 ghost use lib.Dec.{leb};
 ghost use lib.ListN.{length, getD};
-ghost use Rattle.rtr_room.specs.Table.{rank};
+ghost use Rattle.rtr_room.specs.Table.{familyOf, rank};
 ghost use Rattle.rtr_room.specs.Room.{records, recordAt, isRoom, limitOf};
 ghost use Rattle.rtr_origin.specs.Origin.{longestIn, stateOf, stateNumber, words};
 ghost use Rattle.rtr_origin.specs.Numbers.{isIPv4, isIPv6, routeOf};
@@ -156,13 +156,11 @@ fn covers(a: Record, x: Record) -> bool
     length <= common(x, a)
 }
 
-// 2 where the record matches, 1 where it only covers, else 0.
-fn judge(a: Record, x: Record) -> u32
+// Of a record that covers: 2 where it matches, else 1.
+fn judge_covering(a: Record, x: Record) -> u32
+    requires { ⌜ coversBy a x ≡ true ⌝ }
     ensures { λ r. ⌜ r ≡ strength a x ⌝ }
 {
-    if !covers(a, x) {
-        return 0;
-    }
     if a.prefix_length() > x.max_length() {
         return 1;
     }
@@ -173,6 +171,31 @@ fn judge(a: Record, x: Record) -> u32
         return 1;
     }
     2
+}
+
+// 2 where the record matches, 1 where it only covers, else 0.
+fn judge(a: Record, x: Record) -> u32
+    ensures { λ r. ⌜ r ≡ strength a x ⌝ }
+{
+    if !covers(a, x) {
+        return 0;
+    }
+    judge_covering(a, x)
+}
+
+// The same of a record of the route's family, where it is known how many first bits the two have in common.
+fn judge_alike(a: Record, x: Record, bits: u32) -> u32
+    requires { ⌜ (familyOf x ≡ familyOf a) × Common (words x) (words a) bits ⌝ }
+    ensures { λ r. ⌜ r ≡ strength a x ⌝ }
+{
+    let own = x.prefix_length();
+    if own > bits {
+        return 0;
+    }
+    if own > a.prefix_length() {
+        return 0;
+    }
+    judge_covering(a, x)
 }
 
 fn higher(x: u32, y: u32) -> u32
@@ -299,11 +322,10 @@ fn rank_of(live: &[u32], count: usize, r: Record) -> usize
 
 // Where the walk goes from a record that does not cover, the one before place p: before the probe of the bits that it has in common with the route. Where the next one down has fewer in common, that
 // is the next place, and needs no search.
-fn jump(live: &[u32], count: usize, least: u32, a: Record, x: Record, p: usize) -> usize
-    requires { ⌜ (isRoom (limitOf (now live)) count (now live) ≡ true) × (p ≤ count) ⌝ }
-    ensures { λ r. ⌜ Jumps least a x (now (live .entry)) count p r ⌝ }
+fn jump(live: &[u32], count: usize, least: u32, a: Record, bits: u32, p: usize) -> usize
+    requires { ⌜ (isRoom (limitOf (now live)) count (now live) ≡ true) × (p ≤ count) × (bits ≤ 255) ⌝ }
+    ensures { λ r. ⌜ Jumps least a bits (now (live .entry)) count p r ⌝ }
 {
-    let bits = common(x, a);
     if bits < least {
         return 0;
     }
@@ -327,7 +349,8 @@ fn walk(live: &[u32], count: usize, least: u32, a: Record) -> u32
         if x.family() != a.family() {
             return best;
         }
-        let next = judge(a, x);
+        let bits = common(x, a);
+        let next = judge_alike(a, x, bits);
         if next == 2 {
             return 2;
         }
@@ -335,7 +358,7 @@ fn walk(live: &[u32], count: usize, least: u32, a: Record) -> u32
             best = 1;
             p -= 1;
         } else {
-            let at = jump(live, count, least, a, x, p);
+            let at = jump(live, count, least, a, bits, p);
             if at >= p {
                 return scan(live, count, a);
             }
@@ -365,7 +388,7 @@ fn run(live: &[u32], count: usize, loose: u32, a: Record) -> u32
         if x.prefix_length() > bits {
             i += 1;
         } else {
-            let more = judge(a, x);
+            let more = judge_alike(a, x, bits);
             if more == 2 {
                 return 2;
             }

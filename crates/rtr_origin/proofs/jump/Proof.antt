@@ -11,36 +11,25 @@ use Rattle.rtr_origin.proofs.Tabled.{size}
 use Rattle.rtr_origin.proofs.jump.Statement.{statement}
 use Rattle.rtr_origin.proofs.jump.Tie as tie
 
-common-requires : tie.Need-common-requires
-common-requires c κs = search needs
-
 returns : tie.Need-returns
-returns c =
-    record { bits = c .before .common .result; in-common = c .before .common .ensures; ends = λ h. refl; goes = λ h. absurd (omega (arith, c .if1 .taken)) }
+returns c = record { ends = λ h. refl; goes = λ h. absurd (omega (arith, c .if1 .taken)) }
 
 sub-record-of : tie.Need-sub-record-of
 sub-record-of c = search needs
 
 record-of-requires : tie.Need-record-of-requires
 record-of-requires c κs =
-    let start = c .before .before .before .before in
+    let start = c .before .before .before in
     omega (arith, size (now (start .args .live)) (start .args .count) (start .pre .0), start .pre .1, c .if2 .taken)
 
-common-requires-2 : tie.Need-common-requires-2
-common-requires-2 c κs = search needs
+common-requires : tie.Need-common-requires
+common-requires c κs = search needs
 
 sub-result : tie.Need-sub-result
 sub-result c = search needs
 
 returns-2 : tie.Need-returns-2
-returns-2 c =
-    let enough = c .before .before .before .before in
-    record {
-      bits = enough .before .common .result;
-      in-common = enough .before .common .ensures;
-      ends = λ h. absurd (omega (arith, enough .if1 .left));
-      goes = λ h. inr refl;
-    }
+returns-2 c = record { ends = λ h. absurd (omega (arith, c .before .before .before .before .if1 .left)); goes = λ h. inr refl }
 
 high-probe-requires : tie.Need-high-probe-requires
 high-probe-requires c κs = search needs
@@ -51,10 +40,8 @@ rank-of-requires c κs = search needs
 returns-3 : tie.Need-returns-3
 returns-3 c =
     let enough = c .before .before .before in
-    let a = enough .before .before .before .args in
+    let a = enough .before .before .args in
     record {
-      bits = enough .before .common .result;
-      in-common = enough .before .common .ensures;
       ends = λ h. absurd (omega (arith, enough .if1 .left));
       goes = λ h. inl (c .rank-of .ensures .0 ∙ ap (λ (k : Record). rank k (records (a .count) (now (a .live)))) (c .before .high-probe .ensures));
     }
@@ -63,11 +50,10 @@ pub jump-spec : {M : Type 1} → statement M
 jump-spec =
     tie.close
     (tie.spec
-    common-requires
     returns
     sub-record-of
     record-of-requires
-    common-requires-2
+    common-requires
     sub-result
     returns-2
     high-probe-requires

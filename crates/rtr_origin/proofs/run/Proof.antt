@@ -99,14 +99,17 @@ loop-again c =
       at-loop .inv .3,
     )
 
-judge-requires : tie.Need-judge-requires Inv-loop μ-loop
-judge-requires c κs = search needs
+judge-alike-requires : tie.Need-judge-alike-requires Inv-loop μ-loop
+judge-alike-requires c κs =
+    let alike = c .before .before .before in
+    let of-it = alike .before in
+    (sym (of-it .before .before .family .ensures) ∙ of-it .if1 .left ∙ of-it .before .family2 .ensures, alike .common .ensures)
 
 returns-3 : tie.Need-returns-3 Inv-loop μ-loop
 returns-3 c =
     let a = c .before .before .before .before .before .before .before .before .before .before .before .before .before .before .before .args in
     let at-loop = c .before .before .before .before .before .before .before .before .before .before .before .loop in
-    let told = c .before .judge .ensures ∙ ap (strength (a .a)) (c .before .before .before .before .before .before .before .before .before .record-of .ensures) in
+    let told = c .before .judge-alike .ensures ∙ ap (strength (a .a)) (c .before .before .before .before .before .before .before .before .before .record-of .ensures) in
     record {
       there = omega (arith, told, c .if4 .taken, each-within (a .a) (now (a .live)) (a .count) (at-loop .i) (omega arith));
       all-loose = λ q least k u m l e. strength-within (a .a) (recordAt (now (a .live)) m);
@@ -125,7 +128,7 @@ loop-again-2 : tie.Need-loop-again-2 Inv-loop μ-loop
 loop-again-2 c =
     let a = c .before .before .before .before .before .before .before .before .before .before .before .before .before .before .before .before .args in
     let at-loop = c .before .before .before .before .before .before .before .before .before .before .before .before .loop in
-    let told = c .before .before .judge .ensures ∙ ap (strength (a .a)) (c .before .before .before .before .before .before .before .before .before .before .record-of .ensures) in (
+    let told = c .before .before .judge-alike .ensures ∙ ap (strength (a .a)) (c .before .before .before .before .before .before .before .before .before .before .record-of .ensures) in (
       at-loop .inv .0,
       omega (arith, at-loop .inv .1),
       one-more-from (λ k. strength (a .a) (recordAt (now (a .live)) k)) _ (at-loop .i) (at-loop .best) (c .higher .result) (at-loop .inv .2) (c .higher .ensures .0) (omega (arith, told, c .higher .ensures .1)),
@@ -162,7 +165,7 @@ run-spec =
     add-i
     loop-less
     loop-again
-    judge-requires
+    judge-alike-requires
     returns-3
     higher-requires
     add-i-2

@@ -9,7 +9,8 @@ use Rattle.rtr_room.specs.Table.{familyOf, rank}
 use Rattle.rtr_room.specs.Room.{records, recordAt}
 use Rattle.rtr_room.specs.declared.Record.{Record}
 use Rattle.rtr_origin.specs.Private.{Under}
-use Rattle.rtr_origin.specs.Judged.{Asks, Jumps, strength, strongest, probeOf}
+use Rattle.rtr_origin.specs.Origin.{words}
+use Rattle.rtr_origin.specs.Judged.{Asks, Common, strength, strongest, probeOf}
 use Rattle.rtr_origin.specs.declared.Route.{Route}
 use Rattle.rtr_origin.proofs.Judging.{each-within, strength-within}
 use Rattle.rtr_origin.proofs.Tabled.{size}
@@ -69,14 +70,19 @@ returns c =
           (λ e. c .if1 .taken (c .before .before .family .ensures ∙ ap familyOf (c .before .before .before .record-of .ensures) ∙ e ∙ sym (c .before .family2 .ensures)));
     }
 
-judge-requires : tie.Need-judge-requires Inv-loop μ-loop
-judge-requires c κs = search needs
+common-requires : tie.Need-common-requires Inv-loop μ-loop
+common-requires c κs = search needs
+
+judge-alike-requires : tie.Need-judge-alike-requires Inv-loop μ-loop
+judge-alike-requires c κs =
+    let of-it = c .before in
+    (sym (of-it .before .before .family .ensures) ∙ of-it .if1 .left ∙ of-it .before .family2 .ensures, c .common .ensures)
 
 returns-2 : tie.Need-returns-2 Inv-loop μ-loop
 returns-2 c =
-    let a = c .before .before .before .before .before .before .before .before .before .before .before .before .args in
-    let at-loop = c .before .before .before .before .before .before .before .loop in
-    let told = c .before .judge .ensures ∙ ap (strength (a .a)) (c .before .before .before .before .before .record-of .ensures) in
+    let a = c .before .before .before .before .before .before .before .before .before .before .before .before .before .args in
+    let at-loop = c .before .before .before .before .before .before .before .before .loop in
+    let told = c .before .judge-alike .ensures ∙ ap (strength (a .a)) (c .before .before .before .before .before .before .record-of .ensures) in
     record {
       there = omega (arith, told, c .if2 .taken, each-within (a .a) (now (a .live)) (a .count) (at-loop .p - 1) (omega arith));
       all-plain = λ q loose k u i l e. strength-within (a .a) (recordAt (now (a .live)) i);
@@ -90,25 +96,25 @@ loop-less c = omega arith
 
 loop-again : tie.Need-loop-again Inv-loop μ-loop
 loop-again c =
-    let a = c .before .before .before .before .before .before .before .before .before .before .before .before .before .args in
-    let at-loop = c .before .before .before .before .before .before .before .before .loop in
-    let told = c .before .before .judge .ensures ∙ ap (strength (a .a)) (c .before .before .before .before .before .before .record-of .ensures) in (
+    let a = c .before .before .before .before .before .before .before .before .before .before .before .before .before .before .args in
+    let at-loop = c .before .before .before .before .before .before .before .before .before .loop in
+    let told = c .before .before .judge-alike .ensures ∙ ap (strength (a .a)) (c .before .before .before .before .before .before .before .record-of .ensures) in (
       omega arith,
       omega arith,
       omega (arith, told, c .if3 .taken, each-within (a .a) (now (a .live)) (a .count) (at-loop .p - 1) (omega arith)),
       λ q loose k u.
-          covered (now (a .live)) (a .count) (c .before .before .before .before .before .before .before .before .before .before .before .before .before .pre) q (a .a) k (at-loop .best) (at-loop .p) (c .before .before .before .before .before .before .before .loop-test .taken) (at-loop .inv .1) (sym told ∙ c .if3 .taken) (at-loop .inv .3 q loose k u),
+          covered (now (a .live)) (a .count) (c .before .before .before .before .before .before .before .before .before .before .before .before .before .before .pre) q (a .a) k (at-loop .best) (at-loop .p) (c .before .before .before .before .before .before .before .before .loop-test .taken) (at-loop .inv .1) (sym told ∙ c .if3 .taken) (at-loop .inv .3 q loose k u),
     )
 
 jump-requires : tie.Need-jump-requires Inv-loop μ-loop
-jump-requires c κs = (c .before .before .before .before .before .before .before .before .before .before .before .before .before .pre, c .before .before .before .before .before .before .before .before .loop .inv .0)
+jump-requires c κs = (c .before .before .before .before .before .before .before .before .before .before .before .before .before .before .pre, c .before .before .before .before .before .before .before .before .before .loop .inv .0, c .before .before .before .common .ensures .within)
 
 scan-requires : tie.Need-scan-requires Inv-loop μ-loop
-scan-requires c κs = (let a = c .before .before .before .before .before .before .before .before .before .before .before .before .before .before .before .args in size (now (a .live)) (a .count) (c .before .before .before .before .before .before .before .before .before .before .before .before .before .before .before .pre))
+scan-requires c κs = (let a = c .before .before .before .before .before .before .before .before .before .before .before .before .before .before .before .before .args in size (now (a .live)) (a .count) (c .before .before .before .before .before .before .before .before .before .before .before .before .before .before .before .before .pre))
 
 returns-3 : tie.Need-returns-3 Inv-loop μ-loop
 returns-3 c =
-    let a = c .before .before .before .before .before .before .before .before .before .before .before .before .before .before .before .before .args in
+    let a = c .before .before .before .before .before .before .before .before .before .before .before .before .before .before .before .before .before .args in
     record {
       there = omega (arith, c .scan .ensures);
       all-plain = λ q loose k u i l e. omega (arith, c .scan .ensures, each-within (a .a) (now (a .live)) (a .count) i l);
@@ -119,19 +125,20 @@ loop-less-2 c = omega arith
 
 loop-again-2 : tie.Need-loop-again-2 Inv-loop μ-loop
 loop-again-2 c =
-    let a = c .before .before .before .before .before .before .before .before .before .before .before .before .before .before .before .args in
-    let at-loop = c .before .before .before .before .before .before .before .before .before .before .loop in
-    let read = c .before .before .before .before .before .before .before .before .record-of .ensures in
-    let told = c .before .before .before .before .judge .ensures ∙ ap (strength (a .a)) read in (
+    let a = c .before .before .before .before .before .before .before .before .before .before .before .before .before .before .before .before .args in
+    let at-loop = c .before .before .before .before .before .before .before .before .before .before .before .loop in
+    let read = c .before .before .before .before .before .before .before .before .before .record-of .ensures in
+    let told = c .before .before .before .before .judge-alike .ensures ∙ ap (strength (a .a)) read in (
       omega arith,
       at-loop .inv .1,
       at-loop .inv .2,
       λ q loose k u.
-          jumped (now (a .live)) (a .count) (c .before .before .before .before .before .before .before .before .before .before .before .before .before .before .before .pre) q (a .a) k (at-loop .best) (at-loop .p) (c .before .before .before .before .before .before .before .before .before .loop-test .taken) (at-loop .inv .0) (at-loop .inv .3 q loose k u)
-          (sym (c .before .before .before .before .before .before .before .family .ensures ∙ ap familyOf read) ∙ c .before .before .before .before .before .if1 .left ∙ c .before .before .before .before .before .before .family2 .ensures)
+          jumped (now (a .live)) (a .count) (c .before .before .before .before .before .before .before .before .before .before .before .before .before .before .before .before .pre) q (a .a) k (at-loop .best) (at-loop .p) (c .before .before .before .before .before .before .before .before .before .before .loop-test .taken) (at-loop .inv .0) (at-loop .inv .3 q loose k u)
+          (sym (c .before .before .before .before .before .before .before .before .family .ensures ∙ ap familyOf read) ∙ c .before .before .before .before .before .before .if1 .left ∙ c .before .before .before .before .before .before .before .family2 .ensures)
           (omega (arith, told, c .before .before .before .if2 .left, c .before .before .if3 .left, strength-within (a .a) (recordAt (now (a .live)) (at-loop .p - 1))))
-          (a .least) loose u (c .before .jump .result) (c .if4 .left)
-          (subst (λ (x : Record). Jumps (a .least) (a .a) x (now (a .live)) (a .count) (at-loop .p) (c .before .jump .result)) read (c .before .jump .ensures)),
+          (a .least) loose u _ (c .before .jump .result)
+          (subst (λ (x : Record). Common (words x) (words (a .a)) (c .before .before .before .before .before .common .result)) read (c .before .before .before .before .before .common .ensures))
+          (c .if4 .left) (c .before .jump .ensures),
     )
 
 returns-4 : tie.Need-returns-4 Inv-loop μ-loop
@@ -154,7 +161,8 @@ walk-spec =
     family-requires
     family-requires-2
     returns
-    judge-requires
+    common-requires
+    judge-alike-requires
     returns-2
     sub-p
     loop-less
