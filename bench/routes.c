@@ -1,8 +1,10 @@
 /* What a question costs: makes a live table of 1,000 records and a list of routes, and asks about each of them N times.
- *   routes N TABLE LIST CALL    writes how many routes the list has, how many of them are Valid, Invalid and NotFound, and a check sum of the states
- * TABLE: usual (blocks of networks in clusters, three IPv4 records to one IPv6) | ipv6 | loose16, loose0 (usual with one record of that length that has host bits) | loose (every record has them)
+ *   routes N TABLE LIST CALL [COUNT]    writes how many routes the list has (COUNT at the most, 1,000), how many of them are Valid, Invalid and NotFound, and a check sum of the states that CALL gave
+ * TABLE: usual (blocks of networks in clusters, three IPv4 records to one IPv6) | ipv6 | loose16, loose8, loose0 (usual with one record of that length that has host bits) | loose (every record has them)
  *        | one (1,000 records of one prefix) | stair4, stair6 (records right below the route that do not cover it, and one of length 0) | chain4, chain6 (33 and 129 records that all cover, and others)
- * LIST: peer (two in three near a record) | valid | invalid | notfound | refused (each too long: 23).   CALL: quick | scan | test22 (notify, which does little but test for 22) | none
+ * LIST: peer (two in three near a record) | valid | invalid | notfound | refused (each too long: 23). A longer list begins with the shorter one's routes.
+ * CALL: quick | scan | test22 (notify, which does little but test for 22) | none: route by route; all: the whole list in one call; librtr: route by route, by that library's table of the same records
+ *       (compiled with -DLIBRTR)
  * States come from a plain loop here too; where the library says otherwise the program ends with status 1. */
 #include <stdint.h>
 #include <stdio.h>
@@ -14,7 +16,11 @@
 uint8_t test_validate_by_scan(const uint64_t *session, size_t session_len, const uint32_t *live, size_t live_len, const uint32_t *working, size_t working_len,
                               const uint8_t *hold, size_t hold_len, const uint32_t *route, size_t route_len, uint64_t *state);
 
-enum { RECORDS = 1000, SIX = 6, ROUTES = 1000, TRIED = 100000, REFUSED = 23 };
+#ifdef LIBRTR
+#include <rtrlib/pfx/pfx.h>
+#endif
+
+enum { RECORDS = 1000, SIX = 6, ROUTES = 1000, PEER = 40000, TRIED = 100, REFUSED = 23 };
 
 static uint64_t session[HINGEMOSS_SESSION_NUMBERS];
 static uint32_t live[HINGEMOSS_ROOM_NUMBERS], working[HINGEMOSS_ROOM_NUMBERS];
@@ -196,8 +202,8 @@ static void make(const char *name)
 
 /* ---- routes, and their states by a plain loop */
 
-static uint32_t routes[ROUTES][SIX];
-static uint64_t states[ROUTES];
+static uint32_t routes[PEER][SIX];
+static uint64_t states[PEER], given[PEER]; /* the plain loop's, and the call's */
 static int asked;
 
 static uint64_t state_of(const uint32_t *q)
@@ -253,10 +259,11 @@ static void worst_route(const char *name, uint32_t *q)
     q[5] = 64999;
 }
 
-static void choose(const char *name, const char *list)
+/* At most so many routes of that list, of a hundred times as many that are tried. */
+static void choose(const char *name, const char *list, int most)
 {
     int wanted = !strcmp(list, "notfound") ? 0 : !strcmp(list, "valid") ? 1 : !strcmp(list, "invalid") ? 2 : -1, is_worst = !strncmp(name, "stair", 5) || !strncmp(name, "chain", 5);
-    for (int i = 0; i < TRIED && asked < ROUTES; i++) {
+    for (int i = 0; i < TRIED * most && asked < most; i++) {
         uint32_t *q = routes[asked];
         some_route(q);
         if (is_worst)
@@ -270,32 +277,112 @@ static void choose(const char *name, const char *list)
     }
 }
 
+/* ---- the whole list in one call */
+
+static uint8_t answered[PEER];
+
+static int ask_all(long rounds, uint8_t refused)
+{
+    for (; rounds > 0; rounds--) {
+        uint64_t written;
+        uint8_t answer = hingemoss_validate_all(LENT, routes[0], (size_t)asked * SIX, answered, (size_t)asked, &written);
+        if (answer || written != (uint64_t)asked) {
+            fprintf(stderr, "routes: all: answer %u, %llu written\n", answer, (unsigned long long)written);
+            return 1;
+        }
+    }
+    for (int i = 0; i < asked; i++) {
+        given[i] = answered[i];
+        if (answered[i] != (refused ? refused : states[i])) {
+            fprintf(stderr, "routes: all: route %d: state %u for %llu\n", i, answered[i], (unsigned long long)states[i]);
+            return 1;
+        }
+    }
+    return 0;
+}
+
+/* ---- librtr: the same records and routes in its own words. It asks for prefixes without host bits, and for none of length 0. */
+
+#ifdef LIBRTR
+static struct pfx_table theirs;
+static struct lrtr_ip_addr their_routes[PEER];
+
+static struct lrtr_ip_addr their_address(uint32_t family, const uint32_t *words, uint32_t length)
+{
+    struct lrtr_ip_addr a = { .ver = family == 4 ? LRTR_IPV4 : LRTR_IPV6 };
+    if (family == 4)
+        a.u.addr4.addr = words[0] & mask(0, length);
+    else
+        for (int i = 0; i < 4; i++)
+            a.u.addr6.addr[i] = words[i] & mask(i, length);
+    return a;
+}
+
+static int make_theirs(void)
+{
+    pfx_table_init(&theirs, NULL);
+    for (int i = 0; i < RECORDS; i++) {
+        const uint32_t *n = table[i].n;
+        struct pfx_record r = { .asn = n[5], .prefix = their_address(family_of(n), n + 1, length_of(n)), .min_len = (uint8_t)length_of(n), .max_len = (uint8_t)n[0] };
+        int answer = length_of(n) ? pfx_table_add(&theirs, &r) : PFX_ERROR;
+        if (answer != PFX_SUCCESS && answer != PFX_DUPLICATE_RECORD)
+            return 0;
+    }
+    for (int i = 0; i < asked; i++)
+        their_routes[i] = their_address(routes[i][0] >> 16, routes[i] + 1, routes[i][0] & 65535);
+    return 1;
+}
+
+static uint8_t ask_theirs(int i, uint64_t *state)
+{
+    enum pfxv_state result;
+    int answer = pfx_table_validate(&theirs, routes[i][5], &their_routes[i], (uint8_t)routes[i][0], &result);
+    *state = result == BGP_PFXV_STATE_VALID ? 1 : result == BGP_PFXV_STATE_INVALID ? 2 : 0;
+    return (uint8_t)answer;
+}
+#endif
+
 int main(int c, char **v)
 {
-    if (c != 5)
+    if (c != 5 && c != 6)
         return 2;
     const char *call = v[4];
-    uint64_t sum = 0, state = 0, expected = !strcmp(v[3], "refused") ? REFUSED : 0;
+    int most = c == 6 ? atoi(v[5]) : ROUTES;
+    uint64_t sum = 0, expected = !strcmp(v[3], "refused") ? REFUSED : 0;
+    if (most < 1 || most > PEER)
+        return 2;
     make(v[2]);
-    choose(v[2], v[3]);
-    for (long n = atol(v[1]); n > 0; n--)
+    choose(v[2], v[3], most);
+#ifdef LIBRTR
+    if (call[0] == 'l' && !make_theirs()) {
+        fprintf(stderr, "routes: librtr does not take table %s\n", v[2]);
+        return 2;
+    }
+#endif
+    if (call[0] == 'a' && ask_all(atol(v[1]), (uint8_t)expected))
+        return 1;
+    for (long n = call[0] == 'a' ? 0 : atol(v[1]); n > 0; n--)
         for (int i = 0; i < asked; i++) {
             uint8_t answer = (uint8_t)expected;
-            state = states[i];
+            given[i] = states[i];
             if (call[0] == 'q')
-                answer = hingemoss_validate(LENT, routes[i], SIX, &state);
+                answer = hingemoss_validate(LENT, routes[i], SIX, &given[i]);
             else if (call[0] == 's')
-                answer = test_validate_by_scan(LENT, routes[i], SIX, &state);
+                answer = test_validate_by_scan(LENT, routes[i], SIX, &given[i]);
             else if (call[0] == 't')
-                answer = (uint8_t)(expected + hingemoss_notify(LENT, &sum) + sum), state = states[i];
-            if (answer != expected || state != states[i]) {
-                fprintf(stderr, "routes: %s %s %s: route %d: answer %u, state %llu for %llu\n", v[2], v[3], call, i, answer, (unsigned long long)state, (unsigned long long)states[i]);
+                answer = (uint8_t)(expected + hingemoss_notify(LENT, &sum) + sum), given[i] = states[i];
+#ifdef LIBRTR
+            else if (call[0] == 'l')
+                answer = ask_theirs(i, &given[i]);
+#endif
+            if (answer != expected || given[i] != states[i]) {
+                fprintf(stderr, "routes: %s %s %s: route %d: answer %u, state %llu for %llu\n", v[2], v[3], call, i, answer, (unsigned long long)given[i], (unsigned long long)states[i]);
                 return 1;
             }
         }
     int of[3] = { 0 };
     for (int i = 0; i < asked; i++)
-        sum = sum * 31 + states[i], of[states[i]]++;
+        sum = sum * 31 + given[i], of[states[i]]++;
     printf("%d %d %d %d %016llx\n", asked, of[1], of[2], of[0], (unsigned long long)sum);
     return 0;
 }

@@ -68,7 +68,7 @@ enum hingemoss_refusal {
     HINGEMOSS_REFUSED_ERROR_REPORT = 19,   /* the cache sent an Error Report: code */
     HINGEMOSS_REFUSED_WRONG_PHASE = 20,    /* an ask in a wrong phase */
     HINGEMOSS_REFUSED_NO_TABLE = 21,       /* a change asked for, or a route asked about, without a table */
-    HINGEMOSS_REFUSED_NOT_A_RECEIVER = 22, /* lent memory is not of receiver shape, or numbers are no session's, no PDU's, or not six of a route */
+    HINGEMOSS_REFUSED_NOT_A_RECEIVER = 22, /* lent memory is not of receiver shape, or numbers are no session's, no PDU's, not six of a route or not in sixes */
     HINGEMOSS_REFUSED_ROUTE = 23           /* a route longer than its family allows, of no known family, or with IPv4 spares that are not 0 */
 };
 
@@ -234,6 +234,14 @@ uint8_t hingemoss_listing(const uint64_t *session, size_t session_len, const uin
  * known family, longer than 32 (IPv4) or 128 (IPv6), or an IPv4 route whose second to fourth address number is not 0. 0: state is enum hingemoss_state's. On 22, 21 and 23 it is 0. */
 uint8_t hingemoss_validate(const uint64_t *session, size_t session_len, const uint32_t *live, size_t live_len, const uint32_t *working, size_t working_len,
                            const uint8_t *hold, size_t hold_len, const uint32_t *route, size_t route_len, uint64_t *state);
+
+/* The states of a list of routes, HINGEMOSS_ROUTE_NUMBERS numbers for each, by the live table in any phase: each is what hingemoss_validate gives for that route alone. The memory is tested and the table looked at
+ * once for the whole list, so ask for many routes at once. In this order: 22, also where routes_len is no multiple of HINGEMOSS_ROUTE_NUMBERS; 21; 9: there are fewer states than routes, and written is how many
+ * routes there are. 0: written is how many routes there were, and states has a byte for each, in order: enum hingemoss_state's, or HINGEMOSS_REFUSED_ROUTE (23) where its six numbers are no route (as above), which
+ * ends nothing. Bytes behind them stay; on 22, 21 and 9 all of them do. A list of no routes is answered too, behind 22 and 21: 0, and written 0. Do not hand in a record: read as a route its length is length * 256 + max, so it
+ * gets 23; one of length 0 gets the state of a route of length max. */
+uint8_t hingemoss_validate_all(const uint64_t *session, size_t session_len, const uint32_t *live, size_t live_len, const uint32_t *working, size_t working_len,
+                               const uint8_t *hold, size_t hold_len, const uint32_t *routes, size_t routes_len, uint8_t *states, size_t states_len, uint64_t *written);
 
 #ifdef __cplusplus
 }

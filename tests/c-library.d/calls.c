@@ -180,11 +180,18 @@ static void receiver(void)
     EXPECT(memcmp(before, session, sizeof before) == 0);
 }
 
+/* The receiver's memory kept, and whether it is still the same. */
+static uint32_t kept_live[HINGEMOSS_ROOM_NUMBERS], kept_working[HINGEMOSS_ROOM_NUMBERS];
+static uint8_t kept_hold[sizeof hold];
+static void keep(void) { memcpy(before, session, sizeof before), memcpy(kept_live, live, sizeof live), memcpy(kept_working, working, sizeof working), memcpy(kept_hold, hold, sizeof hold); }
+static int is_kept(void)
+{
+    return memcmp(before, session, sizeof before) == 0 && memcmp(kept_live, live, sizeof live) == 0 && memcmp(kept_working, working, sizeof working) == 0 && memcmp(kept_hold, hold, sizeof hold) == 0;
+}
+
 /* Whether a route is good: every state, every refusal in its order, and nothing written but the state. */
 static void routes(void)
 {
-    static uint32_t kept_live[HINGEMOSS_ROOM_NUMBERS], kept_working[HINGEMOSS_ROOM_NUMBERS];
-    static uint8_t kept_hold[sizeof hold];
     const uint32_t good[HINGEMOSS_ROUTE_NUMBERS] = { 4u * 65536 + 24, 0xc0000200u, 0, 0, 0, 64496 };
     uint32_t route[HINGEMOSS_ROUTE_NUMBERS + 1] = { 0 }, kept[HINGEMOSS_ROUTE_NUMBERS + 1];
     uint64_t taken, updates, state;
@@ -196,7 +203,7 @@ static void routes(void)
     EXPECT(ASKED(HINGEMOSS_ROUTE_NUMBERS - 1, HINGEMOSS_REFUSED_NOT_A_RECEIVER, 0));
     EXPECT(hingemoss_full_ask(SESSION, LIVE, WORKING, HOLD, out, HINGEMOSS_FULL_QUERY) == HINGEMOSS_OK);
     EXPECT(hingemoss_feed(SESSION, LIVE, WORKING, HOLD, load, sizeof load, &taken, &updates) == HINGEMOSS_OK && updates == 1);
-    memcpy(before, session, sizeof before), memcpy(kept_live, live, sizeof live), memcpy(kept_working, working, sizeof working), memcpy(kept_hold, hold, sizeof hold);
+    keep();
 
     EXPECT(ASKED_WITH(0, good[0], HINGEMOSS_OK, HINGEMOSS_STATE_VALID));
     EXPECT(ASKED_WITH(HINGEMOSS_ROUTE_ADDRESS, 0xc00002ffu, HINGEMOSS_OK, HINGEMOSS_STATE_VALID)); /* host bits of a route are not looked at */
@@ -222,7 +229,7 @@ static void routes(void)
     EXPECT((state = 9, hingemoss_validate(SESSION, live, HINGEMOSS_ROOM_NUMBERS - 1, WORKING, HOLD, route, HINGEMOSS_ROUTE_NUMBERS, &state)) == HINGEMOSS_REFUSED_NOT_A_RECEIVER && state == 0);
     EXPECT((state = 9, hingemoss_validate(SESSION, LIVE, working, HINGEMOSS_ROOM_NUMBERS - 1, HOLD, route, HINGEMOSS_ROUTE_NUMBERS, &state)) == HINGEMOSS_REFUSED_NOT_A_RECEIVER && state == 0);
     EXPECT((state = 9, hingemoss_validate(SESSION, LIVE, WORKING, hold, HINGEMOSS_HOLD_LEAST - 1, route, HINGEMOSS_ROUTE_NUMBERS, &state)) == HINGEMOSS_REFUSED_NOT_A_RECEIVER && state == 0);
-    EXPECT(memcmp(before, session, sizeof before) == 0 && memcmp(kept_live, live, sizeof live) == 0 && memcmp(kept_working, working, sizeof working) == 0 && memcmp(kept_hold, hold, sizeof hold) == 0);
+    EXPECT(is_kept());
     session[HINGEMOSS_SESSION_FIRST] = 1;
     EXPECT(ASKED_WITH(0, good[0], HINGEMOSS_REFUSED_NOT_A_RECEIVER, 0));
 
@@ -233,6 +240,93 @@ static void routes(void)
     EXPECT(hingemoss_feed(SESSION, LIVE, WORKING, HOLD, load, 8, &taken, &updates) == HINGEMOSS_REFUSED_OUT_OF_TURN && ASKED_WITH(0, good[0], HINGEMOSS_OK, HINGEMOSS_STATE_VALID));
 }
 
+/* A list of routes: every state and 23 in its own place, every refusal in its order, and nothing written but the states and how many. */
+static void lists(void)
+{
+    enum { ROUTES = 6, NUMBERS = ROUTES * HINGEMOSS_ROUTE_NUMBERS, BEHIND = 3, UNTOUCHED = 99 };
+    static const uint32_t list[NUMBERS + 1] = {
+        5u * 65536 + 24, 0xc0000200u, 0, 0, 0, 64496,            /* of no known family */
+        4u * 65536 + 24, 0xc0000200u, 0, 0, 0, 64496,
+        4u * 65536 + 24, 0xc0000200u, 0, 0, 0, 64497,            /* of another origin */
+        4u * 65536 + 24, 0xc0000200u, 0, 0, 1, 64496,            /* a spare that is not 0 */
+        6u * 65536 + 24, 0xc0000200u, 0, 0, 1, 64496,            /* of the other family, which has no spares */
+        4u * 65536 + 24 * 256 + 24, 0xc0000200u, 0, 0, 0, 64496, /* a record for a route */
+        7 };
+    static const uint8_t expected[ROUTES] = { HINGEMOSS_REFUSED_ROUTE, HINGEMOSS_STATE_VALID, HINGEMOSS_STATE_INVALID, HINGEMOSS_REFUSED_ROUTE, HINGEMOSS_STATE_NOT_FOUND, HINGEMOSS_REFUSED_ROUTE };
+    static uint8_t states[ROUTES + BEHIND], untouched[ROUTES + BEHIND];
+    uint64_t taken, updates, written;
+#define LISTED_BY(receiver, numbers, size, number, said) (memset(states, UNTOUCHED, sizeof states), written = 9, hingemoss_validate_all(receiver, list, numbers, states, size, &written) == (number) && written == (said))
+#define RECEIVER SESSION, LIVE, WORKING, HOLD
+#define ANSWERED(size) (LISTED_BY(RECEIVER, NUMBERS, size, HINGEMOSS_OK, ROUTES) && memcmp(states, expected, ROUTES) == 0 && memcmp(states + ROUTES, untouched, BEHIND) == 0)
+#define STAYS (memcmp(states, untouched, sizeof states) == 0)
+    memset(untouched, UNTOUCHED, sizeof untouched);
+    EXPECT(hingemoss_start(1, SESSION, LIVE, WORKING, HOLD) == HINGEMOSS_OK);
+    EXPECT(LISTED_BY(RECEIVER, NUMBERS, sizeof states, HINGEMOSS_REFUSED_NO_TABLE, 0) && STAYS);
+    EXPECT(LISTED_BY(RECEIVER, NUMBERS, 0, HINGEMOSS_REFUSED_NO_TABLE, 0) && STAYS);                             /* 21 before 9 */
+    EXPECT(LISTED_BY(RECEIVER, 0, 0, HINGEMOSS_REFUSED_NO_TABLE, 0) && STAYS);
+    EXPECT(LISTED_BY(RECEIVER, NUMBERS - 1, sizeof states, HINGEMOSS_REFUSED_NOT_A_RECEIVER, 0) && STAYS);       /* 22 before 21 */
+    EXPECT(hingemoss_full_ask(SESSION, LIVE, WORKING, HOLD, out, HINGEMOSS_FULL_QUERY) == HINGEMOSS_OK);
+    EXPECT(hingemoss_feed(SESSION, LIVE, WORKING, HOLD, load, sizeof load, &taken, &updates) == HINGEMOSS_OK && updates == 1);
+    keep();
+
+    EXPECT(ANSWERED(sizeof states) && ANSWERED(ROUTES));
+    EXPECT(LISTED_BY(RECEIVER, 0, 0, HINGEMOSS_OK, 0) && STAYS);
+    EXPECT(LISTED_BY(RECEIVER, 0, sizeof states, HINGEMOSS_OK, 0) && STAYS);
+    EXPECT(LISTED_BY(RECEIVER, HINGEMOSS_ROUTE_NUMBERS, 1, HINGEMOSS_OK, 1) && states[0] == HINGEMOSS_REFUSED_ROUTE && memcmp(states + 1, untouched, sizeof states - 1) == 0);
+    EXPECT(LISTED_BY(RECEIVER, NUMBERS, ROUTES - 1, HINGEMOSS_REFUSED_OUTPUT_SHORT, ROUTES) && STAYS);
+    EXPECT(LISTED_BY(RECEIVER, NUMBERS, 0, HINGEMOSS_REFUSED_OUTPUT_SHORT, ROUTES) && STAYS);
+    for (size_t numbers = NUMBERS - 5; numbers <= NUMBERS + 1; numbers++)
+        EXPECT(numbers == NUMBERS || (LISTED_BY(RECEIVER, numbers, sizeof states, HINGEMOSS_REFUSED_NOT_A_RECEIVER, 0) && STAYS));
+    EXPECT(LISTED_BY(RECEIVER, NUMBERS - 1, 0, HINGEMOSS_REFUSED_NOT_A_RECEIVER, 0) && STAYS);                   /* 22 before 9 */
+#define SHORT_SESSION session, HINGEMOSS_SESSION_NUMBERS - 1, LIVE, WORKING, HOLD
+#define SHORT_LIVE SESSION, live, HINGEMOSS_ROOM_NUMBERS - 1, WORKING, HOLD
+#define SHORT_WORKING SESSION, LIVE, working, HINGEMOSS_ROOM_NUMBERS - 1, HOLD
+#define SHORT_HOLD SESSION, LIVE, WORKING, hold, HINGEMOSS_HOLD_LEAST - 1
+    EXPECT(LISTED_BY(SHORT_SESSION, NUMBERS, sizeof states, HINGEMOSS_REFUSED_NOT_A_RECEIVER, 0) && STAYS);
+    EXPECT(LISTED_BY(SHORT_LIVE, NUMBERS, sizeof states, HINGEMOSS_REFUSED_NOT_A_RECEIVER, 0) && STAYS);
+    EXPECT(LISTED_BY(SHORT_WORKING, NUMBERS, 0, HINGEMOSS_REFUSED_NOT_A_RECEIVER, 0) && STAYS);
+    EXPECT(LISTED_BY(SHORT_HOLD, 0, 0, HINGEMOSS_REFUSED_NOT_A_RECEIVER, 0) && STAYS);
+    EXPECT(is_kept());
+    session[HINGEMOSS_SESSION_FIRST] = 1;
+    EXPECT(LISTED_BY(RECEIVER, NUMBERS, sizeof states, HINGEMOSS_REFUSED_NOT_A_RECEIVER, 0) && STAYS);
+
+    /* The live table answers in every phase, as of a single route. */
+    session[HINGEMOSS_SESSION_FIRST] = 0;
+    EXPECT(hingemoss_full_ask(SESSION, LIVE, WORKING, HOLD, out, HINGEMOSS_FULL_QUERY) == HINGEMOSS_OK && ANSWERED(ROUTES));
+    EXPECT(hingemoss_feed(SESSION, LIVE, WORKING, HOLD, load, 8, &taken, &updates) == HINGEMOSS_OK && ANSWERED(ROUTES));
+    EXPECT(hingemoss_feed(SESSION, LIVE, WORKING, HOLD, load, 8, &taken, &updates) == HINGEMOSS_REFUSED_OUT_OF_TURN && ANSWERED(ROUTES));
+}
+
+/* Records as they stand in a room, handed in for routes: one of length 0 has the state of a route of length max, and any other 23. They are of another table than the one that answers. */
+static void records_for_routes(void)
+{
+    enum { RECORDS = 4, ROOM = RECORDS * HINGEMOSS_RECORD_NUMBERS };
+    static const uint8_t lengths[RECORDS][2] = { { 0, 23 }, { 0, 24 }, { 0, 25 }, { 8, 24 } };
+    static const uint8_t expected[RECORDS] = { HINGEMOSS_STATE_NOT_FOUND, HINGEMOSS_STATE_VALID, HINGEMOSS_STATE_INVALID, HINGEMOSS_REFUSED_ROUTE };
+    uint32_t records[ROOM];
+    uint8_t states[RECORDS] = { 0 }, prefix[20];
+    uint64_t taken, updates, written, state;
+    EXPECT(hingemoss_start(1, RECEIVER) == HINGEMOSS_OK && hingemoss_full_ask(RECEIVER, out, HINGEMOSS_FULL_QUERY) == HINGEMOSS_OK);
+    EXPECT(hingemoss_feed(RECEIVER, load, 8, &taken, &updates) == HINGEMOSS_OK);
+    memcpy(prefix, load + 8, sizeof prefix);
+    for (int i = 0; i < RECORDS; i++) {
+        memcpy(prefix + 9, lengths[i], 2);
+        EXPECT(hingemoss_feed(RECEIVER, prefix, sizeof prefix, &taken, &updates) == HINGEMOSS_OK);
+    }
+    EXPECT(hingemoss_feed(RECEIVER, load + 28, sizeof load - 28, &taken, &updates) == HINGEMOSS_OK && updates == 1 && session[HINGEMOSS_SESSION_LIVE] == RECORDS);
+    memcpy(records, live, sizeof records);
+    EXPECT(hingemoss_full_ask(RECEIVER, out, HINGEMOSS_FULL_QUERY) == HINGEMOSS_OK && hingemoss_feed(RECEIVER, load, sizeof load, &taken, &updates) == HINGEMOSS_OK && updates == 1);
+    EXPECT(hingemoss_validate_all(RECEIVER, records, ROOM, states, RECORDS, &written) == HINGEMOSS_OK && written == RECORDS && memcmp(states, expected, RECORDS) == 0);
+    for (int i = 0; i < RECORDS; i++) {
+        const uint32_t *record = records + i * HINGEMOSS_RECORD_NUMBERS;
+        uint32_t route[HINGEMOSS_ROUTE_NUMBERS] = { 4u * 65536 + lengths[i][1], 0xc0000200u, 0, 0, 0, 64496 };
+        int is_route = lengths[i][0] == 0;
+        EXPECT(record[HINGEMOSS_RECORD_KIND] == 4u * 65536 + lengths[i][0] * 256u + lengths[i][1]);
+        EXPECT(hingemoss_validate(RECEIVER, record, HINGEMOSS_ROUTE_NUMBERS, &state) == (is_route ? HINGEMOSS_OK : HINGEMOSS_REFUSED_ROUTE) && state == (is_route ? expected[i] : 0));
+        EXPECT(!is_route || (hingemoss_validate(RECEIVER, route, HINGEMOSS_ROUTE_NUMBERS, &state) == HINGEMOSS_OK && state == states[i]));
+    }
+}
+
 int main(void)
 {
     codec();
@@ -241,6 +335,8 @@ int main(void)
     stops();
     receiver();
     routes();
+    lists();
+    records_for_routes();
     puts(bad ? "calls: not all as expected" : "calls: all as expected");
     return bad;
 }

@@ -5,6 +5,7 @@
  *   stream           hex digits, cut by spaces: each PDU and how the stream stands, as the oracle's `stream` prints them
  *   scripts          scripts of receiver calls (tests/model/FORMAT.md): each answer and the state behind it
  *   routes           questions whether a route is good (tests/model/origin.py): each answer and state, by both calls
+ *   route-lists      questions about lists of routes (tests/model/route_lists.py): each answer, number and state list
  *   replay FOLDER    the stored answers of the Rust, answers.txt and encodings.txt: how many agree
  *   captures FOLDER  captured bytes through the stream, whole and in pieces of 1 to 64
  *   loads FOLDER [all]   captured bytes through the receiver, whole, in single bytes, and cut in two
@@ -40,6 +41,8 @@ int main(int count, char **words)
         hosts();
     else if (!strcmp(mode, "routes"))
         routes();
+    else if (!strcmp(mode, "route-lists"))
+        route_lists();
     else
         die("no such mode: ", mode);
     flush();

@@ -27,5 +27,6 @@ void loads(const char *folder, int all);
 void rooms(void);
 void hosts(void);
 void routes(void);
+void route_lists(void);
 
 #endif

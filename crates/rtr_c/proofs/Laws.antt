@@ -31,7 +31,8 @@ use Rattle.rtr_numbers.proofs.Laws.{numbers-of-session}
 use Rattle.rtr_origin.specs.Numbers.{routeOf}
 use Rattle.rtr_origin.specs.declared.RouteFound.{RouteFound}
 use Rattle.rtr_origin.proofs.Shaped as origin
-use Rattle.rtr_c.specs.Calls.{startGives, startLeft, startFound, startC, askGives, askLeft, askFound, fullAskC, changeAskC, feedGives, feedLeft, feedFound, feedC, reconnectGives, reconnectLeft, reconnectFound, reconnectC, notifyGives, notifyLeft, notifyFound, notifyC, encodeGives, encodeLeft, encodeFound, encodeC, listingFound, listingC, validateGives, validateLeft, validateFound, validateC}
+use Rattle.rtr_origin.proofs.Peers as peers
+use Rattle.rtr_c.specs.Calls.{startGives, startLeft, startFound, startC, askGives, askLeft, askFound, fullAskC, changeAskC, feedGives, feedLeft, feedFound, feedC, reconnectGives, reconnectLeft, reconnectFound, reconnectC, notifyGives, notifyLeft, notifyFound, notifyC, encodeGives, encodeLeft, encodeFound, encodeC, listingFound, listingC, validateGives, validateLeft, validateFound, validateC, validateAllFound, validateAllC}
 
 -- numbers that are no session's
 module _ (n live working hold : List ℕ) (none : sessionOf n ≡ SessionFound.Unknown) where
@@ -58,6 +59,10 @@ module _ (n live working hold : List ℕ) (none : sessionOf n ≡ SessionFound.U
   pub unknown-keeps-listing : (out : List ℕ) → listingC n live out ≡ encodeGives 22 0 out
   unfolding listingC
   unknown-keeps-listing out = ap (λ (x : SessionFound). listingFound x live out) none
+
+  pub unknown-keeps-validate-all : (routes states : List ℕ) → validateAllC n live working hold routes states ≡ encodeGives 22 0 states
+  unfolding validateAllC
+  unknown-keeps-validate-all routes states = ap (λ (x : SessionFound). validateAllFound x live working hold routes states) none
 
   pub unknown-validate : (route : List ℕ) → validateC n live working hold route ≡ validateGives 22 0
   unfolding validateC
@@ -106,6 +111,11 @@ module _ (n live working hold : List ℕ) (s : Session) (known : sessionOf n ≡
   pub shapeless-notify : notifyC n live working hold ≡ notifyGives 22 0
   unfolding notifyC
   shapeless-notify = ap (λ (x : SessionFound). notifyFound x live working hold) known ∙ ap notifyLeft (shaped.shapeless-notify (s .life .limit) s live working hold e)
+
+  pub shapeless-keeps-validate-all : (routes states : List ℕ) → validateAllC n live working hold routes states ≡ encodeGives 22 0 states
+  unfolding validateAllC
+  shapeless-keeps-validate-all routes states =
+      ap (λ (x : SessionFound). validateAllFound x live working hold routes states) known ∙ sym (ap encodeLeft (peers.shapeless-list (s .life .limit) s live working hold routes states e))
 
   pub shapeless-validate : (route : List ℕ) → validateC n live working hold route ≡ validateGives 22 0
   unfolding validateC

@@ -1,4 +1,4 @@
--- From what rtr_origin promises of a question to what the call from C promises: six numbers that are no route's are refused as a route that is too long is. Assumes nothing.
+-- From what rtr_origin promises of a question and of a list to what the calls from C promise: six numbers that are no route's are refused as a route that is too long is. Assumes nothing.
 use Prim.Native.Nat.{ℕ}
 use mathlib.Core.Bool.{Bool, true, false, cond}
 use mathlib.Core.List.{List}
@@ -13,12 +13,15 @@ use Rattle.rtr_receiver.specs.declared.Session.{Session}
 use Rattle.rtr_numbers.specs.Back.{sessionOf}
 use Rattle.rtr_numbers.specs.declared.SessionFound.{SessionFound}
 use Rattle.rtr_origin.specs.Promises.{validateSays, routeSaid}
+use Rattle.rtr_encode.specs.Answers.{numberOf}
 use Rattle.rtr_origin.specs.Numbers.{routeOf}
+use Rattle.rtr_origin.specs.Peer.{peerSaid, peerGives, peerLeaves}
+use Rattle.rtr_origin.specs.declared.peer.PeerAnswer.{PeerAnswer}
 use Rattle.rtr_origin.specs.declared.Route.{Route}
 use Rattle.rtr_origin.specs.declared.RouteFound.{RouteFound}
 use Rattle.rtr_origin.specs.declared.ValidateAnswer.{ValidateAnswer}
 use Rattle.rtr_origin.proofs.Shaped as origin
-use Rattle.rtr_c.specs.Calls.{validateGives, validateLeft, validateFound, validateC}
+use Rattle.rtr_c.specs.Calls.{validateGives, validateLeft, validateFound, validateC, amountOf, encodeGives, encodeLeft, validateAllFound, validateAllC}
 use Rattle.rtr_c.specs.Private.{validateNumber, validateState, askedRoute}
 
 -- the numbers of the code's answer are those of what it says
@@ -76,3 +79,21 @@ module _ (live working hold : List ℕ) where
     validate-unknown told =
         ap (λ (x : SessionFound). validateFound x (routeOf route) live working hold) (sym told ∙ f)
         ∙ sym (ap (λ (b : Bool). cond b (validateFound (sessionOf n) (routeOf route) live working hold) (validateGives 22 0)) (eq-eqb (length route) 6 size))
+
+  -- ---- a list
+  module _ (n routes states : List ℕ) (found : SessionFound) (f : found ≡ sessionOf n) where
+    pub all-known : (s : Session) (answer : PeerAnswer) (number amount : ℕ) (left : List ℕ) →
+        found ≡ SessionFound.Known s →
+        peerGives answer left ≡ peerLeaves (s .life .limit) s live working hold routes states →
+        number ≡ numberOf (peerSaid answer) →
+        amount ≡ amountOf (peerSaid answer) →
+        encodeGives number amount left ≡ validateAllC n live working hold routes states
+    unfolding validateAllC
+    all-known s answer number amount left told said named counted =
+        (λ i. encodeGives (named i) (counted i) left)
+        ∙ ap encodeLeft said
+        ∙ ap (λ (x : SessionFound). validateAllFound x live working hold routes states) (sym told ∙ f)
+
+    pub all-unknown : found ≡ SessionFound.Unknown → encodeGives 22 0 states ≡ validateAllC n live working hold routes states
+    unfolding validateAllC
+    all-unknown told = ap (λ (x : SessionFound). validateAllFound x live working hold routes states) (sym told ∙ f)

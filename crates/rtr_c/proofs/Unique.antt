@@ -16,6 +16,7 @@ use Rattle.rtr_c.proofs.hingemoss_notify.Reads as notify-reads
 use Rattle.rtr_c.proofs.hingemoss_listing.Reads as listing-reads
 use Rattle.rtr_c.proofs.hingemoss_read_value.Reads as read-value-reads
 use Rattle.rtr_c.proofs.hingemoss_validate.Reads as validate-reads
+use Rattle.rtr_c.proofs.hingemoss_validate_all.Reads as validate-all-reads
 
 pub read-unique : (κs : _) (a : _) (r r′ : _) (s s′ : _) → read-reads.Post κs a r s → read-reads.Post κs a r′ s′
     → (r ≡ r′) × (now (s .1 .0) ≡ now (s′ .1 .0))
@@ -109,4 +110,12 @@ pub validate-unique : (κs : _) (a : _) (r r′ : _) (s s′ : _) → validate-r
 validate-unique κs a r r′ s s′ p q = (
   ap (λ (x : ValidateLeft). x .answer) (p ∙ sym q),
   ap (λ (x : ValidateLeft). x .state) (p ∙ sym q),
+)
+
+pub validate-all-unique : (κs : _) (a : _) (r r′ : _) (s s′ : _) → validate-all-reads.Post κs a r s → validate-all-reads.Post κs a r′ s′
+    → (r ≡ r′) × (now (s .1 .1 .1 .1 .1 .1 .0) ≡ now (s′ .1 .1 .1 .1 .1 .1 .0)) × (now (s .1 .1 .1 .1 .1 .0) ≡ now (s′ .1 .1 .1 .1 .1 .0))
+validate-all-unique κs a r r′ s s′ p q = (
+  ap (λ (x : EncodeLeft). x .answer) (p ∙ sym q),
+  ap (λ (x : EncodeLeft). x .written) (p ∙ sym q),
+  ap (λ (x : EncodeLeft). x .out) (p ∙ sym q),
 )

@@ -1,6 +1,6 @@
--- Read, encode, listing and validate by their answer: for each number that the call returns, when it does so and what it leaves. proofs/Answers.antt has that
--- each call is one of these, whatever it is lent.
-use Prim.Native.Nat.{ℕ, _≤_, _<_}
+-- Read, encode, listing, validate and validate_all by their answer: for each number that the call returns, when it does so and what it leaves. proofs/Answers.antt (of
+-- validate_all proofs/Peers.antt) has that each call is one of these, whatever it is lent.
+use Prim.Native.Nat.{ℕ, _%_, _≤_, _<_}
 use mathlib.Core.Bool.{true, false}
 use mathlib.Core.List.{List, _++_}
 use mathlib.Core.Path.{_≡_}
@@ -23,6 +23,8 @@ use Rattle.rtr_pdu_numbers.specs.Back.{pduOf}
 use Rattle.rtr_pdu_numbers.specs.declared.PduFound.{PduFound}
 use Rattle.rtr_origin.specs.Origin.{stateOf}
 use Rattle.rtr_origin.specs.Numbers.{routeOf}
+use Rattle.rtr_origin.specs.Promises.{validateSays}
+use Rattle.rtr_origin.specs.Peer.{statesOf, routeCount}
 use Rattle.rtr_origin.specs.declared.Route.{Route}
 use Rattle.rtr_origin.specs.declared.RouteFound.{RouteFound}
 use Rattle.rtr_origin.specs.declared.RouteState.{RouteState}
@@ -141,3 +143,37 @@ pub data ValidateAnswers (session live working hold route : List ℕ) : Validate
       Askable session live working hold route s →
       HasState live route s q RouteState.Invalid →
       ValidateAnswers session live working hold route (validateGives 0 2)
+
+-- nothing stands in the way of a list but a table and its states: a session, numbers in sixes, and no reason for 22
+pub record AskableAll (session live working hold routes : List ℕ) (s : Session) : Type 0 where
+  pub known : sessionOf session ≡ SessionFound.Known s
+  pub sixes : length routes % 6 ≡ 0
+  pub no-reason : Reason (s .life .limit) s live working hold → ⊥
+
+-- validate_all: 22 where the session's numbers are no session's, where there is a reason, or where the routes' are not in sixes; then 21 without a table, and 9 with how many states are
+-- needed; or 0, how many routes there were, and the state of each in its place, with what stood behind them
+pub data ValidateAllAnswers (session live working hold routes states : List ℕ) : EncodeLeft → Type 0 where
+  unknown : sessionOf session ≡ SessionFound.Unknown → ValidateAllAnswers session live working hold routes states (encodeGives 22 0 states)
+  shapeless : (s : Session) →
+      sessionOf session ≡ SessionFound.Known s →
+      Reason (s .life .limit) s live working hold →
+      ValidateAllAnswers session live working hold routes states (encodeGives 22 0 states)
+  notSixes : (s : Session) →
+      sessionOf session ≡ SessionFound.Known s →
+      (length routes % 6 ≡ 0 → ⊥) →
+      ValidateAllAnswers session live working hold routes states (encodeGives 22 0 states)
+  untabled : (s : Session) →
+      AskableAll session live working hold routes s →
+      s .table ≡ LiveTable.NoTable →
+      ValidateAllAnswers session live working hold routes states (encodeGives 21 0 states)
+  short : (s : Session) →
+      AskableAll session live working hold routes s →
+      hasTable (s .table) ≡ true →
+      length states < routeCount routes →
+      ValidateAllAnswers session live working hold routes states (encodeGives 9 (routeCount routes) states)
+  answered : (s : Session) →
+      AskableAll session live working hold routes s →
+      hasTable (s .table) ≡ true →
+      routeCount routes ≤ length states →
+      ValidateAllAnswers session live working hold routes states
+      (encodeGives 0 (routeCount routes) (statesOf (validateSays (s .life .limit) s live working hold) routes ++ drop (routeCount routes) states))

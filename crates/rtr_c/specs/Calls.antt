@@ -26,6 +26,7 @@ use Rattle.rtr_pdu_numbers.specs.declared.PduFound.{PduFound}
 use Rattle.rtr_origin.specs.Origin.{stateNumber}
 use Rattle.rtr_origin.specs.Promises.{RouteSays, validateSays}
 use Rattle.rtr_origin.specs.Numbers.{routeOf}
+use Rattle.rtr_origin.specs.Peer.{peerLeaves}
 use Rattle.rtr_origin.specs.declared.RouteFound.{RouteFound}
 
 -- ---- whether numbers are a session's; those that are none are refused by 22 in every call but start, which writes them
@@ -325,3 +326,12 @@ validateFound SessionFound.Unknown route live working hold = validateGives 22 0
 unfoldable pub validateC : List ℕ → List ℕ → List ℕ → List ℕ → List ℕ → ValidateLeft
 validateC session live working hold route =
     cond (eqb (length route) 6) (validateFound (sessionOf session) (routeOf route) live working hold) (validateGives 22 0)
+
+-- ---- validate_all: 0, 22, 21 or 9; how many routes there were, or how many states are needed (9), or 0; and the list of states
+abbrev pub validateAllFound : SessionFound → List ℕ → List ℕ → List ℕ → List ℕ → List ℕ → EncodeLeft
+validateAllFound (SessionFound.Known s) live working hold routes states = encodeLeft (peerLeaves (s .life .limit) s live working hold routes states)
+validateAllFound SessionFound.Unknown live working hold routes states = encodeGives 22 0 states
+
+-- the promise of `hingemoss_validate_all`
+unfoldable pub validateAllC : List ℕ → List ℕ → List ℕ → List ℕ → List ℕ → List ℕ → EncodeLeft
+validateAllC session live working hold routes states = validateAllFound (sessionOf session) live working hold routes states

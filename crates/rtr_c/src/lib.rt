@@ -7,6 +7,8 @@ use rtr_listing::ListAnswer;
 use rtr_listing::ListError;
 use rtr_models::*;
 use rtr_numbers::SessionFound;
+use rtr_origin::PeerAnswer;
+use rtr_origin::PeerError;
 use rtr_origin::Route;
 use rtr_origin::RouteFound;
 use rtr_origin::RoutePrefix;
@@ -30,8 +32,9 @@ ghost use Rattle.rtr_receiver.specs.Promises.{askWriting, reconnectNumber};
 ghost use Rattle.rtr_receiver.specs.Runs.{Call};
 ghost use Rattle.rtr_receiver.specs.declared.LoadKind.{LoadKind};
 ghost use Rattle.rtr_numbers.specs.Numbers.{valueOf};
+ghost use Rattle.rtr_origin.specs.Peer.{peerSaid};
 ghost use Rattle.rtr_walk.specs.Walk.{endSaid};
-ghost use Rattle.rtr_c.specs.Calls.{isSession, amountOf, endNumber, endValue, readGives, readC, encodeGives, encodeC, walkGives, walkC, startGives, startC, askGives, fullAskC, changeAskC, feedGives, feedC, reconnectGives, reconnectC, notifyGives, notifyC, listingC, validateGives, validateC};
+ghost use Rattle.rtr_c.specs.Calls.{isSession, amountOf, endNumber, endValue, readGives, readC, encodeGives, encodeC, walkGives, walkC, startGives, startC, askGives, fullAskC, changeAskC, feedGives, feedC, reconnectGives, reconnectC, notifyGives, notifyC, listingC, validateGives, validateC, validateAllC};
 ghost use Rattle.rtr_c.specs.Private.{feedNumber, notifyNumber, notifyCompared, validateNumber, validateState, askedRoute};
 ghost use Rattle.rtr_c.specs.Runs.{memory, LeadsOn, Begins};
 
@@ -180,6 +183,29 @@ fn validate_state(answer: ValidateAnswer) -> u64
     match answer {
         ValidateAnswer::State(state) => state.number() as u64,
         ValidateAnswer::Refused(_) => 0,
+    }
+}
+
+fn peer_number(answer: PeerAnswer) -> u8
+    ensures { λ r. ⌜ r ≡ numberOf (peerSaid answer) ⌝ }
+{
+    match answer {
+        PeerAnswer::Answered(_) => 0,
+        PeerAnswer::Refused(error) => error.number(),
+    }
+}
+
+// The routes answered, or the states needed where the list of them is too short.
+fn peer_amount(answer: PeerAnswer) -> u64
+    ensures { λ r. ⌜ r ≡ amountOf (peerSaid answer) ⌝ }
+{
+    match answer {
+        PeerAnswer::Answered(n) => n as u64,
+        PeerAnswer::Refused(error) => match error {
+            PeerError::OutOfShape => 0,
+            PeerError::NoTable => 0,
+            PeerError::StatesShort { needed } => needed as u64,
+        },
     }
 }
 
@@ -502,6 +528,33 @@ pub extern "C" fn hingemoss_validate(
         }
         SessionFound::Unknown => {
             *state = 0;
+            22
+        }
+    }
+}
+
+// The states of a list of routes, each as for the route alone: 0 and how many routes there were, or the refusal.
+#[no_mangle]
+pub extern "C" fn hingemoss_validate_all(
+    session: &[u64],
+    live: &[u32],
+    working: &[u32],
+    hold: &[u8],
+    routes: &[u32],
+    states: &mut [u8],
+    written: &mut u64,
+) -> u8
+    ensures { λ r. ⌜ encodeGives r (now (written .exit)) (now (states .exit)) ≡ validateAllC (now (session .entry)) (now (live .entry)) (now (working .entry)) (now (hold .entry)) (now (routes .entry)) (now (states .entry)) ⌝ }
+{
+    let found = rtr_numbers::session_of(session);
+    match found {
+        SessionFound::Known(s) => {
+            let answer = rtr_origin::validate_all(s, live, working, hold, routes, states);
+            *written = peer_amount(answer);
+            peer_number(answer)
+        }
+        SessionFound::Unknown => {
+            *written = 0;
             22
         }
     }

@@ -1,4 +1,5 @@
--- `Laws`, `Samples`, `Shaped`, `Numbers`, `Unique` and `Engines` are for readers and other crates; the others are the argument. `Leading` and `Hosts` have the words that `Laws` speaks in.
+-- `Laws`, `Samples`, `Shaped`, `Numbers`, `Unique`, `Engines`, `Peers` and `ListLaws` are for readers and other crates; the others are the argument. `Leading` and `Hosts` have the words that `Laws` speaks in,
+-- and `Lists` those of `ListLaws`.
 pub mod Laws
 pub mod Leading
 pub mod Hosts
@@ -7,6 +8,9 @@ pub mod Shaped
 pub mod Numbers
 pub mod Unique
 pub mod Engines
+pub mod Lists
+pub mod Peers
+pub mod ListLaws
 mod Addresses
 mod Walks
 mod Bits
@@ -14,3 +18,4 @@ mod Judging
 mod Tabled
 mod Engine
 mod Answers
+mod Surveys

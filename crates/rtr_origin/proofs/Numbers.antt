@@ -1,16 +1,16 @@
 -- A route and its six numbers, both ways: a route in range is found from its numbers, and what is found has those numbers and is in range. Six numbers are a
 -- list of its six members, and family and length are found again in the first, by arithmetic. Before that the tests of `route_of`. Assumes nothing.
-use Prim.Native.Nat.{ℕ, _+_, _*_, _/_, _%_, _≤_, _<_}
+use Prim.Native.Nat.{ℕ, zero, suc, _+_, _*_, _/_, _%_, _≤_, _<_}
 use mathlib.Core.Bool.{Bool, true, false, cond, _&&_}
 use mathlib.Core.List.{List, [], _∷_}
 use mathlib.Core.Logic.{_↔_}
 use mathlib.Core.Path.{_≡_, refl, sym, ap, _∙_, subst}
 use native.Mathlib.Omega.{arith}
-use borrow.Author.Tests.{leb-true, eqb-true, le-leb, lt-leb, eq-eqb, ne-eqb}
+use borrow.Author.Tests.{leb-true, leb-false, eqb-true, eqb-false, le-leb, lt-leb, eq-eqb, ne-eqb}
 use lib.Dec.{leb, eqb}
 use lib.ListN.{length, getD}
 use Rattle.rtr_origin.specs.Origin.{longestIn}
-use Rattle.rtr_origin.specs.Numbers.{numbersOf, isIPv4, isIPv6, routeOf}
+use Rattle.rtr_origin.specs.Numbers.{numbersOf, isIPv4, isIPv6, routeOf, NoRoute}
 use Rattle.rtr_origin.specs.declared.RoutePrefix.{RoutePrefix}
 use Rattle.rtr_origin.specs.declared.RoutePrefix.the-variants.{IPv4, IPv6}
 use Rattle.rtr_origin.specs.declared.Route.{Route}
@@ -182,3 +182,85 @@ no-route-exactly n = (λ e q l m. differ q (sym e ∙ route-exactly n q .1 (m, l
     go : ((q : Route) → q .length ≤ longestIn (q .prefix) → n ≡ numbersOf q → ⊥) → (f : RouteFound) → routeOf n ≡ f → routeOf n ≡ Unknown
     go h Unknown e = e
     go h (Known q) e = let r = numbers-of-route n q e in absurd (h q (r .1) (r .0))
+
+-- the numbers of a route that is too long are no route's
+pub too-long-unknown : (q : Route) → q .length < 65536 → longestIn (q .prefix) < q .length → routeOf (numbersOf q) ≡ Unknown
+unfolding routeOf
+too-long-unknown q = go (q .prefix) (q .length) (q .origin)
+  where
+    go : (p : RoutePrefix) (l o : ℕ) → l < 65536 → longestIn p < l → routeOf (numbersOf (record { prefix = p; length = l; origin = o })) ≡ Unknown
+    go (IPv4 address) l o h k =
+        let family : (4 * 65536 + l) / 65536 ≡ 4 = omega (arith, h) in
+        let long : (4 * 65536 + l) % 65536 ≡ l = omega (arith, h) in
+        rw (family, long, lt-leb l 32 k)
+    go (IPv6 address) l o h k =
+        let family : (6 * 65536 + l) / 65536 ≡ 6 = omega (arith, h) in
+        let long : (6 * 65536 + l) % 65536 ≡ l = omega (arith, h) in
+        rw (family, long, lt-leb l 128 k)
+
+-- ---- why six numbers are none
+
+module _ (n : List ℕ) where
+  abbrev first : ℕ
+  first = getD n 0 0
+
+  never : true ≡ false → ⊥
+  never h = let z : _≡_ {A = ℕ} 0 1 = cc in omega arith
+
+  because : isIPv4 first (getD n 2 0) (getD n 3 0) (getD n 4 0) ≡ false → isIPv6 first ≡ false → NoRoute n
+  because = go (eqb (first / 65536) 4) (leb (first % 65536) 32) (eqb (getD n 2 0) 0) (eqb (getD n 3 0) 0) (eqb (getD n 4 0) 0) (eqb (first / 65536) 6) (leb (first % 65536) 128) refl refl refl refl refl refl refl
+    where
+      go : (a b c d f g h : Bool) → eqb (first / 65536) 4 ≡ a → leb (first % 65536) 32 ≡ b → eqb (getD n 2 0) 0 ≡ c → eqb (getD n 3 0) 0 ≡ d → eqb (getD n 4 0) 0 ≡ f
+          → eqb (first / 65536) 6 ≡ g → leb (first % 65536) 128 ≡ h → a && (b && (c && (d && f))) ≡ false → g && h ≡ false → NoRoute n
+      go true false c d f g h p q r s t u v w x = NoRoute.over32 (eqb-true _ _ p) (leb-false _ _ q)
+      go true true false d f g h p q r s t u v w x = NoRoute.spare (eqb-true _ _ p) 2 (omega arith) (omega arith) (eqb-false _ _ r)
+      go true true true false f g h p q r s t u v w x = NoRoute.spare (eqb-true _ _ p) 3 (omega arith) (omega arith) (eqb-false _ _ s)
+      go true true true true false g h p q r s t u v w x = NoRoute.spare (eqb-true _ _ p) 4 (omega arith) (omega arith) (eqb-false _ _ t)
+      go true true true true true g h p q r s t u v w x = absurd (never w)
+      go false b c d f true false p q r s t u v w x = NoRoute.over128 (eqb-true _ _ u) (leb-false _ _ v)
+      go false b c d f true true p q r s t u v w x = absurd (never x)
+      go false b c d f false h p q r s t u v w x = NoRoute.otherFamily (eqb-false _ _ p) (eqb-false _ _ u)
+
+  -- a route's numbers have none of the reasons
+  sound : (q : Route) → q .length ≤ longestIn (q .prefix) → n ≡ numbersOf q → NoRoute n → ⊥
+  sound q = go (q .prefix) (q .length) (q .origin)
+    where
+      go : (p : RoutePrefix) (l o : ℕ) → l ≤ longestIn p → n ≡ numbersOf (record { prefix = p; length = l; origin = o }) → NoRoute n → ⊥
+      go (IPv4 address) l o h e (NoRoute.otherFamily f g) = f (ap (λ (m : List ℕ). getD m 0 0 / 65536) e ∙ omega (arith, h))
+      go (IPv4 address) l o h e (NoRoute.over32 f k) = omega (arith, h, k, ap (λ (m : List ℕ). getD m 0 0 % 65536) e)
+      go (IPv4 address) l o h e (NoRoute.over128 f k) = omega (arith, h, f, ap (λ (m : List ℕ). getD m 0 0 / 65536) e)
+      go (IPv4 address) l o h e (NoRoute.spare f i a b k) = k (ap (λ (m : List ℕ). getD m i 0) e ∙ zeros i a b)
+        where
+          zeros : (i : ℕ) → 2 ≤ i → i ≤ 4 → getD (numbersOf (record { prefix = IPv4 address; length = l; origin = o })) i 0 ≡ 0
+          zeros zero a b = absurd (omega arith)
+          zeros (suc zero) a b = absurd (omega arith)
+          zeros (suc (suc zero)) a b = refl
+          zeros (suc (suc (suc zero))) a b = refl
+          zeros (suc (suc (suc (suc zero)))) a b = refl
+          zeros (suc (suc (suc (suc (suc i))))) a b = absurd (omega arith)
+      go (IPv6 address) l o h e (NoRoute.otherFamily f g) = g (ap (λ (m : List ℕ). getD m 0 0 / 65536) e ∙ omega (arith, h))
+      go (IPv6 address) l o h e (NoRoute.over32 f k) = omega (arith, h, f, ap (λ (m : List ℕ). getD m 0 0 / 65536) e)
+      go (IPv6 address) l o h e (NoRoute.over128 f k) = omega (arith, h, k, ap (λ (m : List ℕ). getD m 0 0 % 65536) e)
+      go (IPv6 address) l o h e (NoRoute.spare f i a b k) = omega (arith, h, f, ap (λ (m : List ℕ). getD m 0 0 / 65536) e)
+
+  -- six numbers are no route's exactly for one of these reasons
+  pub no-route-reasons : length n ≡ 6 → routeOf n ≡ Unknown ↔ NoRoute n
+  no-route-reasons size = (λ e. by-four e (isIPv4 first (getD n 2 0) (getD n 3 0) (getD n 4 0)) refl, λ r. back r (routeOf n) refl)
+    where
+      differ : {q : Route} → Known q ≡ Unknown → ⊥
+      differ h = let z : _≡_ {A = ℕ} 0 1 = cc in omega arith
+
+      l : ℕ
+      l = first % 65536 % 256
+
+      by-six : routeOf n ≡ Unknown → isIPv4 first (getD n 2 0) (getD n 3 0) (getD n 4 0) ≡ false → (b : Bool) → isIPv6 first ≡ b → NoRoute n
+      by-six e f true h = absurd (differ (found-six n size first (getD n 1 0) (getD n 2 0) (getD n 3 0) (getD n 4 0) (getD n 5 0) l refl refl refl refl refl refl refl f h ∙ e))
+      by-six e f false h = because f h
+
+      by-four : routeOf n ≡ Unknown → (b : Bool) → isIPv4 first (getD n 2 0) (getD n 3 0) (getD n 4 0) ≡ b → NoRoute n
+      by-four e true h = absurd (differ (found-four n size first (getD n 1 0) (getD n 2 0) (getD n 3 0) (getD n 4 0) (getD n 5 0) l refl refl refl refl refl refl refl h ∙ e))
+      by-four e false h = by-six e h (isIPv6 first) refl
+
+      back : NoRoute n → (f : RouteFound) → routeOf n ≡ f → routeOf n ≡ Unknown
+      back r Unknown e = e
+      back r (Known q) e = let w = numbers-of-route n q e in absurd (sound q (w .1) (w .0) r)

@@ -4,7 +4,13 @@ use mathlib.Core.Path.{_≡_, refl}
 use Rattle.rtr_room.specs.Table.{ipv4Record, ipv6Record}
 use Rattle.rtr_room.specs.declared.Record.{Record}
 use Rattle.rtr_origin.specs.Origin.{agree, covers, matches, any, stateOf, stateNumber}
-use Rattle.rtr_origin.specs.Promises.{routeRefusal}
+use Rattle.rtr_encode.specs.Encode.Writing.{written, refused}
+use Rattle.rtr_origin.specs.Numbers.{routeOf}
+use Rattle.rtr_origin.specs.Promises.{RouteSays, routeRefusal}
+use Rattle.rtr_origin.specs.Peer.{saysNumber, statesFrom, statesOf, peerRefusal, peerSaid}
+use Rattle.rtr_origin.specs.declared.peer.PeerError.{PeerError}
+use Rattle.rtr_origin.specs.declared.peer.PeerAnswer.{PeerAnswer}
+use Rattle.rtr_origin.specs.declared.Route.{Route}
 use Rattle.rtr_origin.specs.declared.ValidateError.the-variants.{NotAReceiver, NoTable, TooLong}
 use Rattle.rtr_origin.specs.declared.RoutePrefix.the-variants.{IPv4, IPv6}
 use Rattle.rtr_origin.specs.declared.RouteState.the-variants.{NotFound, Valid, Invalid}
@@ -91,3 +97,31 @@ numbers-of-states = (refl, refl, refl)
 
 pub numbers-of-refusals : (routeRefusal NotAReceiver ≡ 22) × (routeRefusal NoTable ≡ 21) × (routeRefusal TooLong ≡ 23)
 numbers-of-refusals = (refl, refl, refl)
+
+-- ---- a list: 10.1.0.0/16 of AS 64496; an IPv4 route with a spare that is not 0; a length of 280, which is no 24; a route of family 5; 192.0.2.0/24 of AS 0; 2001:db8:a123::/48 of AS 64496;
+-- 10.0.0.0/7; a record's first number in a route's place. Each is answered in its place, and what is none ends nothing
+pub of-a-peer : statesOf (λ (q : Route). RouteSays.state (stateOf q table))
+    (262160 ∷ 0x0a010000 ∷ 0 ∷ 0 ∷ 0 ∷ 64496
+    ∷ 262160 ∷ 0x0a010000 ∷ 0 ∷ 1 ∷ 0 ∷ 64496
+    ∷ 262424 ∷ 0x0a010000 ∷ 0 ∷ 0 ∷ 0 ∷ 64496
+    ∷ 327696 ∷ 0x0a010000 ∷ 0 ∷ 0 ∷ 0 ∷ 64496
+    ∷ 262168 ∷ 0xc0000200 ∷ 0 ∷ 0 ∷ 0 ∷ 0
+    ∷ 393264 ∷ 0x20010db8 ∷ 0xa1230000 ∷ 0 ∷ 0 ∷ 64496
+    ∷ 262151 ∷ 0x0a000000 ∷ 0 ∷ 0 ∷ 0 ∷ 64496
+    ∷ 264216 ∷ 0x0a000000 ∷ 0 ∷ 0 ∷ 0 ∷ 64496
+    ∷ [])
+    ≡ 1 ∷ 23 ∷ 23 ∷ 23 ∷ 2 ∷ 1 ∷ 0 ∷ 23 ∷ []
+unfolding statesFrom routeOf stateOf any matches covers agree
+of-a-peer = refl
+
+-- no routes have no states
+pub of-nobody : statesOf (λ (q : Route). RouteSays.state (stateOf q table)) [] ≡ []
+unfolding statesFrom
+of-nobody = refl
+
+-- what a list puts in a place, and its refusals
+pub numbers-in-places : (saysNumber (RouteSays.refused 23) ≡ 23) × (saysNumber (RouteSays.state Valid) ≡ 1) × (saysNumber (RouteSays.state Invalid) ≡ 2) × (saysNumber (RouteSays.state NotFound) ≡ 0)
+numbers-in-places = (refl, refl, refl, refl)
+
+pub numbers-of-list-refusals : (peerRefusal PeerError.OutOfShape ≡ refused 22 []) × (peerRefusal PeerError.NoTable ≡ refused 21 []) × (peerRefusal (PeerError.StatesShort 40000) ≡ refused 9 (40000 ∷ [])) × (peerSaid (PeerAnswer.Answered 40000) ≡ written 40000)
+numbers-of-list-refusals = (refl, refl, refl, refl)

@@ -1,6 +1,6 @@
 -- The room of a table, as the engine reads it: its records are the table, record i is the table's, and a look-up finds the rank. From the laws
 -- of rooms. Assumes nothing.
-use Prim.Native.Nat.{ℕ, _+_, _*_, _≤_, _<_}
+use Prim.Native.Nat.{ℕ, _*_, _≤_, _<_}
 use mathlib.Core.Bool.{Bool, true, false, cond}
 use mathlib.Core.List.{List}
 use mathlib.Core.Path.{_≡_, sym, ap, _∙_}

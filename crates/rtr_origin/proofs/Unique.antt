@@ -1,16 +1,22 @@
 -- What each public call promises leaves one result (document 01, "How tight the promises are"), and the two calls, whose promise is one, give equal
--- results: document 02, request One, "proved equal on every table and route". Nothing is lent that could be written. Assumes nothing.
+-- results: document 02, request One, "proved equal on every table and route". Only the list's call is lent memory to write, its states. Assumes nothing.
 use Prim.Native.Nat.{ℕ}
 use mathlib.Core.Bool.{cond}
-use mathlib.Core.Path.{_≡_, refl}
+use mathlib.Core.Path.{_≡_, refl, sym, ap, _∙_}
 use lib.Dec.{eqb}
+use denote.Ref.{now}
 use Rattle.rtr_base.proofs.Unique.{only-one, only-this}
+use Rattle.rtr_encode.specs.Encode.{Encoded}
 use Rattle.rtr_origin.specs.Promises.{RouteSays, routeSaid}
+use Rattle.rtr_origin.specs.Peer.{peerSaid}
 use Rattle.rtr_origin.specs.Promises.RouteSays.{state, refused}
 use Rattle.rtr_origin.specs.declared.ValidateError.{ValidateError}
 use Rattle.rtr_origin.specs.declared.ValidateError.the-variants.{NotAReceiver, NoTable, TooLong}
 use Rattle.rtr_origin.specs.declared.ValidateAnswer.{ValidateAnswer}
 use Rattle.rtr_origin.specs.declared.ValidateAnswer.the-variants.{State, Refused}
+use Rattle.rtr_origin.proofs.Lists.{peerOf, peer-back}
+use Rattle.rtr_origin.proofs.peer.validate_all.Reads as all-reads
+use Rattle.rtr_origin.proofs.peer.PeerError.number.Reads as peer-error-reads
 use Rattle.rtr_origin.proofs.validate.Reads as order-reads
 use Rattle.rtr_origin.proofs.validate_by_scan.Reads as scan-reads
 use Rattle.rtr_origin.proofs.route_of.Reads as route-of-reads
@@ -50,3 +56,14 @@ validate-error-number-unique κs a r r′ s s′ p q = only-this r r′ _ p q
 
 pub route-of-unique : (κs : _) (a : _) (r r′ : _) (s s′ : _) → route-of-reads.Post κs a r s → route-of-reads.Post κs a r′ s′ → r ≡ r′
 route-of-unique κs a r r′ s s′ p q = only-this r r′ _ p q
+
+-- ---- a whole peer
+
+pub validate-all-unique : (κs : _) (a : _) (r r′ : _) (s s′ : _) → all-reads.Post κs a r s → all-reads.Post κs a r′ s′ → (r ≡ r′) × (now (s .1 .1 .1 .1 .1 .0) ≡ now (s′ .1 .1 .1 .1 .1 .0))
+validate-all-unique κs a r r′ s s′ p q = (
+  only-one peerSaid peerOf peer-back r r′ _ (ap (λ (x : Encoded). x .says) p) (ap (λ (x : Encoded). x .says) q),
+  ap (λ (x : Encoded). x .out) (p ∙ sym q),
+)
+
+pub peer-error-number-unique : (κs : _) (a : _) (r r′ : _) (s s′ : _) → peer-error-reads.Post κs a r s → peer-error-reads.Post κs a r′ s′ → r ≡ r′
+peer-error-number-unique κs a r r′ s s′ p q = only-this r r′ _ p q

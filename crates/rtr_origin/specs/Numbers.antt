@@ -1,8 +1,9 @@
 -- The six numbers of a route: document 02, request Two. The first has its family and its length, four its address as in a record, the last its origin.
--- `route-exactly` (proofs/Numbers.antt): a route is found exactly where it is in range and the numbers are its.
-use Prim.Native.Nat.{ℕ, _+_, _*_, _/_, _%_}
+-- `route-exactly` (proofs/Numbers.antt): a route is found exactly where it is in range and the numbers are its; `no-route-reasons`: of six numbers none exactly where `NoRoute` has a reason.
+use Prim.Native.Nat.{ℕ, _+_, _*_, _/_, _%_, _≤_, _<_}
 use mathlib.Core.Bool.{Bool, cond, _&&_}
 use mathlib.Core.List.{List, [], _∷_, _++_}
+use mathlib.Core.Path.{_≡_}
 use lib.Dec.{leb, eqb}
 use lib.ListN.{length, getD}
 use Rattle.rtr_origin.specs.Origin.{wordsIn, familyIn}
@@ -37,3 +38,10 @@ routeOf n =
     }))
     Unknown))
     Unknown
+
+-- why six numbers are no route's: of no known family, longer than the family allows, or IPv4 with a spare number, the third to the fifth, that is not 0
+pub data NoRoute (n : List ℕ) : Type 0 where
+  otherFamily : (getD n 0 0 / 65536 ≡ 4 → ⊥) → (getD n 0 0 / 65536 ≡ 6 → ⊥) → NoRoute n
+  over32 : getD n 0 0 / 65536 ≡ 4 → 32 < getD n 0 0 % 65536 → NoRoute n
+  over128 : getD n 0 0 / 65536 ≡ 6 → 128 < getD n 0 0 % 65536 → NoRoute n
+  spare : getD n 0 0 / 65536 ≡ 4 → (i : ℕ) → 2 ≤ i → i ≤ 4 → (getD n i 0 ≡ 0 → ⊥) → NoRoute n

@@ -1,4 +1,4 @@
-// Whether a route is good: its RFC 6811 state by the live table. Two calls with one promise: a scan, and one that uses the table's order.
+// Whether a route is good: its RFC 6811 state by the live table. Two calls with one promise: a scan, and one that uses the table's order; a third, for a list of routes, is in peer.rt.
 use rtr_models::Ipv6Addr;
 use rtr_receiver::LiveTable;
 use rtr_receiver::Session;
@@ -6,6 +6,12 @@ use rtr_receiver::is_receiver;
 use rtr_room::LookUp;
 use rtr_room::Record;
 use rtr_room::look_up;
+
+mod peer;
+
+pub use peer::PeerAnswer;
+pub use peer::PeerError;
+pub use peer::validate_all;
 ghost use Prim.Native.Nat.{ℕ, _+_, _-_, _*_, _/_, _%_, _<_, _≤_};
 ghost use mathlib.Core.Bool.{true, not};
 ghost use mathlib.Core.Path.{_≡_};
