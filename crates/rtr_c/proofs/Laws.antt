@@ -31,7 +31,7 @@ use Rattle.rtr_numbers.proofs.Laws.{numbers-of-session}
 use Rattle.rtr_origin.specs.Numbers.{routeOf}
 use Rattle.rtr_origin.specs.declared.RouteFound.{RouteFound}
 use Rattle.rtr_origin.proofs.Shaped as origin
-use Rattle.rtr_origin.proofs.Peers as peers
+use Rattle.rtr_origin.proofs.PeerAnswers as peers
 use Rattle.rtr_c.specs.Calls.{startGives, startLeft, startFound, startC, askGives, askLeft, askFound, fullAskC, changeAskC, feedGives, feedLeft, feedFound, feedC, reconnectGives, reconnectLeft, reconnectFound, reconnectC, notifyGives, notifyLeft, notifyFound, notifyC, encodeGives, encodeLeft, encodeFound, encodeC, listingFound, listingC, validateGives, validateLeft, validateFound, validateC, validateAllFound, validateAllC}
 
 -- numbers that are no session's

@@ -1,5 +1,5 @@
 -- Read, encode, listing, validate and validate_all by their answer: for each number that the call returns, when it does so and what it leaves. proofs/Answers.antt (of
--- validate_all proofs/Peers.antt) has that each call is one of these, whatever it is lent.
+-- validate_all proofs/PeerAnswers.antt) has that each call is one of these, whatever it is lent.
 use Prim.Native.Nat.{ℕ, _%_, _≤_, _<_}
 use mathlib.Core.Bool.{true, false}
 use mathlib.Core.List.{List, _++_}

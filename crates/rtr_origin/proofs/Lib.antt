@@ -1,5 +1,5 @@
--- `Laws`, `Samples`, `Shaped`, `Numbers`, `Unique`, `Engines`, `Peers` and `ListLaws` are for readers and other crates; the others are the argument. `Leading` and `Hosts` have the words that `Laws` speaks in,
--- and `Lists` those of `ListLaws`.
+-- `Laws`, `Samples`, `Shaped`, `Numbers`, `Unique`, `Engines`, `PeerAnswers` and `PeerLaws` are for readers and other crates; the others are the argument. `Leading` and `Hosts` have the words that `Laws` speaks in,
+-- and `Lists` those of `PeerLaws`.
 pub mod Laws
 pub mod Leading
 pub mod Hosts
@@ -9,8 +9,8 @@ pub mod Numbers
 pub mod Unique
 pub mod Engines
 pub mod Lists
-pub mod Peers
-pub mod ListLaws
+pub mod PeerAnswers
+pub mod PeerLaws
 mod Addresses
 mod Walks
 mod Bits

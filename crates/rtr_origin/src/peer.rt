@@ -149,7 +149,7 @@ fn place_of(live: &[u32], count: usize, v: Families, numbers: &[u32]) -> u8
 }
 
 // Every route's place is filled, and none behind them.
-fn answer(live: &[u32], count: usize, routes: &[u32], states: &mut [u8])
+fn fill_states(live: &[u32], count: usize, routes: &[u32], states: &mut [u8])
     requires { ⌜ (isRoom (limitOf (now live)) count (now live) ≡ true) × (routeCount (now routes) ≤ length (now states)) ⌝ }
     ensures { λ r. ⌜ now (states .exit) ≡ over (now (states .entry)) 0 (statesOf (stateBy (records count (now (live .entry)))) (now (routes .entry))) ⌝ }
 {
@@ -190,7 +190,7 @@ pub fn validate_all(
                 return PeerAnswer::Refused(PeerError::StatesShort { needed });
             }
             let counts = s.live;
-            answer(live, counts.records, routes, states);
+            fill_states(live, counts.records, routes, states);
             PeerAnswer::Answered(needed)
         }
     }

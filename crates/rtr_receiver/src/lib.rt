@@ -31,7 +31,7 @@ ghost use Rattle.rtr_codec.specs.Answers.{numberOf};
 ghost use Rattle.rtr_room.specs.Table.{enter, leave};
 ghost use Rattle.rtr_room.specs.Room.{records};
 ghost use Rattle.rtr_receiver.specs.Receiver.{changedTo, finish, noUpdate, onKind, onPdu, listens, compared};
-ghost use Rattle.rtr_receiver.specs.Promises.{NotifySays, stopSaid, changeUnderWay, isLoading, stageOf, receiverOf, inOrder, isReceiver, FedAs, feedSays, fedSaid, startSays, startSaid, fullAskSays, changeAskSays, askSaid, reconnectSays, reconnectSaid, notifySays, notifySaid, recordLimit, isLimit, tabled, cleared};
+ghost use Rattle.rtr_receiver.specs.Promises.{NotifySays, stopSaid, changeUnderWay, isLoading, stageOf, receiverOf, inOrder, isReceiver, FedAs, startSays, startSaid, fullAskSays, changeAskSays, askSaid, reconnectSays, reconnectSaid, notifySays, notifySaid, recordLimit, isLimit, tabled, cleared};
 ghost use Rattle.rtr_receiver.specs.Private.{BothRooms, Stands, Did, responseIn, resetIn, endIn, carriedBy, carriedOut, Makes, Updates, Decides, DecidesOn, Filled, stoppedSession, askedFor, afterPdu, feedHere, StepAsks, Stepped};
 
 // How many records a room has at the most.

@@ -5,7 +5,7 @@ use borrow.Author.Needs.{needs}
 use borrow.Author.Tests.{not-true, not-false}
 use Rattle.rtr_receiver.specs.History.{hasTable}
 use Rattle.rtr_origin.proofs.Answers.{live-room}
-use Rattle.rtr_origin.proofs.Peers.{shapeless-list, not-in-sixes, untabled-list, short-list, whole-list}
+use Rattle.rtr_origin.proofs.PeerAnswers.{shapeless-list, not-in-sixes, untabled-list, short-list, whole-list}
 use Rattle.rtr_origin.proofs.peer.validate_all.Statement.{statement}
 use Rattle.rtr_origin.proofs.peer.validate_all.Tie as tie
 
@@ -40,8 +40,8 @@ returns-3 c =
     let shape = sym (tested .is-receiver .ensures) ∙ not-false _ (shaped .if1 .left) in
     short-list (a .s .life .limit) (a .s) (now (a .live)) (now (a .working)) (now (a .hold)) (now (a .routes)) (now (a .states)) shape (sixes .if2 .left) (ap hasTable (c .before .enum-told2 .given .1)) (c .if3 .taken)
 
-answer-requires : tie.Need-answer-requires
-answer-requires c κs =
+fill-states-requires : tie.Need-fill-states-requires
+fill-states-requires c κs =
     let sixes = c .before .before .before .before .before in
     let shaped = sixes .before in
     let tested = shaped .before in
@@ -69,7 +69,7 @@ returns-5 c =
     let tested = shaped .before in
     let a = tested .before .before .before .before .before .before .args in
     let shape = sym (tested .is-receiver .ensures) ∙ not-false _ (shaped .if1 .left) in
-    whole-list (a .s .life .limit) (a .s) (now (a .live)) (now (a .working)) (now (a .hold)) (now (a .routes)) (now (a .states)) shape (sixes .if2 .left) (ap hasTable (fits .before .enum-told2 .given .1)) _ (fits .if3 .left) (c .before .before .answer .ensures)
+    whole-list (a .s .life .limit) (a .s) (now (a .live)) (now (a .working)) (now (a .hold)) (now (a .routes)) (now (a .states)) shape (sixes .if2 .left) (ap hasTable (fits .before .enum-told2 .given .1)) _ (fits .if3 .left) (c .before .before .fill-states .ensures)
 
 pub validate-all-spec : {M : Type 1} → statement M
 validate-all-spec =
@@ -81,7 +81,7 @@ validate-all-spec =
     enum-told
     enum-told-2
     returns-3
-    answer-requires
+    fill-states-requires
     returns-4
     same-length
     returns-5)

@@ -1,4 +1,4 @@
--- `answer`: at the loop's head the first i places hold the states of the first i routes, and the others are as they were. The measure is how many routes are left. Assumes nothing.
+-- `fill_states`: at the loop's head the first i places hold the states of the first i routes, and the others are as they were. The measure is how many routes are left. Assumes nothing.
 use Prim.Native.Nat.{ℕ, _+_, _-_, _*_, _≤_}
 use mathlib.Core.Path.{_≡_, refl, sym, ap, _∙_}
 use native.Mathlib.Omega.{arith}
@@ -11,8 +11,8 @@ use Rattle.rtr_origin.specs.Peer.{statesFrom, routeCount}
 use Rattle.rtr_origin.specs.Survey.{stateBy}
 use Rattle.rtr_origin.proofs.Tabled.{size}
 use Rattle.rtr_origin.proofs.Lists.{states-none, filled-next}
-use Rattle.rtr_origin.proofs.peer.answer.Statement.{statement}
-use Rattle.rtr_origin.proofs.peer.answer.Tie as tie
+use Rattle.rtr_origin.proofs.peer.fill_states.Statement.{statement}
+use Rattle.rtr_origin.proofs.peer.fill_states.Tie as tie
 
 abbrev Inv-loop : tie.InvT-loop
 Inv-loop live count routes states₀ v n i₀ states i =
@@ -82,8 +82,8 @@ returns c =
     let all : l .i ≡ routeCount (now (a .routes)) = omega arith in
     rw all at (l .inv .2)
 
-pub answer-spec : {M : Type 1} → statement M
-answer-spec =
+pub fill-states-spec : {M : Type 1} → statement M
+fill-states-spec =
     tie.close
     (tie.spec
     Inv-loop

@@ -4,27 +4,27 @@ use mathlib.Core.Bool.{Bool, true, false, cond, true≢false}
 use mathlib.Core.List.{List, [], _++_}
 use mathlib.Core.Path.{_≡_, refl, sym, ap, _∙_, subst}
 use native.Mathlib.Omega.{arith}
-use borrow.Author.Tests.{leb-true, leb-false, eqb-true, eqb-false, eq-eqb}
-use lib.Dec.{leb, eqb}
+use borrow.Author.Tests.{eqb-true, eq-eqb}
+use lib.Dec.{eqb}
 use lib.ListN.{length, getD, take, drop, length-take, length-drop, List·getD-append}
 use lib.Seq.{take-at}
 use denote.Ref.{now}
 use contract.Lifetimes.{Lfts}
 use borrow.Fn.World.{ArgsD}
 use Rattle.rtr_receiver.specs.History.{hasTable}
-use Rattle.rtr_receiver.specs.Promises.{Reason, isReceiver}
-use Rattle.rtr_receiver.specs.declared.LiveTable.{LiveTable}
+use Rattle.rtr_receiver.specs.Promises.{isReceiver}
 use Rattle.rtr_receiver.specs.declared.Session.{Session}
 use Rattle.rtr_receiver.proofs.Shape.{shape-exactly}
 use Rattle.rtr_numbers.specs.Back.{sessionOf}
 use Rattle.rtr_numbers.specs.declared.SessionFound.{SessionFound}
+use Rattle.rtr_encode.specs.Encode.{Encoded}
 use Rattle.rtr_origin.specs.Numbers.{routeOf}
 use Rattle.rtr_origin.specs.Promises.{RouteSays, validateSays}
-use Rattle.rtr_origin.specs.Peer.{saysNumber, placeOf, statesOf, routeCount, peerLeaves}
+use Rattle.rtr_origin.specs.Peer.{saysNumber, placeOf, statesOf, routeCount}
 use Rattle.rtr_origin.specs.declared.RouteFound.{RouteFound}
 use Rattle.rtr_origin.proofs.Lists.{sixAt, states-length}
-use Rattle.rtr_origin.proofs.ListLaws.{state-at, list-joins}
-use Rattle.rtr_origin.proofs.Peers as origin
+use Rattle.rtr_origin.proofs.PeerLaws.{state-at, list-joins}
+use Rattle.rtr_origin.proofs.PeerAnswers.{PeerCase, peer-cases}
 use Rattle.rtr_c.specs.Calls.{EncodeLeft, encodeGives, encodeLeft, ValidateLeft, validateGives, validateLeft, validateFound, validateC, validateAllFound, validateAllC}
 use Rattle.rtr_c.specs.Answers.{AskableAll, ValidateAllAnswers}
 use Rattle.rtr_c.proofs.hingemoss_validate_all.{signature as all-signature}
@@ -49,45 +49,23 @@ module _ (session live working hold routes states : List ℕ) where
   abbrev Answers : EncodeLeft → Type 0
   Answers = ValidateAllAnswers session live working hold routes states
 
-  reasons : (s : Session) → isReceiver (s .life .limit) s live working hold ≡ true → Reason (s .life .limit) s live working hold → ⊥
-  reasons s e reason = true≢false (sym e ∙ shape-exactly (s .life .limit) s live working hold .1 reason)
+  askable : (s : Session) → sessionOf session ≡ SessionFound.Known s → isReceiver (s .life .limit) s live working hold ≡ true → length routes % 6 ≡ 0 → AskableAll session live working hold routes s
+  askable s k e six = record { known = k; sixes = six; no-reason = λ reason. true≢false (sym e ∙ shape-exactly (s .life .limit) s live working hold .1 reason) }
 
   -- the call is one of these, whatever it is lent
   pub validate-all-answers : Answers (validateAllC session live working hold routes states)
   unfolding validateAllC
   validate-all-answers = by-found (sessionOf session) refl
     where
-      by-size : (s : Session) → AskableAll session live working hold routes s → (e : isReceiver (s .life .limit) s live working hold ≡ true) → (t : hasTable (s .table) ≡ true) →
-          (b : Bool) → leb (routeCount routes) (length states) ≡ b → Answers (encodeLeft (peerLeaves (s .life .limit) s live working hold routes states))
-      by-size s a e t true l =
-          let fits = leb-true (routeCount routes) (length states) l in
-          subst Answers (ap encodeLeft (origin.answered-list (s .life .limit) s live working hold routes states e (a .sixes) t fits)) (ValidateAllAnswers.answered s a t fits)
-      by-size s a e t false l =
-          let less = leb-false (routeCount routes) (length states) l in
-          subst Answers (ap encodeLeft (origin.short-list (s .life .limit) s live working hold routes states e (a .sixes) t less)) (ValidateAllAnswers.short s a t less)
-
-      by-table : (s : Session) → AskableAll session live working hold routes s → isReceiver (s .life .limit) s live working hold ≡ true → (t : LiveTable) → s .table ≡ t →
-          Answers (encodeLeft (peerLeaves (s .life .limit) s live working hold routes states))
-      by-table s a e LiveTable.NoTable t =
-          subst Answers (ap encodeLeft (origin.untabled-list (s .life .limit) s live working hold routes states e (a .sixes) t)) (ValidateAllAnswers.untabled s a t)
-      by-table s a e (LiveTable.Known i) t = by-size s a e (ap hasTable t) (leb (routeCount routes) (length states)) refl
-
-      by-sixes : (s : Session) → sessionOf session ≡ SessionFound.Known s → isReceiver (s .life .limit) s live working hold ≡ true → (b : Bool) → eqb (length routes % 6) 0 ≡ b →
-          Answers (encodeLeft (peerLeaves (s .life .limit) s live working hold routes states))
-      by-sixes s k e true q = by-table s (record { known = k; sixes = eqb-true (length routes % 6) 0 q; no-reason = reasons s e }) e (s .table) refl
-      by-sixes s k e false q =
-          let h = eqb-false (length routes % 6) 0 q in
-          subst Answers (ap encodeLeft (origin.not-in-sixes (s .life .limit) s live working hold routes states e h)) (ValidateAllAnswers.notSixes s k h)
-
-      by-shape : (s : Session) → sessionOf session ≡ SessionFound.Known s → (b : Bool) → isReceiver (s .life .limit) s live working hold ≡ b →
-          Answers (encodeLeft (peerLeaves (s .life .limit) s live working hold routes states))
-      by-shape s k true e = by-sixes s k e (eqb (length routes % 6) 0) refl
-      by-shape s k false e =
-          subst Answers (ap encodeLeft (origin.shapeless-list (s .life .limit) s live working hold routes states e))
-          (ValidateAllAnswers.shapeless s k (shape-exactly (s .life .limit) s live working hold .0 e))
+      by-case : (s : Session) → sessionOf session ≡ SessionFound.Known s → {left : Encoded} → PeerCase (s .life .limit) s live working hold routes states left → Answers (encodeLeft left)
+      by-case s k (PeerCase.shapeless e) = ValidateAllAnswers.shapeless s k (shape-exactly (s .life .limit) s live working hold .0 e)
+      by-case s k (PeerCase.notSixes e h) = ValidateAllAnswers.notSixes s k h
+      by-case s k (PeerCase.untabled e six t) = ValidateAllAnswers.untabled s (askable s k e six) t
+      by-case s k (PeerCase.short e six t l) = ValidateAllAnswers.short s (askable s k e six) t l
+      by-case s k (PeerCase.answered a) = ValidateAllAnswers.answered s (askable s k (a .shape) (a .sixes)) (a .table) (a .fits)
 
       by-found : (x : SessionFound) → sessionOf session ≡ x → Answers (validateAllFound x live working hold routes states)
-      by-found (SessionFound.Known s) k = by-shape s k (isReceiver (s .life .limit) s live working hold) refl
+      by-found (SessionFound.Known s) k = by-case s k (peer-cases (s .life .limit) s live working hold routes states)
       by-found SessionFound.Unknown k = ValidateAllAnswers.unknown k
 
   -- a call that does not answer 0 leaves every state that stood there

@@ -1,28 +1,29 @@
 -- What is said of a whole peer (document 02, request Two): each state is what the single question gives, what stands behind the states stays, a refusal keeps them all, a peer cut in two lists gives the
 -- same states, and each refusal is given for its reason alone. Of the definition first, then of the call. Assumes nothing.
 use Prim.Native.Nat.{ℕ, zero, suc, _+_, _*_, _%_, _≤_, _<_}
-use mathlib.Core.Bool.{Bool, true, false, _&&_}
+use mathlib.Core.Bool.{Bool, true, false}
 use mathlib.Core.List.{List, [], _∷_, _++_}
 use mathlib.Core.Logic.{_↔_, _⊎_, inl, inr, ⊎-elim}
 use mathlib.Core.Path.{_≡_, refl, sym, ap, _∙_}
 use native.Mathlib.Omega.{arith}
-use lib.Dec.{leb, eqb}
+use lib.Dec.{leb}
 use lib.ListN.{length, getD, take, drop, length-append, length-drop, List·getD-append}
 use lib.Seq.{drop-drop, drop-at, take-at, take-append-le, drop-append-le}
-use borrow.Author.Tests.{leb-true, leb-false, eqb-true, eqb-false, eq-eqb, ne-eqb, le-leb, lt-leb}
+use borrow.Author.Tests.{leb-true, leb-false}
 use denote.Ref.{now}
 use contract.Lifetimes.{Lfts}
 use borrow.Fn.World.{ArgsD}
-use Rattle.rtr_encode.specs.Encode.{Writing, Encoded, unless, outAfter}
+use Rattle.rtr_encode.specs.Encode.{Writing, Encoded}
 use Rattle.rtr_encode.specs.Encode.Writing.{written, refused}
 use Rattle.rtr_receiver.specs.Contents.{Rooms, contents}
 use Rattle.rtr_receiver.specs.History.{hasTable}
 use Rattle.rtr_receiver.specs.Promises.{isReceiver}
+use Rattle.rtr_receiver.specs.declared.LiveTable.{LiveTable}
 use Rattle.rtr_receiver.specs.declared.Session.{Session}
 use Rattle.rtr_origin.specs.Origin.{longestIn, stateOf, stateNumber}
 use Rattle.rtr_origin.specs.Numbers.{numbersOf, routeOf}
 use Rattle.rtr_origin.specs.Promises.{RouteSays, validateSays, routeSaid}
-use Rattle.rtr_origin.specs.Peer.{saysNumber, placeOf, statesFrom, statesOf, routeCount, peerSays, peerLeaves, peerRefusal, peerSaid}
+use Rattle.rtr_origin.specs.Peer.{saysNumber, placeOf, statesFrom, statesOf, routeCount, peerLeaves, peerRefusal, peerSaid}
 use Rattle.rtr_origin.specs.declared.Route.{Route}
 use Rattle.rtr_origin.specs.declared.RouteState.{RouteState}
 use Rattle.rtr_origin.specs.declared.RouteFound.{RouteFound}
@@ -34,6 +35,7 @@ use Rattle.rtr_origin.specs.declared.peer.PeerAnswer.{PeerAnswer}
 use Rattle.rtr_origin.specs.declared.peer.PeerAnswer.the-variants.{Answered, Refused}
 use Rattle.rtr_origin.proofs.Numbers.{numbers-of-route, route-of-numbers, too-long-unknown}
 use Rattle.rtr_origin.proofs.Shaped.{shaped-validate, too-long-validate}
+use Rattle.rtr_origin.proofs.PeerAnswers.{Answerable, PeerCase, peer-cases, shapeless-list, not-in-sixes, untabled-list, short-list, answered-list}
 use Rattle.rtr_origin.proofs.Lists.{sixAt, states-length, peerOf, peer-back}
 use Rattle.rtr_origin.proofs.peer.validate_all.Reads as reads
 use Rattle.rtr_origin.proofs.peer.validate_all.{signature}
@@ -75,23 +77,11 @@ module _ (limit : ℕ) (s : Session) (live working : Rooms) (hold routes states 
   abbrev left : Encoded
   left = peerLeaves limit s live working hold routes states
 
-  -- nothing stands in the way of an answer
-  pub record Answerable : Type 0 where
-    pub shape : isReceiver limit s live working hold ≡ true
-    pub sixes : length routes % 6 ≡ 0
-    pub table : hasTable (s .table) ≡ true
-    pub fits : routeCount routes ≤ length states
+  abbrev Case : Encoded → Type 0
+  Case = PeerCase limit s live working hold routes states
 
-  abbrev answer : Bool → Bool → Bool → Bool → Writing
-  answer w x y z = unless (w && x) 22 [] (unless y 21 [] (unless z 9 (routeCount routes ∷ []) (written (routeCount routes))))
-
-  says-is : left .says ≡ answer (isReceiver limit s live working hold) (eqb (length routes % 6) 0) (hasTable (s .table)) (leb (routeCount routes) (length states))
-  unfolding peerLeaves peerSays
-  says-is = refl
-
-  out-is : left .out ≡ outAfter (left .says) (statesOf (validateSays limit s live working hold) routes) states
-  unfolding peerLeaves peerSays
-  out-is = refl
+  cases : Case left
+  cases = peer-cases limit s live working hold routes states
 
   unlike : {k n : ℕ} {values : List ℕ} → refused k values ≡ written n → ⊥
   unlike e = let z : _≡_ {A = ℕ} 0 1 = cc in omega arith
@@ -100,88 +90,87 @@ module _ (limit : ℕ) (s : Session) (live working : Rooms) (hold routes states 
   other k n d e = d (cc)
 
   -- answered exactly where nothing stands in the way, and then so many as there are routes
-  pub answered-exactly : (n : ℕ) → left .says ≡ written n ↔ (Answerable × (n ≡ routeCount routes))
+  pub answered-exactly : (n : ℕ) → left .says ≡ written n ↔ (Answerable limit s live working hold routes states × (n ≡ routeCount routes))
   answered-exactly n = (
-    (λ e. go (isReceiver limit s live working hold) (eqb (length routes % 6) 0) (hasTable (s .table)) (leb (routeCount routes) (length states)) refl refl refl refl (sym says-is ∙ e)),
-    λ h.
-        let a = h .0 in
-        says-is
-        ∙ (λ i. answer (a .shape i) (eq-eqb (length routes % 6) 0 (a .sixes) i) (a .table i) (le-leb (routeCount routes) (length states) (a .fits) i))
-        ∙ ap written (sym (h .1)),
+    go cases,
+    λ h. let a = h .0 in sym (ap (λ (x : Encoded). x .says) (answered-list limit s live working hold routes states (a .shape) (a .sixes) (a .table) (a .fits))) ∙ ap written (sym (h .1)),
   )
     where
-      go : (w x y z : Bool) → isReceiver limit s live working hold ≡ w → eqb (length routes % 6) 0 ≡ x → hasTable (s .table) ≡ y → leb (routeCount routes) (length states) ≡ z →
-          answer w x y z ≡ written n → Answerable × (n ≡ routeCount routes)
-      go true true true true p q r t e = (record { shape = p; sixes = eqb-true _ _ q; table = r; fits = leb-true _ _ t }, cc)
-      go false x y z p q r t e = absurd (unlike e)
-      go true false y z p q r t e = absurd (unlike e)
-      go true true false z p q r t e = absurd (unlike e)
-      go true true true false p q r t e = absurd (unlike e)
+      go : {l : Encoded} → Case l → l .says ≡ written n → Answerable limit s live working hold routes states × (n ≡ routeCount routes)
+      go (PeerCase.answered a) e = (a, cc)
+      go (PeerCase.shapeless p) e = absurd (unlike e)
+      go (PeerCase.notSixes p q) e = absurd (unlike e)
+      go (PeerCase.untabled p q t) e = absurd (unlike e)
+      go (PeerCase.short p q t l) e = absurd (unlike e)
 
   -- 22 exactly without receiver shape, or where the numbers are not in sixes
   pub list-22-exactly : left .says ≡ refused 22 [] ↔ ((isReceiver limit s live working hold ≡ false) ⊎ (length routes % 6 ≡ 0 → ⊥))
-  list-22-exactly = (
-    (λ e. go (isReceiver limit s live working hold) (eqb (length routes % 6) 0) (hasTable (s .table)) (leb (routeCount routes) (length states)) refl refl (sym says-is ∙ e)),
-    ⊎-elim (λ p. says-is ∙ ap (λ (w : Bool). answer w (eqb (length routes % 6) 0) (hasTable (s .table)) (leb (routeCount routes) (length states))) p)
-        (λ h. says-is ∙ either (isReceiver limit s live working hold) (eqb (length routes % 6) 0) (ne-eqb (length routes % 6) 0 h)),
-  )
+  list-22-exactly = (go cases, ⊎-elim without not-six)
     where
-      go : (w x y z : Bool) → isReceiver limit s live working hold ≡ w → eqb (length routes % 6) 0 ≡ x → answer w x y z ≡ refused 22 [] →
-          (isReceiver limit s live working hold ≡ false) ⊎ (length routes % 6 ≡ 0 → ⊥)
-      go false x y z p q e = inl p
-      go true false y z p q e = inr (eqb-false _ _ q)
-      go true true false z p q e = absurd (other 21 22 (λ i. omega arith) e)
-      go true true true false p q e = absurd (other 9 22 (λ i. omega arith) e)
-      go true true true true p q e = absurd (unlike (sym e))
+      go : {l : Encoded} → Case l → l .says ≡ refused 22 [] → (isReceiver limit s live working hold ≡ false) ⊎ (length routes % 6 ≡ 0 → ⊥)
+      go (PeerCase.shapeless p) e = inl p
+      go (PeerCase.notSixes p q) e = inr q
+      go (PeerCase.untabled p q t) e = absurd (other 21 22 (λ i. omega arith) e)
+      go (PeerCase.short p q t l) e = absurd (other 9 22 (λ i. omega arith) e)
+      go (PeerCase.answered a) e = absurd (unlike (sym e))
 
-      either : (w x : Bool) → x ≡ false → answer w x (hasTable (s .table)) (leb (routeCount routes) (length states)) ≡ refused 22 []
-      either false x e = refl
-      either true x e = ap (λ (y : Bool). answer true y (hasTable (s .table)) (leb (routeCount routes) (length states))) e
+      without : isReceiver limit s live working hold ≡ false → left .says ≡ refused 22 []
+      without p = sym (ap (λ (x : Encoded). x .says) (shapeless-list limit s live working hold routes states p))
+
+      not-six : (length routes % 6 ≡ 0 → ⊥) → left .says ≡ refused 22 []
+      not-six h = by (isReceiver limit s live working hold) refl
+        where
+          by : (b : Bool) → isReceiver limit s live working hold ≡ b → left .says ≡ refused 22 []
+          by true e = sym (ap (λ (x : Encoded). x .says) (not-in-sixes limit s live working hold routes states e h))
+          by false e = sym (ap (λ (x : Encoded). x .says) (shapeless-list limit s live working hold routes states e))
 
   -- then 21 exactly without a table
-  pub list-21-exactly : left .says ≡ refused 21 [] ↔ ((isReceiver limit s live working hold ≡ true) × (length routes % 6 ≡ 0) × (hasTable (s .table) ≡ false))
-  list-21-exactly = (
-    (λ e. go (isReceiver limit s live working hold) (eqb (length routes % 6) 0) (hasTable (s .table)) (leb (routeCount routes) (length states)) refl refl refl (sym says-is ∙ e)),
-    λ h. says-is ∙ (λ i. answer (h .0 i) (eq-eqb (length routes % 6) 0 (h .1) i) (h .2 i) (leb (routeCount routes) (length states))),
-  )
+  pub list-21-exactly : left .says ≡ refused 21 [] ↔ ((isReceiver limit s live working hold ≡ true) × (length routes % 6 ≡ 0) × (s .table ≡ LiveTable.NoTable))
+  list-21-exactly = (go cases, λ h. sym (ap (λ (x : Encoded). x .says) (untabled-list limit s live working hold routes states (h .0) (h .1) (h .2))))
     where
-      go : (w x y z : Bool) → isReceiver limit s live working hold ≡ w → eqb (length routes % 6) 0 ≡ x → hasTable (s .table) ≡ y → answer w x y z ≡ refused 21 [] →
-          (isReceiver limit s live working hold ≡ true) × (length routes % 6 ≡ 0) × (hasTable (s .table) ≡ false)
-      go true true false z p q r e = (p, eqb-true _ _ q, r)
-      go false x y z p q r e = absurd (other 22 21 (λ i. omega arith) e)
-      go true false y z p q r e = absurd (other 22 21 (λ i. omega arith) e)
-      go true true true false p q r e = absurd (other 9 21 (λ i. omega arith) e)
-      go true true true true p q r e = absurd (unlike (sym e))
+      go : {l : Encoded} → Case l → l .says ≡ refused 21 [] → (isReceiver limit s live working hold ≡ true) × (length routes % 6 ≡ 0) × (s .table ≡ LiveTable.NoTable)
+      go (PeerCase.untabled p q t) e = (p, q, t)
+      go (PeerCase.shapeless p) e = absurd (other 22 21 (λ i. omega arith) e)
+      go (PeerCase.notSixes p q) e = absurd (other 22 21 (λ i. omega arith) e)
+      go (PeerCase.short p q t l) e = absurd (other 9 21 (λ i. omega arith) e)
+      go (PeerCase.answered a) e = absurd (unlike (sym e))
 
   -- then 9 exactly where there are fewer states than routes, with how many routes there are
   pub list-9-exactly : (values : List ℕ) → left .says ≡ refused 9 values
       ↔ ((isReceiver limit s live working hold ≡ true) × (length routes % 6 ≡ 0) × (hasTable (s .table) ≡ true) × (length states < routeCount routes) × (values ≡ routeCount routes ∷ []))
   list-9-exactly values = (
-    (λ e. go (isReceiver limit s live working hold) (eqb (length routes % 6) 0) (hasTable (s .table)) (leb (routeCount routes) (length states)) refl refl refl refl (sym says-is ∙ e)),
-    λ h.
-        says-is
-        ∙ (λ i. answer (h .0 i) (eq-eqb (length routes % 6) 0 (h .1) i) (h .2 i) (lt-leb (routeCount routes) (length states) (h .3) i))
-        ∙ ap (refused 9) (sym (h .4)),
+    go cases,
+    λ h. sym (ap (λ (x : Encoded). x .says) (short-list limit s live working hold routes states (h .0) (h .1) (h .2) (h .3))) ∙ ap (refused 9) (sym (h .4)),
   )
     where
-      go : (w x y z : Bool) → isReceiver limit s live working hold ≡ w → eqb (length routes % 6) 0 ≡ x → hasTable (s .table) ≡ y → leb (routeCount routes) (length states) ≡ z →
-          answer w x y z ≡ refused 9 values →
+      go : {l : Encoded} → Case l → l .says ≡ refused 9 values →
           (isReceiver limit s live working hold ≡ true) × (length routes % 6 ≡ 0) × (hasTable (s .table) ≡ true) × (length states < routeCount routes) × (values ≡ routeCount routes ∷ [])
-      go true true true false p q r t e = (p, eqb-true _ _ q, r, leb-false _ _ t, cc)
-      go false x y z p q r t e = absurd (other 22 9 (λ i. omega arith) e)
-      go true false y z p q r t e = absurd (other 22 9 (λ i. omega arith) e)
-      go true true false z p q r t e = absurd (other 21 9 (λ i. omega arith) e)
-      go true true true true p q r t e = absurd (unlike (sym e))
+      go (PeerCase.short p q t l) e = (p, q, t, l, cc)
+      go (PeerCase.shapeless p) e = absurd (other 22 9 (λ i. omega arith) e)
+      go (PeerCase.notSixes p q) e = absurd (other 22 9 (λ i. omega arith) e)
+      go (PeerCase.untabled p q t) e = absurd (other 21 9 (λ i. omega arith) e)
+      go (PeerCase.answered a) e = absurd (unlike (sym e))
 
   -- ---- what is left
 
   -- a refusal keeps every state that stood there
   pub refused-keeps-states : (k : ℕ) (values : List ℕ) → left .says ≡ refused k values → left .out ≡ states
-  refused-keeps-states k values e = out-is ∙ ap (λ (w : Writing). outAfter w (statesOf (validateSays limit s live working hold) routes) states) e
+  refused-keeps-states k values = go cases
+    where
+      go : {l : Encoded} → Case l → l .says ≡ refused k values → l .out ≡ states
+      go (PeerCase.shapeless p) e = refl
+      go (PeerCase.notSixes p q) e = refl
+      go (PeerCase.untabled p q t) e = refl
+      go (PeerCase.short p q t l) e = refl
+      go (PeerCase.answered a) e = absurd (unlike (sym e))
 
   module _ (n : ℕ) (e : left .says ≡ written n) where
     pub answered-leaves : left .out ≡ statesOf (validateSays limit s live working hold) routes ++ drop n states
-    answered-leaves = out-is ∙ ap (λ (w : Writing). outAfter w (statesOf (validateSays limit s live working hold) routes) states) e
+    answered-leaves =
+        let w = answered-exactly n .0 e in
+        let a = w .0 in
+        sym (ap (λ (x : Encoded). x .out) (answered-list limit s live working hold routes states (a .shape) (a .sixes) (a .table) (a .fits)))
+        ∙ ap (λ (m : ℕ). statesOf (validateSays limit s live working hold) routes ++ drop m states) (sym (w .1))
 
     many : length (statesOf (validateSays limit s live working hold) routes) ≡ n
     many = states-length (validateSays limit s live working hold) (routeCount routes) routes ∙ sym (answered-exactly n .0 e .1)
@@ -282,7 +271,7 @@ module _ (κs : Lfts 5) (a : ArgsD signature κs) where
     )
 
     -- then no table exactly without one
-    pub call-21-exactly : (r ≡ Refused NoTable) ↔ ((shaped ≡ true) × (length routes-in % 6 ≡ 0) × (hasTable (session .table) ≡ false))
+    pub call-21-exactly : (r ≡ Refused NoTable) ↔ ((shaped ≡ true) × (length routes-in % 6 ≡ 0) × (session .table ≡ LiveTable.NoTable))
     call-21-exactly = (
       (λ e. list-21-exactly (session .life .limit) session live-in working-in hold-in routes-in states-in .0 (given (Refused NoTable) .0 e)),
       λ h. given (Refused NoTable) .1 (list-21-exactly (session .life .limit) session live-in working-in hold-in routes-in states-in .1 h),
