@@ -55,4 +55,9 @@ uint8_t test_held_notify(const uint64_t *session, size_t session_len, const uint
 uint8_t test_validate_by_scan(const uint64_t *session, size_t session_len, const uint32_t *live, size_t live_len, const uint32_t *working, size_t working_len,
                               const uint8_t *hold, size_t hold_len, const uint32_t *route, size_t route_len, uint64_t *state);
 
+/* How many bytes from the front are whole well-formed characters. */
+uint64_t test_up_to(const uint8_t *text, size_t text_len);
+/* Whether that is all of the text. */
+_Bool test_is_text(const uint8_t *text, size_t text_len);
+
 #endif

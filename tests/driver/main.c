@@ -6,6 +6,7 @@
  *   scripts          scripts of receiver calls (tests/model/FORMAT.md): each answer and the state behind it
  *   routes           questions whether a route is good (tests/model/origin.py): each answer and state, by both calls
  *   route-lists      questions about lists of routes (tests/model/route_lists.py): each answer, number and state list
+ *   texts            hex digits, a line each, `-` for an empty text: how many bytes from the front are well-formed UTF-8, and whether that is all
  *   replay FOLDER    the stored answers of the Rust, answers.txt and encodings.txt: how many agree
  *   captures FOLDER  captured bytes through the stream, whole and in pieces of 1 to 64
  *   loads FOLDER [all]   captured bytes through the receiver, whole, in single bytes, and cut in two
@@ -43,6 +44,8 @@ int main(int count, char **words)
         routes();
     else if (!strcmp(mode, "route-lists"))
         route_lists();
+    else if (!strcmp(mode, "texts"))
+        texts();
     else
         die("no such mode: ", mode);
     flush();

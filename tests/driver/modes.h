@@ -28,5 +28,6 @@ void rooms(void);
 void hosts(void);
 void routes(void);
 void route_lists(void);
+void texts(void);
 
 #endif

@@ -11,7 +11,7 @@ use Rattle.rtr_text.specs.Utf8.{_to_, within, begins, wellFormed, Charac
 use Rattle.rtr_text.proofs.Laws.{empty-is-well-formed, well-formed-up-to-all, well-formed-is-characters}
 
 -- well formed is a sequence of characters
-as-characters : (text : List ℕ) → (wellFormed text ≡ true) ↔ Characters text
+pub as-characters : (text : List ℕ) → (wellFormed text ≡ true) ↔ Characters text
 as-characters text =
     (λ e. (well-formed-is-characters text) .0 ((well-formed-up-to-all text) .0 e), λ c. (well-formed-up-to-all text) .1 ((well-formed-is-characters text) .1 c))
 

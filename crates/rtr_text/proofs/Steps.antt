@@ -1,14 +1,15 @@
 -- `wellFormedUpTo` a character at a time. It is defined by a count that only has to be large enough (`enough`), so it is a
 -- character and then what is left (`up-to-step`), and 0 where there is none (`up-to-stop`). Assumes nothing.
-use Prim.Native.Nat.{ℕ, zero, suc, _+_, _≤_, zero-le}
+use Prim.Native.Nat.{ℕ, zero, suc, _+_, _≤_, _<_, zero-le}
 use mathlib.Core.Path.{_≡_, refl, sym, ap, _∙_}
+use mathlib.Core.Bool.{true}
 use mathlib.Core.List.{List, [], _∷_}
-use native.Mathlib.Nat.{suc-ne-zero, not-suc-le-zero}
+use native.Mathlib.Nat.{suc-ne-zero, not-suc-le-zero, add-zero}
 use native.Mathlib.Omega.{arith}
 use lib.ListN.{length, drop, length-drop}
 use lib.Seq.{drop-drop}
-use Rattle.rtr_text.specs.Utf8.{rows, begins, character, characters, wellFormedUpTo}
-use Rattle.rtr_text.proofs.Rows.{character-at-most}
+use Rattle.rtr_text.specs.Utf8.{_to_, rows, begins, character, characters, wellFormedUpTo}
+use Rattle.rtr_text.proofs.Begins.{row-fits, character-at-most}
 
 pub characters-stop : (most : ℕ) (text : List ℕ) → character rows text ≡ 0 → characters (suc most) text ≡ 0
 unfolding characters
@@ -63,3 +64,12 @@ up-to-further text at n i e h =
     let s : wellFormedUpTo (drop at text) ≡ n + wellFormedUpTo (drop n (drop at text)) = up-to-step (drop at text) n e h in
     let d : wellFormedUpTo (drop n (drop at text)) ≡ wellFormedUpTo (drop (at + n) text) = ap wellFormedUpTo (drop-drop n at text) in
     omega arith
+
+-- over a run of characters by the table's first row
+pub row-1-further : (text : List ℕ) (at k : ℕ) → wellFormedUpTo text ≡ at + wellFormedUpTo (drop at text) → ((i : ℕ) → at ≤ i → i < at + k → begins (0x00 to 0x7f ∷ []) (drop i text) ≡ true) → wellFormedUpTo text ≡ at + k + wellFormedUpTo (drop (at + k) text)
+row-1-further text at zero i b = rw (add-zero at) i
+row-1-further text at (suc k) i b =
+    let before = row-1-further text at k i (λ j m l. b j m (omega arith)) in
+    let one : 1 ≡ character rows (drop (at + k) text) = row-fits (0x00 to 0x7f ∷ []) _ (drop (at + k) text) (sym (b (at + k) (omega arith) (omega arith))) refl refl in
+    let e : at + k + 1 ≡ at + suc k = omega arith in
+    rw e at (up-to-further text (at + k) 1 before one (suc-ne-zero 0))

@@ -1,47 +1,33 @@
--- Eight bytes as one word, and ASCII bytes in a text. A byte is ASCII where it has no highest bit (`low-byte`). Under the mask of the highest
--- bits a byte's part of the word is its highest bit, so where that part is 0 the byte is ASCII (`masked-byte`); and it is 0 below the word's
--- trailing zeros (`below-trailing`) and within its leading ones (`above-leading`). In a text each ASCII byte is a character, so how far it is
--- well formed goes on behind them (`ascii-further`). Assumes nothing.
+-- Eight bytes as one word, and ASCII bytes in a text. A word is put together of two numbers of half its bytes, again and again (`on-top`, `bytes-of-both`). A byte is ASCII where it has no highest
+-- bit (`low-byte`). Under the mask of the highest bits a byte's part of the word is its highest bit, so where that part is 0 the byte is ASCII (`masked-byte`); and it is 0 below the
+-- word's trailing zeros (`below-trailing`) and within its leading ones (`above-leading`). An ASCII byte of a text is a character by the table's first row (`by-row-1`). Assumes nothing.
 use Prim.Native.Nat.{ℕ, zero, suc, _+_, _-_, _*_, _/_, _%_, _^_, _≤_, _<_, zero-le}
 use mathlib.Core.Path.{_≡_, refl, sym, ap, _∙_}
 use mathlib.Core.Logic.{_⊎_, inl, inr}
 use mathlib.Core.Bool.{true}
 use mathlib.Core.List.{List, [], _∷_}
-use native.Mathlib.Nat.{suc-ne-zero, not-suc-le-zero, mod-lt, mod-one, add-zero, le-of-suc-le-suc, lt-of-lt-of-le, eq-zero-or-pos}
+use native.Mathlib.Nat.{not-suc-le-zero, mod-lt, mod-one, mod-eq-of-lt, div-one, add-zero, le-of-suc-le-suc, lt-of-lt-of-le, eq-zero-or-pos}
 use native.Mathlib.Omega.{arith}
 use borrow.Author.Tests.{le-leb}
 use lib.ListN.{length, drop, getD}
-use lib.Pow.{pow-pos, pow-mono, shr-le, shr-lt, shr-mod, split, high, field, mod-pow-add, mod-mod-pow}
+use lib.Pow.{pow-pos, shl-exact, pow-mono, shr-le, shr-lt, shr-mod, shr-shr, split, field, mod-pow-add, mod-mod-pow}
 use lib.Pow as pow
-use lib.Bits.{bitAnd, and-high, and-shr, and-mod}
+use lib.Bits.{bitAnd, bitOr, or-shifted-r, and-high, and-shr, and-mod}
 use lib.Count.{trailingZeros, leadingZeros, leading-length, under}
-use Rattle.rtr_text.specs.Utf8.{Range, _to_, rows, begins, character, wellFormedUpTo}
-use Rattle.rtr_text.proofs.Rows.{range-at, row-fits}
-use Rattle.rtr_text.proofs.Steps.{up-to-further}
-
-abbrev ascii : Range
-ascii = 0x00 to 0x7f
-
--- a byte where it stands in a text
-ascii-at : (text : List ℕ) (at : ℕ) → at < length text → getD text at 0 < 0x80 → true ≡ begins (ascii ∷ []) (drop at text)
-ascii-at text at h b = rw (range-at ascii text at h, le-leb 0 (getD text at 0) zero-le, le-leb (getD text at 0) 0x7f (omega arith))
+use Rattle.rtr_text.specs.Utf8.{_to_, begins}
+use Rattle.rtr_text.proofs.Begins.{range-at}
 
 -- a run and then another
-pub ascii-on : (text : List ℕ) (at k j : ℕ) → ((i : ℕ) → i < k → getD text (at + i) 0 < 0x80) → ((i : ℕ) → i < j → getD text (at + k + i) 0 < 0x80) → (i : ℕ) → i < k + j → getD text (at + i) 0 < 0x80
-ascii-on text at k j a b i l = by (eq-zero-or-pos (suc i - k))
+pub ascii-on : (text : List ℕ) (at end n : ℕ) → ((i : ℕ) → at ≤ i → i < end → getD text i 0 < 0x80) → ((i : ℕ) → i < n → getD text (end + i) 0 < 0x80) → (i : ℕ) → at ≤ i → i < end + n → getD text i 0 < 0x80
+ascii-on text at end n a b i k l = by (eq-zero-or-pos (suc i - end))
   where
-    by : (suc i - k ≡ 0) ⊎ (0 < suc i - k) → getD text (at + i) 0 < 0x80
-    by (inl e) = a i (omega arith)
-    by (inr p) = let e : at + k + (i - k) ≡ at + i = omega arith in rw e at (b (i - k) (omega arith))
+    by : (suc i - end ≡ 0) ⊎ (0 < suc i - end) → getD text i 0 < 0x80
+    by (inl e) = a i k (omega arith)
+    by (inr p) = let e : end + (i - end) ≡ i = omega arith in rw e at (b (i - end) (omega arith))
 
--- ASCII bytes behind `at`: each is a character
-pub ascii-further : (text : List ℕ) (at k : ℕ) → wellFormedUpTo text ≡ at + wellFormedUpTo (drop at text) → at + k ≤ length text → ((i : ℕ) → i < k → getD text (at + i) 0 < 0x80) → wellFormedUpTo text ≡ at + k + wellFormedUpTo (drop (at + k) text)
-ascii-further text at zero i h b = rw (add-zero at) i
-ascii-further text at (suc k) i h b =
-    let before = ascii-further text at k i (omega arith) (λ j l. b j (omega arith)) in
-    let one : 1 ≡ character rows (drop (at + k) text) = row-fits (ascii ∷ []) _ (drop (at + k) text) (ascii-at text (at + k) (omega arith) (b k (omega arith))) refl refl in
-    let e : at + k + 1 ≡ at + suc k = omega arith in
-    rw e at (up-to-further text (at + k) 1 before one (suc-ne-zero 0))
+-- an ASCII byte of a text is a character by the table's first row
+pub by-row-1 : (text : List ℕ) (i : ℕ) → i < length text → getD text i 0 < 0x80 → begins (0x00 to 0x7f ∷ []) (drop i text) ≡ true
+by-row-1 text i h b = rw (range-at (0x00 to 0x7f) text i h, le-leb 0 (getD text i 0) zero-le, le-leb (getD text i 0) 0x7f (omega arith))
 
 -- a byte without its highest bit
 low-byte : (b : ℕ) → b < 2 ^ 8 → bitAnd b 0x80 ≡ 0 → b < 0x80
@@ -61,16 +47,36 @@ trailing-zeros (suc k) n (suc j) h = by (n % 2) refl h (trailing-zeros k (n / 2)
     by zero e h below = omega (arith, mod-pow-add n j 1, below (le-of-suc-le-suc h), ap (λ (x : ℕ). n % 2 ^ x) (one-more j))
     by (suc d) e h below = absurd (not-suc-le-zero h)
 
--- a word's lowest bits without the byte on top of them
-pub below : (n k b low w : ℕ) → n % 2 ^ (8 + k) ≡ w → w ≡ b * 2 ^ k + low → low < 2 ^ k → n % 2 ^ k ≡ low
-below n k b low w e d h = sym (mod-mod-pow n 8 k) ∙ rw (e, d) (pow.low b k h)
+-- a byte is the one byte of its number
+pub one-byte : (text : List ℕ) (at : ℕ) → getD text at 0 < 2 ^ 8 → (i : ℕ) → i < 1 → getD text at 0 / 2 ^ (8 * i) % 0x100 ≡ getD text (at + i) 0
+one-byte text at h zero l = rw (div-one (getD text at 0), add-zero at) (mod-eq-of-lt h)
+one-byte text at h (suc i) l = absurd (omega arith)
 
--- a byte of a word, where its part of the word under a mask that has its highest bit is 0
-pub masked-byte : (n all k b low w : ℕ) → n % 2 ^ (8 + k) ≡ w → w ≡ b * 2 ^ k + low → low < 2 ^ k → all / 2 ^ k % 2 ^ 8 ≡ 0x80 → bitAnd n all / 2 ^ k % 0x100 ≡ 0 → b < 0x80
-masked-byte n all k b low w e d h m z =
-    let p : n / 2 ^ k % 2 ^ 8 ≡ b = sym (field n 8 k) ∙ rw (e, d) (high b k h) in
-    let q : bitAnd b 0x80 ≡ 0 = sym (ap (λ (x : ℕ). x % 2 ^ 8) (and-shr n all k) ∙ and-mod (n / 2 ^ k) (all / 2 ^ k) 8 ∙ rw (p, m)) ∙ z in
-    low-byte b (rw p at (mod-lt (n / 2 ^ k) (pow-pos 8))) q
+-- two numbers of so many bits as one, as `|` and `<<` make it of 64 bits: nothing is lost
+pub on-top : (bits low high : ℕ) → bits + bits ≤ 64 → low < 2 ^ bits → high < 2 ^ bits → bitOr low (high * 2 ^ bits % 2 ^ 64) ≡ high * 2 ^ bits + low
+on-top bits low high h l m = rw (shl-exact bits bits 64 m h) (or-shifted-r high bits low l)
+
+-- the bytes of two numbers, the second on top of the first
+pub bytes-of-both : (text : List ℕ) (at n low high w : ℕ) → w ≡ high * 2 ^ (8 * n) + low → low < 2 ^ (8 * n) → ((i : ℕ) → i < n → low / 2 ^ (8 * i) % 0x100 ≡ getD text (at + i) 0) → ((i : ℕ) → i < n → high / 2 ^ (8 * i) % 0x100 ≡ getD text (at + n + i) 0) → (i : ℕ) → i < n + n → w / 2 ^ (8 * i) % 0x100 ≡ getD text (at + i) 0
+bytes-of-both text at n low high w v h a b i l = by (eq-zero-or-pos (suc i - n))
+  where
+    by : (suc i - n ≡ 0) ⊎ (0 < suc i - n) → w / 2 ^ (8 * i) % 0x100 ≡ getD text (at + i) 0
+    by (inl e) =
+        let d : (8 * n - (8 + 8 * i)) + (8 + 8 * i) ≡ 8 * n = omega arith in
+        let m : w % 2 ^ (8 + 8 * i) ≡ low % 2 ^ (8 + 8 * i) = sym (mod-mod-pow w (8 * n - (8 + 8 * i)) (8 + 8 * i)) ∙ rw (d, v, pow.low high (8 * n) h) in
+        sym (field w 8 (8 * i)) ∙ ap (λ (x : ℕ). x / 2 ^ (8 * i)) m ∙ field low 8 (8 * i) ∙ a i (omega arith)
+    by (inr p) =
+        let d : 8 * n + 8 * (i - n) ≡ 8 * i = omega arith in
+        let e : at + n + (i - n) ≡ at + i = omega arith in
+        let t : w / 2 ^ (8 * n) ≡ high = rw v (pow.high high (8 * n) h) in
+        let s : w / 2 ^ (8 * i) ≡ high / 2 ^ (8 * (i - n)) = ap (λ (x : ℕ). w / 2 ^ x) (sym d) ∙ sym (shr-shr w (8 * n) (8 * (i - n))) ∙ ap (λ (x : ℕ). x / 2 ^ (8 * (i - n))) t in
+        rw (s, ← e) (b (i - n) (omega arith))
+
+-- a byte of a word whose part is 0 under a mask that has the highest bit of each byte
+pub masked-byte : (n all i b : ℕ) → n / 2 ^ (8 * i) % 0x100 ≡ b → bitAnd n all / 2 ^ (8 * i) % 0x100 ≡ 0 → all / 2 ^ (8 * i) % 2 ^ 8 ≡ 0x80 → b < 0x80
+masked-byte n all i b p z m =
+    let q : bitAnd b 0x80 ≡ 0 = sym (ap (λ (x : ℕ). x % 2 ^ 8) (and-shr n all (8 * i)) ∙ and-mod (n / 2 ^ (8 * i)) (all / 2 ^ (8 * i)) 8 ∙ rw (p, m)) ∙ z in
+    low-byte b (rw p at (mod-lt (n / 2 ^ (8 * i)) (pow-pos 8))) q
 
 -- every byte's part of a word is 0 where the word is
 pub of-zero : (n k : ℕ) → n ≡ 0 → n / 2 ^ k % 0x100 ≡ 0
@@ -87,14 +93,14 @@ above-leading n k f h =
     let z : n / 2 ^ k < 2 ^ 0 = shr-lt 0 k (lt-of-lt-of-le (m .2) (pow-mono (omega arith))) in
     omega arith
 
--- a number below eight is one of eight
-pub one-of-eight : (P : ℕ → Type 0) → P 0 → P 1 → P 2 → P 3 → P 4 → P 5 → P 6 → P 7 → (i : ℕ) → i < 8 → P i
-one-of-eight P p0 p1 p2 p3 p4 p5 p6 p7 zero l = p0
-one-of-eight P p0 p1 p2 p3 p4 p5 p6 p7 (suc zero) l = p1
-one-of-eight P p0 p1 p2 p3 p4 p5 p6 p7 (suc (suc zero)) l = p2
-one-of-eight P p0 p1 p2 p3 p4 p5 p6 p7 (suc (suc (suc zero))) l = p3
-one-of-eight P p0 p1 p2 p3 p4 p5 p6 p7 (suc (suc (suc (suc zero)))) l = p4
-one-of-eight P p0 p1 p2 p3 p4 p5 p6 p7 (suc (suc (suc (suc (suc zero))))) l = p5
-one-of-eight P p0 p1 p2 p3 p4 p5 p6 p7 (suc (suc (suc (suc (suc (suc zero)))))) l = p6
-one-of-eight P p0 p1 p2 p3 p4 p5 p6 p7 (suc (suc (suc (suc (suc (suc (suc zero))))))) l = p7
-one-of-eight P p0 p1 p2 p3 p4 p5 p6 p7 (suc (suc (suc (suc (suc (suc (suc (suc i)))))))) l = absurd (omega arith)
+-- a mask's bytes, from its first to its eighth
+pub highest-bits : (all : ℕ) → all / 2 ^ 0 % 2 ^ 8 ≡ 0x80 → all / 2 ^ 8 % 2 ^ 8 ≡ 0x80 → all / 2 ^ 16 % 2 ^ 8 ≡ 0x80 → all / 2 ^ 24 % 2 ^ 8 ≡ 0x80 → all / 2 ^ 32 % 2 ^ 8 ≡ 0x80 → all / 2 ^ 40 % 2 ^ 8 ≡ 0x80 → all / 2 ^ 48 % 2 ^ 8 ≡ 0x80 → all / 2 ^ 56 % 2 ^ 8 ≡ 0x80 → (i : ℕ) → i < 8 → all / 2 ^ (8 * i) % 2 ^ 8 ≡ 0x80
+highest-bits all p0 p1 p2 p3 p4 p5 p6 p7 zero l = p0
+highest-bits all p0 p1 p2 p3 p4 p5 p6 p7 (suc zero) l = p1
+highest-bits all p0 p1 p2 p3 p4 p5 p6 p7 (suc (suc zero)) l = p2
+highest-bits all p0 p1 p2 p3 p4 p5 p6 p7 (suc (suc (suc zero))) l = p3
+highest-bits all p0 p1 p2 p3 p4 p5 p6 p7 (suc (suc (suc (suc zero)))) l = p4
+highest-bits all p0 p1 p2 p3 p4 p5 p6 p7 (suc (suc (suc (suc (suc zero))))) l = p5
+highest-bits all p0 p1 p2 p3 p4 p5 p6 p7 (suc (suc (suc (suc (suc (suc zero)))))) l = p6
+highest-bits all p0 p1 p2 p3 p4 p5 p6 p7 (suc (suc (suc (suc (suc (suc (suc zero))))))) l = p7
+highest-bits all p0 p1 p2 p3 p4 p5 p6 p7 (suc (suc (suc (suc (suc (suc (suc (suc i)))))))) l = absurd (omega arith)
