@@ -53,12 +53,12 @@ fn character_at(text: &[u8], at: usize) -> usize
     0
 }
 
-// A run of row 1, then characters by the rows, one by one; after a character of row 1 another run.
+// A run of row 1, then characters by the rows, one by one; after a character of row 1 another run. It ends where no row fits, and at the text's end none does.
 pub fn well_formed_up_to(text: &[u8]) -> usize
     ensures { λ r. ⌜ r ≡ wellFormedUpTo (now (text .entry)) ⌝ }
 {
     let mut at = row_1_run(text, 0);
-    while at < text.len() {
+    loop {
         let n = character_at(text, at);
         if n == 0 {
             return at;
@@ -68,7 +68,6 @@ pub fn well_formed_up_to(text: &[u8]) -> usize
             at = row_1_run(text, at);
         }
     }
-    at
 }
 
 pub fn is_well_formed(text: &[u8]) -> bool

@@ -14,7 +14,7 @@ fn pair(first: u8, second: u8) -> u64
     (first as u64) | ((second as u64) << 8)
 }
 
-// The next two bytes of the text. Put together in halves, eight bytes become one load.
+// The next two bytes of the text.
 fn two_bytes(text: &[u8], at: usize) -> u64
     requires { ⌜ at + 2 ≤ length (now text) ⌝ }
     ensures { λ r. ⌜ r < 2 ^ 16 ⌝ }
@@ -23,50 +23,15 @@ fn two_bytes(text: &[u8], at: usize) -> u64
     pair(text[at], text[at + 1])
 }
 
-// The next four.
-fn four_bytes(text: &[u8], at: usize) -> u64
-    requires { ⌜ at + 4 ≤ length (now text) ⌝ }
-    ensures { λ r. ⌜ r < 2 ^ 32 ⌝ }
-    ensures { λ r. ⌜ ((i : ℕ) → i < 4 → r / 2 ^ (8 * i) % 0x100 ≡ getD (now (text .entry)) (at + i) 0) ⌝ }
-{
-    two_bytes(text, at) | (two_bytes(text, at + 2) << 16)
-}
-
 // The top bit of each of the next eight bytes, as one word. A byte whose part of the word is 0 is ASCII; no caller needs more.
+// Put together in halves, the bytes become one load.
 fn high_bits(text: &[u8], at: usize) -> u64
     requires { ⌜ at + 8 ≤ length (now text) ⌝ }
     ensures { λ r. ⌜ ((i : ℕ) → i < 8 → r / 2 ^ (8 * i) % 0x100 ≡ 0 → getD (now (text .entry)) (at + i) 0 < 0x80) ⌝ }
 {
-    (four_bytes(text, at) | (four_bytes(text, at + 4) << 32)) & 0x8080808080808080
-}
-
-// A count, at most eight: so many bytes from `at` on are ASCII.
-fn ascii_run(text: &[u8], at: usize) -> usize
-    requires { ⌜ at + 8 ≤ length (now text) ⌝ }
-    ensures { λ r. ⌜ r ≤ 8 ⌝ }
-    ensures { λ r. ⌜ ((i : ℕ) → i < r → getD (now (text .entry)) (at + i) 0 < 0x80) ⌝ }
-{
-    let high = high_bits(text, at);
-    let zeros = u64::trailing_zeros(high);
-    (zeros / 8) as usize
-}
-
-// A count, at most eight: so many bytes before the text's end are ASCII.
-fn ascii_at_end(text: &[u8]) -> usize
-    requires { ⌜ 8 ≤ length (now text) ⌝ }
-    ensures { λ r. ⌜ ((i : ℕ) → i < length (now (text .entry)) → length (now (text .entry)) ≤ i + r → getD (now (text .entry)) i 0 < 0x80) ⌝ }
-{
-    let high = high_bits(text, text.len() - 8);
-    let zeros = u64::leading_zeros(high);
-    (zeros / 8) as usize
-}
-
-// Whether the next sixteen bytes are ASCII.
-fn is_ascii_16(text: &[u8], at: usize) -> bool
-    requires { ⌜ at + 16 ≤ length (now text) ⌝ }
-    ensures { λ r. ⌜ (r ≡ true → (i : ℕ) → i < 16 → getD (now (text .entry)) (at + i) 0 < 0x80) ⌝ }
-{
-    high_bits(text, at) == 0 && high_bits(text, at + 8) == 0
+    let low = two_bytes(text, at) | (two_bytes(text, at + 2) << 16);
+    let high = two_bytes(text, at + 4) | (two_bytes(text, at + 6) << 16);
+    (low | (high << 32)) & 0x8080808080808080
 }
 
 // Where a run of row 1 ends: each byte from `at` up to there is a character by row 1. Sixteen at a time, then up to eight more;
@@ -76,16 +41,21 @@ pub(crate) fn row_1_run(text: &[u8], at: usize) -> usize
     ensures { λ r. ⌜ (at ≤ r) × (r ≤ length (now (text .entry))) ⌝ }
     ensures { λ r. ⌜ ((i : ℕ) → at ≤ i → i < r → begins (0x00 to 0x7f ∷ []) (drop i (now (text .entry))) ≡ true) ⌝ }
 {
+    let n = text.len();
     let mut end = at;
-    while 16 <= text.len() - end && is_ascii_16(text, end) {
+    while 16 <= n - end && (high_bits(text, end) | high_bits(text, end + 8)) == 0 {
         end += 16;
     }
-    if 8 <= text.len() - end {
-        return end + ascii_run(text, end);
-    }
-    if 8 <= text.len() {
-        if text.len() - end <= ascii_at_end(text) {
-            return text.len();
+    let rest = n - end;
+    if 8 <= rest {
+        // A byte is ASCII for each eight zeros, from the first byte on.
+        let zeros = u64::trailing_zeros(high_bits(text, end));
+        end += (zeros / 8) as usize;
+    } else if 8 <= n {
+        // And so from the text's last byte back.
+        let zeros = u64::leading_zeros(high_bits(text, n - 8));
+        if rest <= (zeros / 8) as usize {
+            end = n;
         }
     }
     end

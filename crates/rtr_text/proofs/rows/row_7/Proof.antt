@@ -1,21 +1,21 @@
 -- `rtr_text::rows::row_7` meets its contract: each test behind `&&` is of one range more. Assumes nothing.
 use mathlib.Core.Path.{_∙_}
-use borrow.Author.Needs.{needs}
+use lib.Dec.{lit<}
 use Rattle.rtr_text.proofs.Begins.{byte-0, more-fits, more-fails, more-tested}
 use Rattle.rtr_text.proofs.rows.row_7.Statement.{statement}
 use Rattle.rtr_text.proofs.rows.row_7.Tie as tie
 
 within-requires : tie.Need-within-requires
-within-requires c κs = search needs
+within-requires c κs = (c .before .pre, lit< tt)
 
 within-requires-2 : tie.Need-within-requires-2
-within-requires-2 c κs = search needs
+within-requires-2 c κs = (c .before .before .before .pre, lit< tt)
 
 within-requires-3 : tie.Need-within-requires-3
-within-requires-3 c κs = search needs
+within-requires-3 c κs = (c .before .before .before .before .pre, lit< tt)
 
 within-requires-4 : tie.Need-within-requires-4
-within-requires-4 c κs = search needs
+within-requires-4 c κs = (c .before .before .before .before .before .pre, lit< tt)
 
 returns : tie.Need-returns
 returns c =

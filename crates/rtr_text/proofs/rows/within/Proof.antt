@@ -1,6 +1,6 @@
 -- `rtr_text::rows::within` meets its contract: what the byte is compared with is the range's test, and past the end no range fits. Assumes nothing.
 use Prim.Native.Nat.{_+_}
-use borrow.Author.Needs.{needs}
+use native.Mathlib.Omega.{arith}
 use borrow.Author.Tests.{le-leb, lt-leb}
 use lib.ListN.{getD}
 use Rattle.rtr_text.specs.Utf8.{_to_}
@@ -9,16 +9,16 @@ use Rattle.rtr_text.proofs.rows.within.Statement.{statement}
 use Rattle.rtr_text.proofs.rows.within.Tie as tie
 
 add-if1 : tie.Need-add-if1
-add-if1 c = search needs
+add-if1 c = omega arith
 
 returns : tie.Need-returns
 returns c = let a = c .before .args in range-past (a .low to a .high) (a .text .now) (a .at + a .i) (c .if1 .taken)
 
 add-b : tie.Need-add-b
-add-b c = search needs
+add-b c = omega arith
 
 shared-slice-read-b : tie.Need-shared-slice-read-b
-shared-slice-read-b c = search needs
+shared-slice-read-b c = c .before .if1 .left
 
 returns-2 : tie.Need-returns-2
 returns-2 c =

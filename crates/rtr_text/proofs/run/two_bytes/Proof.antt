@@ -1,23 +1,22 @@
 -- `rtr_text::run::two_bytes` meets its contract: each byte is the one byte of its number (`one-byte`), and `bytes-of-both` puts them together. Assumes nothing.
 use Prim.Native.Nat.{_+_}
 use native.Mathlib.Omega.{arith}
-use borrow.Author.Needs.{needs}
 use lib.ListN.{getD}
 use Rattle.rtr_text.proofs.Words.{one-byte, bytes-of-both}
 use Rattle.rtr_text.proofs.run.two_bytes.Statement.{statement}
 use Rattle.rtr_text.proofs.run.two_bytes.Tie as tie
 
 shared-slice-read-pair : tie.Need-shared-slice-read-pair
-shared-slice-read-pair c = search needs
+shared-slice-read-pair c = omega arith
 
 add-pair : tie.Need-add-pair
-add-pair c = search needs
+add-pair c = omega arith
 
 shared-slice-read-pair-2 : tie.Need-shared-slice-read-pair-2
-shared-slice-read-pair-2 c = search needs
+shared-slice-read-pair-2 c = omega arith
 
 pair-requires : tie.Need-pair-requires
-pair-requires c κs = search needs
+pair-requires c κs = tt
 
 returns : tie.Need-returns
 returns c =
