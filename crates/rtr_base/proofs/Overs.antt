@@ -10,6 +10,11 @@ use lib.ListN.{length, take, drop, set, length-append, length-drop, length-set, 
 use lib.Seq.{length-take-le, take-at, take-take, take-length, take-append-le, drop-at, drop-append-add, drop-drop, set-split, append-snoc, paste}
 use Rattle.rtr_base.specs.Over.{over}
 
+-- what it is, in three parts
+pub over-is : (l : List ℕ) (at : ℕ) (b : List ℕ) → over l at b ≡ take at l ++ b ++ drop (at + length b) l
+unfolding over
+over-is l at b = refl
+
 pub length-over : (l : List ℕ) (at : ℕ) (b : List ℕ) → at + length b ≤ length l → length (over l at b) ≡ length l
 unfolding over
 length-over l at b h = simp (length-append, length-drop, length-take-le at l (omega arith)) (omega arith)

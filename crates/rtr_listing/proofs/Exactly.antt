@@ -22,13 +22,14 @@ use Rattle.rtr_receiver.specs.declared.LiveTable.{LiveTable}
 use Rattle.rtr_receiver.specs.declared.LiveTable.the-variants.{NoTable, Known}
 use Rattle.rtr_receiver.specs.declared.Session.{Session}
 use Rattle.rtr_listing.specs.Listing.{digits, countDigits, listing}
+use Rattle.rtr_listing.specs.Digits.{valueOf}
 use Rattle.rtr_listing.specs.Promises.{ListReason, isListed, listSaid, listingSays}
 use Rattle.rtr_listing.specs.Promises.ListReason.{otherLimit, liveSize, liveOver, liveRules, recordsWithoutTable}
 use Rattle.rtr_listing.specs.declared.ListError.the-variants.{NotAReceiver, OutputShort}
 use Rattle.rtr_listing.specs.declared.ListAnswer.{ListAnswer}
 use Rattle.rtr_listing.specs.declared.ListAnswer.the-variants.{Written, Refused}
 use Rattle.rtr_listing.proofs.Calls.{first-of, second-of, listed-size, written-is, short-is, refused-by-22, listed-says}
-use Rattle.rtr_listing.proofs.Numbers.{valueOf, count-is-number}
+use Rattle.rtr_listing.proofs.Numbers.{count-is-number}
 use Rattle.rtr_listing.proofs.Shape.{above-zero}
 use Rattle.rtr_listing.proofs.listing.Reads as listing-reads
 

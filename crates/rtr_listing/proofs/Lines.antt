@@ -18,7 +18,7 @@ use Rattle.rtr_receiver.specs.declared.LiveTable.{LiveTable}
 use Rattle.rtr_receiver.specs.declared.Table.{Table}
 use Rattle.rtr_receiver.specs.declared.Session.{Session}
 use Rattle.rtr_listing.specs.declared.Head.{Head}
-use Rattle.rtr_listing.specs.Listing.{text, digits, places, decimal, lineOf, line, countDigits, tableLines, headLines, headOf, addressOf, recordLines, allLines, listing}
+use Rattle.rtr_listing.specs.Listing.{text, digits, places, decimal, lineOf, line, countDigits, fieldLines, tableLines, headLines, headOf, addressOf, recordLines, allLines, listing}
 use Rattle.rtr_listing.proofs.Digits.{digits-length, places-at-most}
 
 pub line-length : (name value : List ℕ) → length (lineOf name value) ≡ length name + length value + 1
@@ -30,7 +30,7 @@ pub same-number : (name : List ℕ) (m n : ℕ) → m ≡ n → length (lineOf n
 same-number name m n e = ap (λ (k : ℕ). length (lineOf name (decimal k))) e
 
 -- a line with a number has at most eleven bytes beside its name
-number-at-most : (name : List ℕ) (n : ℕ) → length (lineOf name (decimal n)) ≤ length name + 11
+pub number-at-most : (name : List ℕ) (n : ℕ) → length (lineOf name (decimal n)) ≤ length name + 11
 number-at-most name n = omega (arith, line-length name (decimal n), digits-length 10 (places n) n, places-at-most n)
 
 -- a table's six lines one by one
@@ -42,11 +42,11 @@ pub table-length : (t : Table) (count : ℕ)
     + length (line "retry=" (decimal (t .retry)))
     + length (line "expire=" (decimal (t .expire)))
     + length (line "count=" (digits 10 countDigits count))
-unfolding tableLines
-table-length t count = simp length-append
+unfolding fieldLines tableLines
+table-length t count = simp length-append (omega arith)
 
 table-at-most : (t : LiveTable) (count : ℕ) → length (tableLines t count) ≤ 102
-unfolding tableLines
+unfolding fieldLines tableLines
 table-at-most LiveTable.NoTable count = omega (arith, line-length (text "count=") (text "none"))
 table-at-most (LiveTable.Known t) count =
     omega (
@@ -63,7 +63,7 @@ table-at-most (LiveTable.Known t) count =
 
 -- without a table
 pub no-table-lines : (t : LiveTable) (count : ℕ) → t ≡ LiveTable.NoTable → tableLines t count ≡ text "count=none\n"
-unfolding tableLines lineOf
+unfolding fieldLines tableLines lineOf
 no-table-lines t count e = ap (λ (x : LiveTable). tableLines x count) e
 
 -- a head's lines: the stop, then the table
@@ -97,7 +97,7 @@ address-by : (c : Bool) (r : Record) → eqb (familyOf r) 4 ≡ c → length (ad
 address-by true r e = omega (arith, four-length r (eqb-true (familyOf r) 4 e))
 address-by false r e = omega (arith, other-length r (eqb-false (familyOf r) 4 e))
 
-address-at-most : (r : Record) → length (addressOf r) ≤ 32
+pub address-at-most : (r : Record) → length (addressOf r) ≤ 32
 address-at-most r = address-by (eqb (familyOf r) 4) r refl
 
 -- a record's five lines one by one

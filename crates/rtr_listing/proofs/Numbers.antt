@@ -13,12 +13,8 @@ use lib.ListN.{getD, List·getD-append}
 use Rattle.rtr_room.specs.Table.{familyOf}
 use Rattle.rtr_room.specs.declared.Record.{Record}
 use Rattle.rtr_listing.specs.Listing.{glyph, digits, places, decimal, countDigits, addressOf}
+use Rattle.rtr_listing.specs.Digits.{isHex, areHex, valueOf, hexDigit, hexOf}
 use Rattle.rtr_listing.proofs.Digits.{digits-length}
-
--- the decimal number that bytes stand for, with what was read before them
-unfoldable pub valueOf : List ℕ → ℕ → ℕ
-valueOf [] read = read
-valueOf (c ∷ s) read = valueOf s (read * 10 + (c - 48))
 
 value-last : (s : List ℕ) (c read : ℕ) → valueOf (s ++ c ∷ []) read ≡ valueOf s read * 10 + (c - 48)
 unfolding valueOf
@@ -41,10 +37,10 @@ by-case : (P : ℕ → Type 0) (c : Bool) (n m x y : ℕ) → ltb n m ≡ c → 
 by-case P true n m x y e p q = p (ltb-true n m e)
 by-case P false n m x y e p q = q (ltb-false n m e)
 
-by-test : (P : ℕ → Type 0) (n m x y : ℕ) → (n < m → P x) → (m ≤ n → P y) → P (cond (ltb n m) x y)
+pub by-test : (P : ℕ → Type 0) (n m x y : ℕ) → (n < m → P x) → (m ≤ n → P y) → P (cond (ltb n m) x y)
 by-test P n m x y = by-case P (ltb n m) n m x y refl
 
-places-enough : (n : ℕ) → n < 10000000000 → n < 10 ^ places n
+pub places-enough : (n : ℕ) → n < 10000000000 → n < 10 ^ places n
 unfolding places
 places-enough n h =
     let P : ℕ → Type 0 = λ k. n < 10 ^ k in
@@ -90,15 +86,6 @@ pub count-is-number : (n : ℕ) → n < 10000 → valueOf (digits 10 countDigits
 count-is-number n h = digits-value countDigits n h
 
 -- ---- "lower-case hex digits"
-
--- what a digit's byte stands for: `0` to `9`, then `a` to `f`
-abbrev pub hexDigit : ℕ → ℕ
-hexDigit c = cond (ltb c 97) (c - 48) (c - 87)
-
--- the number that bytes stand for in base 16, with what was read before them
-unfoldable pub hexOf : List ℕ → ℕ → ℕ
-hexOf [] read = read
-hexOf (c ∷ s) read = hexOf s (read * 16 + hexDigit c)
 
 hex-behind : (s t : List ℕ) (read : ℕ) → hexOf (s ++ t) read ≡ hexOf t (hexOf s read)
 unfolding hexOf
@@ -151,40 +138,32 @@ other-is-number r e h0 h1 h2 h3 =
     next : (s : List ℕ) (n : ℕ) {read : ℕ} → n < 4294967296 → hexOf s 0 ≡ read → hexOf (s ++ digits 16 8 n) 0 ≡ read * 4294967296 + n
     next s n h p = hex-behind s (digits 16 8 n) 0 ∙ hex-digits 8 n (hexOf s 0) h ∙ ap (λ (x : ℕ). x * 4294967296 + n) p
 
--- every byte of a hex number is `0` to `9` or `a` to `f`, never upper-case
-abbrev pub isDigit : ℕ → Bool
-isDigit c = (leb 48 c && leb c 57) || (leb 97 c && leb c 102)
-
-unfoldable pub areDigits : List ℕ → Bool
-areDigits [] = true
-areDigits (c ∷ s) = isDigit c && areDigits s
-
-are-behind : (s t : List ℕ) → areDigits s ≡ true → areDigits t ≡ true → areDigits (s ++ t) ≡ true
-unfolding areDigits
+are-behind : (s t : List ℕ) → areHex s ≡ true → areHex t ≡ true → areHex (s ++ t) ≡ true
+unfolding areHex
 are-behind [] t p q = q
-are-behind (c ∷ s) t p q = go (isDigit c) p (λ h. are-behind s t h q)
+are-behind (c ∷ s) t p q = go (isHex c) p (λ h. are-behind s t h q)
   where
-    go : (b : Bool) → (b && areDigits s) ≡ true → (areDigits s ≡ true → areDigits (s ++ t) ≡ true) → (b && areDigits (s ++ t)) ≡ true
+    go : (b : Bool) → (b && areHex s) ≡ true → (areHex s ≡ true → areHex (s ++ t) ≡ true) → (b && areHex (s ++ t)) ≡ true
     go true p rest = rest p
     go false p rest = absurd (true≢false (sym p))
 
-shown-is : {d c : ℕ} → Shown d c → isDigit c ≡ true
+shown-is : {d c : ℕ} → Shown d c → isHex c ≡ true
 shown-is {d} (number h) = simp (le-leb 48 (48 + d) (omega arith), le-leb (48 + d) 57 (omega arith))
 shown-is {d} (letter l h) = simp (le-leb 97 (87 + d) (omega arith), le-leb (87 + d) 102 (omega arith), or-true)
 
-pub hex-lower-case : (k n : ℕ) → areDigits (digits 16 k n) ≡ true
-unfolding digits areDigits
+pub hex-lower-case : (k n : ℕ) → areHex (digits 16 k n) ≡ true
+unfolding digits areHex
 hex-lower-case zero n = refl
 hex-lower-case (suc k) n =
     are-behind (digits 16 k (n / 16)) (glyph (n % 16) ∷ []) (hex-lower-case k (n / 16)) (simp (shown-is (shown (n % 16) (omega arith))))
 
-pub address-lower-case : (r : Record) → areDigits (addressOf r) ≡ true
+pub address-lower-case : (r : Record) → areHex (addressOf r) ≡ true
 unfolding addressOf
 address-lower-case r = go (eqb (familyOf r) 4)
   where
-    all : areDigits (digits 16 8 (r .w0) ++ digits 16 8 (r .w1) ++ digits 16 8 (r .w2) ++ digits 16 8 (r .w3)) ≡ true
+    all : areHex (digits 16 8 (r .w0) ++ digits 16 8 (r .w1) ++ digits 16 8 (r .w2) ++ digits 16 8 (r .w3)) ≡ true
     all = are-behind _ _ (are-behind _ _ (are-behind _ _ (hex-lower-case 8 (r .w0)) (hex-lower-case 8 (r .w1))) (hex-lower-case 8 (r .w2))) (hex-lower-case 8 (r .w3))
 
-    go : (b : Bool) → areDigits (cond b (digits 16 8 (r .w0)) (digits 16 8 (r .w0) ++ digits 16 8 (r .w1) ++ digits 16 8 (r .w2) ++ digits 16 8 (r .w3))) ≡ true
+    go : (b : Bool) → areHex (cond b (digits 16 8 (r .w0)) (digits 16 8 (r .w0) ++ digits 16 8 (r .w1) ++ digits 16 8 (r .w2) ++ digits 16 8 (r .w3))) ≡ true
     go true = hex-lower-case 8 (r .w0)
     go false = all

@@ -18,6 +18,8 @@ use Rattle.rtr_listing.proofs.ListError.number.Reads as list-error-numb
 use Rattle.rtr_listing.proofs.head_of.Reads as head-of
 use Rattle.rtr_listing.proofs.head_lines.Reads as head-lines
 use Rattle.rtr_listing.proofs.record_lines.Reads as record-lines
+use Rattle.rtr_listing.proofs.text_line.Reads as text-line
+use Rattle.rtr_listing.proofs.number_line.Reads as number-line
 use Rattle.rtr_listing.proofs.listing.Reads as listing
 
 -- the answer that has a number and values
@@ -48,6 +50,12 @@ head-lines-unique κs a r r′ s s′ p q = one-leaving r r′ (now (s .1 .0)) (
 
 pub record-lines-unique : (κs : _) (a : _) (r r′ : _) (s s′ : _) → record-lines.Post κs a r s → record-lines.Post κs a r′ s′ → (r ≡ r′) × (now (s .1 .0) ≡ now (s′ .1 .0))
 record-lines-unique κs a r r′ s s′ p q = one-leaving r r′ (now (s .1 .0)) (now (s′ .1 .0)) _ p q
+
+pub text-line-unique : (κs : _) (a : _) (r r′ : _) (s s′ : _) → text-line.Post κs a r s → text-line.Post κs a r′ s′ → (r ≡ r′) × (now (s .1 .1 .0) ≡ now (s′ .1 .1 .0))
+text-line-unique κs a r r′ s s′ p q = one-leaving r r′ (now (s .1 .1 .0)) (now (s′ .1 .1 .0)) _ p q
+
+pub number-line-unique : (κs : _) (a : _) (r r′ : _) (s s′ : _) → number-line.Post κs a r s → number-line.Post κs a r′ s′ → (r ≡ r′) × (now (s .1 .1 .0) ≡ now (s′ .1 .1 .0))
+number-line-unique κs a r r′ s s′ p q = one-leaving r r′ (now (s .1 .1 .0)) (now (s′ .1 .1 .0)) _ p q
 
 pub listing-unique : (κs : _) (a : _) (r r′ : _) (s s′ : _) → listing.Post κs a r s → listing.Post κs a r′ s′ → (r ≡ r′) × (now (s .1 .1 .0) ≡ now (s′ .1 .1 .0))
 listing-unique κs a r r′ s s′ p q = one-leaving r r′ (now (s .1 .1 .0)) (now (s′ .1 .1 .0)) _ p q

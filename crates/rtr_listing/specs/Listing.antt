@@ -12,6 +12,7 @@ use Rattle.rtr_receiver.specs.Promises.{stopSaid}
 use Rattle.rtr_receiver.specs.declared.Phase.{Phase}
 use Rattle.rtr_receiver.specs.declared.LiveTable.{LiveTable}
 use Rattle.rtr_receiver.specs.declared.Session.{Session}
+use Rattle.rtr_receiver.specs.declared.Table.{Table}
 use Rattle.rtr_listing.specs.declared.Head.{Head}
 
 -- ---- texts and numbers
@@ -70,16 +71,35 @@ stoppedAs (Phase.Stopped stop) = numberOf (stopSaid stop)
 abbrev pub countDigits : ℕ
 countDigits = 4
 
+-- one of the table's numbers in the head: its line's name, and the highest that it can be
+pub record Field : Type 0 where
+  pub name : List ℕ
+  pub most : ℕ
+
+-- the table's numbers in the order of their lines: a session has 16 bits, the others 32
+abbrev pub tableFields : List Field
+tableFields =
+    record { name = text "session="; most = 65535 }
+    ∷ record { name = text "serial="; most = 4294967295 }
+    ∷ record { name = text "refresh="; most = 4294967295 }
+    ∷ record { name = text "retry="; most = 4294967295 }
+    ∷ record { name = text "expire="; most = 4294967295 }
+    ∷ []
+
+-- these numbers of a table
+abbrev pub tableNumbers : Table → List ℕ
+tableNumbers t = t .session ∷ t .serial ∷ t .refresh ∷ t .retry ∷ t .expire ∷ []
+
+-- the lines before, and a line for each field that has its number
+unfoldable pub fieldLines : List ℕ → List Field → List ℕ → List ℕ
+fieldLines before (f ∷ fs) (n ∷ ns) = fieldLines (before ++ lineOf (f .name) (decimal n)) fs ns
+fieldLines before (f ∷ fs) [] = before
+fieldLines before [] ns = before
+
 -- the table's numbers and its count of records; or that there is none
 unfoldable pub tableLines : LiveTable → ℕ → List ℕ
 tableLines LiveTable.NoTable count = line "count=" (text "none")
-tableLines (LiveTable.Known t) count =
-    line "session=" (decimal (t .session))
-    ++ line "serial=" (decimal (t .serial))
-    ++ line "refresh=" (decimal (t .refresh))
-    ++ line "retry=" (decimal (t .retry))
-    ++ line "expire=" (decimal (t .expire))
-    ++ line "count=" (digits 10 countDigits count)
+tableLines (LiveTable.Known t) count = fieldLines [] tableFields (tableNumbers t) ++ line "count=" (digits 10 countDigits count)
 
 -- the lines before the records
 unfoldable pub headLines : Head → List ℕ

@@ -330,6 +330,32 @@ pub fn record_lines(r: Record, out: &mut [u8]) -> ListAnswer
     ListAnswer::Written(needed)
 }
 
+// A line of a name and a text.
+pub fn text_line(name: &[u8], value: &[u8], out: &mut [u8]) -> ListAnswer
+    ensures { λ a. ⌜ leaves a (now (out .exit)) ≡ puts (lineOf (now (name .entry)) (now (value .entry))) (now (out .entry)) ⌝ }
+{
+    let needed = name.len() + value.len() + 1;
+    if out.len() < needed {
+        return short(needed);
+    }
+    let from = put_text(out, 0, name);
+    let end = put_text(out, from, value);
+    put_text(out, end, b"\n");
+    ListAnswer::Written(needed)
+}
+
+// A line of a name and a number, without leading zeros; of one over 32 bits the last ten digits.
+pub fn number_line(name: &[u8], n: usize, out: &mut [u8]) -> ListAnswer
+    ensures { λ a. ⌜ leaves a (now (out .exit)) ≡ puts (lineOf (now (name .entry)) (decimal n)) (now (out .entry)) ⌝ }
+{
+    let needed = name.len() + places(n) + 1;
+    if out.len() < needed {
+        return short(needed);
+    }
+    put_number(out, 0, name, n);
+    ListAnswer::Written(needed)
+}
+
 // A receiver may have the limit, no record stands without a table, and the live room keeps the room rules.
 fn is_listed(s: Session, live: &[u32]) -> bool
     ensures { λ r. ⌜ r ≡ isListed (s .life .limit) s (now (live .entry)) ⌝ }

@@ -20,7 +20,7 @@ use Rattle.rtr_stream.proofs.Laws.{stop-numbers}
 use Rattle.rtr_room.specs.Table.{Change, enter, leave}
 use Rattle.rtr_room.specs.declared.Record.{Record}
 use Rattle.rtr_room.proofs.Laws.{enter-refuses, leave-refuses}
-use Rattle.rtr_receiver.specs.Receiver.{Stage, Receiver, Deed, Feed, isDue, kindIn, sessionIn, holding, stop, noUpdate, onChangeResponse, onCacheResponse, changedTo, onRecord, finish, onEndOfData, deedOf, onPdu, heard, listens, onByte, onPiece}
+use Rattle.rtr_receiver.specs.Receiver.{Stage, Receiver, Deed, Feed, isStop, isDue, kindIn, sessionIn, holding, stop, noUpdate, onChangeResponse, onCacheResponse, changedTo, onRecord, finish, onEndOfData, deedOf, onPdu, heard, listens, onByte, onPiece}
 use Rattle.rtr_receiver.specs.Receiver.Stage.{idle, mustReset, askedFull, askedChange, loading, stopped}
 use Rattle.rtr_receiver.specs.declared.LoadKind.{LoadKind}
 use Rattle.rtr_receiver.specs.declared.LiveTable.{LiveTable}
@@ -37,9 +37,6 @@ toCome (loading kind session) = 1
 toCome (stopped number values) = 0
 
 -- a stop's number is document 01's
-abbrev pub isStop : ℕ → Bool
-isStop k = (leb 2 k && leb k 8) || (leb 12 k && leb k 19)
-
 abbrev pub stopsRightly : Stage → Bool
 stopsRightly idle = true
 stopsRightly mustReset = true

@@ -1,5 +1,6 @@
 -- The laws that higher crates and readers cite of the receiver's calls, over every limit: a refused call changes nothing, and when a start is refused; every call keeps receiver shape and the version; what a feed takes and counts;
--- a stop clears and repeats. Each is about the promises of specs/Promises.antt. Assumes nothing.
+-- a stop clears and repeats. Each is about the promises of specs/Promises.antt, but the last two: the table that records make (specs/History.antt).
+-- Assumes nothing.
 use Prim.Native.Nat.{ℕ, suc, _*_, _≤_, _<_}
 use mathlib.Core.Bool.{Bool, true, false, cond, _&&_}
 use mathlib.Core.List.{List, [], _∷_, _++_, append-nil}
@@ -14,19 +15,21 @@ use Rattle.rtr_encode.specs.Encode.{Writing, encode}
 use Rattle.rtr_encode.proofs.Laws.{refused-keeps-output}
 use Rattle.rtr_codec.specs.Reading.{inUse}
 use Rattle.rtr_stream.proofs.Laws.{stream-has}
+use Rattle.rtr_room.specs.Table.{Change}
 use Rattle.rtr_room.proofs.Laws.Tests.{second-of}
-use Rattle.rtr_receiver.specs.Contents.{Rooms}
-use Rattle.rtr_receiver.specs.Receiver.{Stage, Receiver, Feed, Query, fresh, feed, fullQuery, changeQuery, listens, onPiece, askedBy, ask, reconnected}
+use Rattle.rtr_receiver.specs.Contents.{Contents, Rooms}
+use Rattle.rtr_receiver.specs.Receiver.{Stage, Receiver, Feed, Query, isStop, fresh, feed, fullQuery, serialQuery, changeQuery, listens, onPiece, askedBy, ask, reconnected}
 use Rattle.rtr_receiver.specs.Receiver.Stage.{idle, mustReset, askedFull, askedChange, loading, stopped}
 use Rattle.rtr_receiver.specs.Promises.{Left, Ending, FeedSays, StartSays, AskSays, ReconnectSays, isLimit, isReceiver, receiverOf, stageOf, leaves, inMemory, endingOf, fedTo, feedSays, startSays, askedTo, askSays, fullAskSays, changeAskSays, reconnectSays}
-use Rattle.rtr_receiver.specs.History.{Event, Update, finished}
+use Rattle.rtr_receiver.specs.History.{Event, Changed, Update, applied, kept, withAll, finished}
 use Rattle.rtr_receiver.specs.Runs.{Call, Memory, Step, Run, bytes, historyOf}
 use Rattle.rtr_receiver.specs.declared.LoadKind.{LoadKind}
+use Rattle.rtr_receiver.specs.declared.LiveTable.{LiveTable}
 use Rattle.rtr_receiver.specs.declared.Session.{Session}
 use Rattle.rtr_receiver.proofs.Feeds.{from, stopped-takes-none}
 use Rattle.rtr_receiver.proofs.Memory.{limit-is, limit-of, standing}
 use Rattle.rtr_receiver.proofs.Steps.{shape-of, good-of}
-use Rattle.rtr_receiver.proofs.Kept.{toCome, stopsRightly, isStop, Cleared, piece-keeps, Through, through}
+use Rattle.rtr_receiver.proofs.Kept.{toCome, stopsRightly, Cleared, piece-keeps, Through, through}
 use Rattle.rtr_receiver.proofs.Histories.{piece-follows, onward-by, all-between}
 use Rattle.rtr_receiver.proofs.Runs.{Stands, after, run-along, in-shape, is-receiver, step-stands, history-snoc}
 
@@ -309,6 +312,54 @@ version-for-life limit H v calls m (Run.next {calls = before} {call = call} {m =
 pub limit-for-life : (limit H : ℕ) (v : RtrProtocolVersion) (calls : List Call) (m : Memory) → Run limit v H calls m → m .session .life .limit ≡ limit
 limit-for-life limit H v calls m run = ap (λ (l : Left). l .life .limit) (run-along limit H v calls m run .stands .left)
 
+-- ---- Along a run a stop is one of "2 to 8 and 12 to 19": 1 never arises
+
+-- the phase that a query leads to
+abbrev leadsRightly : Query → Bool
+leadsRightly (Query.query pdu stage) = stopsRightly stage
+leadsRightly (Query.refused number) = true
+
+full-rightly : (stage : Stage) (r : Receiver) → leadsRightly (fullQuery stage r) ≡ true
+full-rightly idle r = refl
+full-rightly mustReset r = refl
+full-rightly askedFull r = refl
+full-rightly askedChange r = refl
+full-rightly (loading kind session) r = refl
+full-rightly (stopped n x) r = refl
+
+serial-rightly : (t : LiveTable) (r : Receiver) → leadsRightly (serialQuery t r) ≡ true
+serial-rightly LiveTable.NoTable r = refl
+serial-rightly (LiveTable.Known t) r = refl
+
+change-rightly : (stage : Stage) (r : Receiver) → leadsRightly (changeQuery stage r) ≡ true
+change-rightly idle r = serial-rightly (r .table) r
+change-rightly mustReset r = refl
+change-rightly askedFull r = refl
+change-rightly askedChange r = refl
+change-rightly (loading kind session) r = refl
+change-rightly (stopped n x) r = refl
+
+asked-rightly : (q : Query) (r : Receiver) (out : List ℕ) → leadsRightly q ≡ true → stopsRightly (r .stage) ≡ true → stopsRightly (ask q r out .receiver .stage) ≡ true
+asked-rightly (Query.refused number) r out l t = t
+asked-rightly (Query.query pdu stage) r out l t = go (encode inUse pdu [] out .says)
+  where
+    go : (w : Writing) → stopsRightly (askedBy w stage r (encode inUse pdu [] out .out) .receiver .stage) ≡ true
+    go (Writing.written n) = l
+    go (Writing.refused k x) = t
+
+after-rightly : (limit H : ℕ) (call : Call) (r : Receiver) → stopsRightly (r .stage) ≡ true → stopsRightly (after limit H call r .stage) ≡ true
+after-rightly limit H (Call.feed piece) r t = piece-keeps limit H piece (from r 0 0) .rightly t
+after-rightly limit H (Call.ask LoadKind.Full out) r t = asked-rightly (fullQuery (r .stage) r) r out (full-rightly (r .stage) r) t
+after-rightly limit H (Call.ask LoadKind.Change out) r t = asked-rightly (changeQuery (r .stage) r) r out (change-rightly (r .stage) r) t
+after-rightly limit H Call.reconnect r t = refl
+
+pub run-stops-are : (limit H : ℕ) (v : RtrProtocolVersion) (calls : List Call) (m : Memory) → Run limit v H calls m → stopsRightly (stageOf (m .session .phase)) ≡ true
+run-stops-are limit H v calls m (Run.started m₀ live working size e) = ap (λ (l : Left). stopsRightly (l .stage)) (start-exactly limit v live working (m₀ .hold) _ .0 (sym e) .0)
+run-stops-are limit H v calls m (Run.next {calls = before} {call = call} {m = m₀} run step) =
+    let along = run-along limit H v before m₀ run in
+    ap (λ (l : Left). stopsRightly (l .stage)) (step-stands limit H call m₀ m (along .receiver) (along .stands) step .left)
+    ∙ after-rightly limit H call (along .receiver) (sym (ap (λ (l : Left). stopsRightly (l .stage)) (along .stands .left)) ∙ run-stops-are limit H v before m₀ run)
+
 -- so a call that meets its promise, at the limit that the session holds, is the next step of the run
 pub next-step : (limit H : ℕ) (v : RtrProtocolVersion) (calls : List Call) (call : Call) (m m′ : Memory) → Run limit v H calls m → Step (m .session .life .limit) m call m′ → Run limit v H (calls ++ call ∷ []) m′
 next-step limit H v calls call m m′ run step = Run.next run (subst (λ (n : ℕ). Step n m call m′) (limit-for-life limit H v calls m run) step)
@@ -335,3 +386,16 @@ feed-counts limit H v calls m piece taken counted ending left run e =
           ∙ ap (λ (done : List Update). done ++ us) (sym (all-between limit H (along .way))),
       sym said,
     )
+
+-- ---- The table that records make
+
+-- none leave it
+pub with-all-none : (limit : ℕ) (t : Contents) → withAll limit t [] ≡ t
+unfolding withAll
+with-all-none limit t = refl
+
+-- one that applies makes the table that the others begin from
+pub with-all-next : (limit : ℕ) (t t′ : Contents) (c : Changed) (cs : List Changed)
+    → applied limit t (c .announced) (c .what) ≡ Change.changed t′ → withAll limit t (c ∷ cs) ≡ withAll limit t′ cs
+unfolding withAll
+with-all-next limit t t′ c cs e = ap (λ (k : Change). withAll limit (kept t k) cs) e

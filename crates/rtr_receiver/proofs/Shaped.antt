@@ -17,14 +17,14 @@ use Rattle.rtr_stream.specs.declared.StreamError.{StreamError}
 use Rattle.rtr_stream.proofs.Laws.{stream-alike}
 use Rattle.rtr_room.specs.Room.{records, isRoom}
 use Rattle.rtr_receiver.specs.Contents.{Rooms}
-use Rattle.rtr_receiver.specs.Receiver.{Stage, Receiver, Query, feed, fullQuery, serialQuery, changeQuery, askedBy, ask, reconnected, notified}
+use Rattle.rtr_receiver.specs.Receiver.{Stage, Receiver, Query, isStop, feed, fullQuery, serialQuery, changeQuery, askedBy, ask, reconnected, notified}
 use Rattle.rtr_receiver.specs.Receiver.Stage.{idle, mustReset, askedFull, askedChange, loading, stopped}
 use Rattle.rtr_receiver.specs.Promises.{Left, Ending, FeedSays, AskSays, NotifySays, stageOf, inOrder, hasLimit, isReceiver, receiverOf, leaves, inMemory, fedTo, feedSays, askedTo, askSays, fullAskSays, changeAskSays, reconnectSays, notifySays}
 use Rattle.rtr_receiver.specs.declared.Stop.{Stop}
 use Rattle.rtr_receiver.specs.declared.Phase.{Phase}
 use Rattle.rtr_receiver.specs.declared.LiveTable.{LiveTable}
 use Rattle.rtr_receiver.specs.declared.Session.{Session}
-use Rattle.rtr_receiver.proofs.Kept.{isStop, stopsRightly}
+use Rattle.rtr_receiver.proofs.Kept.{stopsRightly}
 use Rattle.rtr_receiver.proofs.Laws.{fed-means, stops-are, stop-repeats}
 
 -- ---- Without receiver shape: 22, and everything is kept

@@ -3,7 +3,7 @@
 use Prim.Native.Nat.{ℕ, _+_, _-_}
 use mathlib.Core.Bool.{Bool, true, false, cond, _&&_, _||_}
 use mathlib.Core.List.{List, [], _∷_, _++_}
-use lib.Dec.{eqb, ltb}
+use lib.Dec.{eqb, leb, ltb}
 use Rattle.rtr_models.specs.Codes.{codeNumber, found, typeNumber, versionNumber}
 use Rattle.rtr_models.specs.Values.{announces, typeOf, versionOf}
 use Rattle.rtr_models.specs.declared.RtrProtocolVersion.{RtrProtocolVersion}
@@ -30,6 +30,10 @@ pub data Stage : Type 0 where
   askedChange : Stage
   loading : LoadKind → ℕ → Stage
   stopped : ℕ → List ℕ → Stage
+
+-- which of document 01's refusal numbers are stops: "2 to 8 and 12 to 19 in the stream are stops; 1 never arises there". The one definition of it.
+abbrev pub isStop : ℕ → Bool
+isStop number = (leb 2 number && leb number 8) || (leb 12 number && leb number 19)
 
 -- which PDU is due in which phase; any other is out of turn (13). An Error Report waits for no turn (19).
 abbrev pub dueIn : Stage → List RtrPduType

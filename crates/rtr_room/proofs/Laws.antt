@@ -10,14 +10,16 @@ pub mod Places
 pub mod Moves
 pub mod Kept
 pub mod Keys
+pub mod Last
 use Prim.Native.Nat.{ℕ, suc, _+_, _*_, _<_, _≤_}
 use mathlib.Core.Bool.{true, false, cond, not, _&&_, _||_}
 use mathlib.Core.List.{List, [], _∷_, _++_}
 use mathlib.Core.Logic.{_↔_, _⊎_}
 use mathlib.Core.Path.{_≡_, refl}
-use lib.Dec.{leb}
+use borrow.Author.Tests.{le-leb}
+use lib.Dec.{leb, eqb}
 use lib.ListN.{length, getD, replicate}
-use Rattle.rtr_room.specs.Table.{Change, packed, ipv4Record, ipv6Record, familyOf, prefixOf, maxOf, before, same, inRule, ordered, allInRule, isTable, isIn, rank, insert, remove, enter, leave, key}
+use Rattle.rtr_room.specs.Table.{Change, packed, ipv4Record, ipv6Record, familyOf, prefixOf, maxOf, before, same, inRule, above, ordered, allInRule, isTable, isIn, rank, insert, remove, enter, leave, key}
 use Rattle.rtr_room.specs.Table.Change.{changed}
 use Rattle.rtr_room.specs.Room.{room, recordFrom, recordAt, recordFound, records, isRoom, limitOf, place, stands, lookUp, keeps, entered, gone, outcomeOf, copied, copySays}
 use Rattle.rtr_room.specs.Room.Found.{standsAt, missingAt}
@@ -27,11 +29,13 @@ use Rattle.rtr_room.specs.declared.RecordFound.{RecordFound}
 use Rattle.rtr_room.proofs.Laws.Records as made
 use Rattle.rtr_room.proofs.Laws.Order as order
 use Rattle.rtr_room.proofs.Laws.Tables as tables
+use Rattle.rtr_room.proofs.Laws.Tables.{Inside}
 use Rattle.rtr_room.proofs.Laws.Rooms as rooms
 use Rattle.rtr_room.proofs.Laws.Places as places
 use Rattle.rtr_room.proofs.Laws.Moves as moves
 use Rattle.rtr_room.proofs.Laws.Kept as kept
 use Rattle.rtr_room.proofs.Laws.Keys as keys
+use Rattle.rtr_room.proofs.Laws.Last as last
 use Rattle.rtr_room.proofs.Laws.Keys.{Lower}
 
 -- a first number is family x 65,536 + prefix length x 256 + max
@@ -78,6 +82,14 @@ before-total = order.before-total
 pub same-is-equal : (a b : Record) → same a b ≡ true ↔ a ≡ b
 same-is-equal = order.same-is-equal
 
+-- that is, where their six numbers are
+pub same-numbers : (a b : Record)
+    → same a b
+    ≡ (eqb (a .kind) (b .kind)
+    && (eqb (a .w0) (b .w0) && (eqb (a .w1) (b .w1) && (eqb (a .w2) (b .w2) && (eqb (a .w3) (b .w3) && eqb (a .asn) (b .asn))))))
+unfolding same
+same-numbers a b = refl
+
 -- a record is before another exactly where its key is lower at the first number in which they differ
 pub before-exactly : (a b : Record) → before a b ≡ true ↔ Lower (key a) (key b)
 before-exactly = keys.before-exactly
@@ -94,9 +106,63 @@ in-rule-at = keys.in-rule-at
 pub in-exactly : (d r : Record) (t : List Record) → isIn r t ≡ true ↔ ((i : ℕ) × (i < length t) × (getD t i d ≡ r))
 in-exactly = keys.in-exactly
 
+-- no record is in nothing; it is in a list where it is the first or in the rest
+pub in-none : (r : Record) → isIn r [] ≡ false
+unfolding isIn
+in-none r = refl
+
+pub in-next : (r x : Record) (t : List Record) → isIn r (x ∷ t) ≡ (same x r || isIn r t)
+unfolding isIn
+in-next r x t = refl
+
+pub in-first : (r : Record) (t : List Record) → isIn r (r ∷ t) ≡ true
+in-first = tables.isIn-first
+
+pub in-later : (x r : Record) (t : List Record) → isIn r t ≡ true → isIn r (x ∷ t) ≡ true
+in-later = tables.isIn-later
+
+-- the first of an ordered list is before each other, and so is not among them
+pub first-before : (x y : Record) (t : List Record) → ordered (x ∷ t) ≡ true → isIn y t ≡ true → before x y ≡ true
+first-before = tables.first-before
+
+pub first-once : (x : Record) (t : List Record) → ordered (x ∷ t) ≡ true → isIn x t ≡ false
+first-once = tables.first-once
+
 -- a record in rule is no longer than its max, and that no longer than 128
 pub in-rule-lengths : (r : Record) → inRule r ≡ true → (prefixOf r ≤ maxOf r) × (maxOf r ≤ 128)
 in-rule-lengths = keys.in-rule-lengths
+
+-- and of family 4 or 6
+pub in-rule-family : (r : Record) → inRule r ≡ true → (familyOf r ≡ 4) ⊎ (familyOf r ≡ 6)
+in-rule-family = keys.in-rule-family
+
+-- the front of an ordered list is ordered
+pub ordered-front : (t u : List Record) → ordered (t ++ u) ≡ true → ordered t ≡ true
+ordered-front = last.ordered-front
+
+-- the records of a list are in rule exactly where those of both its parts are
+pub all-in-rule-append : (t u : List Record) → allInRule (t ++ u) ≡ (allInRule t && allInRule u)
+all-in-rule-append = last.all-in-rule-append
+
+-- one record is in rule as a list of one
+pub all-in-rule-one : (r : Record) (t : List Record) → allInRule (r ∷ t) ≡ (inRule r && allInRule t)
+unfolding allInRule
+all-in-rule-one r t = refl
+
+-- a record is in order behind a table exactly where all of the table comes before it; then it is not in
+pub last-exactly : (r : Record) (t : List Record) → ordered t ≡ true → ordered (t ++ r ∷ []) ≡ true ↔ rank r t ≡ length t
+last-exactly r t h = (last.last-rank r t, last.rank-last r t h)
+
+pub last-not-in : (r : Record) (t : List Record) → ordered (t ++ r ∷ []) ≡ true → isIn r t ≡ false
+last-not-in = last.last-not-in
+
+-- such a record goes in behind
+pub enter-last : (limit : ℕ) (r : Record) (t : List Record) → ordered (t ++ r ∷ []) ≡ true → length t < limit → enter limit r t ≡ changed (t ++ r ∷ [])
+enter-last = last.enter-last
+
+-- and makes a table of a table where it is in rule
+pub table-last : (r : Record) (t : List Record) → isTable t ≡ true → inRule r ≡ true → ordered (t ++ r ∷ []) ≡ true → isTable (t ++ r ∷ []) ≡ true
+table-last = last.table-last
 
 -- a record that is not in goes in in order
 pub enter-keeps-order : (r : Record) (t : List Record) → ordered t ≡ true → isIn r t ≡ false → ordered (insert r t) ≡ true
@@ -107,6 +173,10 @@ pub empty-table : isTable [] ≡ true
 unfolding allInRule ordered
 empty-table = refl
 
+-- a table of one record more is a record in rule, before the first of a table
+pub table-next : (r : Record) (t : List Record) → isTable (r ∷ t) ≡ true ↔ ((inRule r ≡ true) × (above r t ≡ true) × (isTable t ≡ true))
+table-next = tables.table-next
+
 -- a record in rule that is not in makes a table of a table
 pub enter-keeps-rules : (r : Record) (t : List Record) → isTable t ≡ true → inRule r ≡ true → isIn r t ≡ false → isTable (insert r t) ≡ true
 enter-keeps-rules = tables.enter-keeps-rules
@@ -114,6 +184,14 @@ enter-keeps-rules = tables.enter-keeps-rules
 -- a table without a record is a table
 pub leave-keeps-rules : (r : Record) (t : List Record) → isTable t ≡ true → isTable (remove r t) ≡ true
 leave-keeps-rules = tables.leave-keeps-rules
+
+-- a record that is not in enters where there is room
+pub enter-applies : (limit : ℕ) (r : Record) (t : List Record) → isIn r t ≡ false → length t < limit → enter limit r t ≡ changed (insert r t)
+enter-applies = tables.enter-applies
+
+-- a record that is in leaves
+pub leave-applies : (r : Record) (t : List Record) → isIn r t ≡ true → leave r t ≡ changed (remove r t)
+leave-applies = tables.leave-applies
 
 -- entering makes a table of one record more, within the limit
 pub enter-keeps : (limit : ℕ) (r : Record) (t t′ : List Record) → isTable t ≡ true → inRule r ≡ true → enter limit r t ≡ changed t′ → (isTable t′ ≡ true) × (length t′ ≡ suc (length t)) × (length t′ ≤ limit)
@@ -134,6 +212,15 @@ leave-membership = tables.leave-membership
 -- two ordered tables with the same members are one: a table is its set
 pub tables-equal : (t u : List Record) → ordered t ≡ true → ordered u ≡ true → ((x : Record) → isIn x t ≡ isIn x u) → t ≡ u
 tables-equal = tables.tables-equal
+
+-- a table whose members are all in another (`Inside`) is no longer
+pub inside-is-no-longer : (t u : List Record) → ordered t ≡ true → ordered u ≡ true → Inside t u → length t ≤ length u
+inside-is-no-longer = tables.inside-is-no-longer
+
+-- and it is shorter where the other has a member more
+pub inside-is-shorter : (r : Record) (t u : List Record) → ordered t ≡ true → ordered u ≡ true → Inside t u
+    → isIn r t ≡ false → isIn r u ≡ true → length t < length u
+inside-is-shorter = tables.inside-is-shorter
 
 -- a room has six numbers for each record that it has room for
 pub room-length : (limit : ℕ) (t : List Record) → length t ≤ limit → length (room limit t) ≡ 6 * limit
@@ -194,6 +281,12 @@ place-is-rank = places.place-is-rank
 -- a record stands at its place exactly where it is in the table
 pub stands-is-in : (limit : ℕ) (t : List Record) → ordered t ≡ true → (r : Record) → stands (room limit t) (length t) r ≡ isIn r t
 stands-is-in = places.stands-is-in
+
+-- a look-up in any numbers that have room for so many says where the record stands or would stand
+pub look-up-says : (s : List ℕ) (count : ℕ) (r : Record) → count ≤ limitOf s
+    → lookUp s count r ≡ cond (stands s count r) (standsAt (place s count r)) (missingAt (place s count r))
+unfolding lookUp
+look-up-says s count r h = rw (le-leb count (limitOf s) h)
 
 -- a look-up in the room of a table finds the record's rank, and whether it is in
 pub look-up-is : (limit : ℕ) (r : Record) (t : List Record) → ordered t ≡ true → length t ≤ limit → lookUp (room limit t) (length t) r ≡ cond (isIn r t) (standsAt (rank r t)) (missingAt (rank r t))

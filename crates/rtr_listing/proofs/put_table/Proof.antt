@@ -1,7 +1,7 @@
 -- `put_table`: the six lines, one behind the other. Assumes nothing.
 use native.Mathlib.Omega.{arith}
 use borrow.Author.Needs.{needs}
-use Rattle.rtr_listing.specs.Listing.{tableLines}
+use Rattle.rtr_listing.specs.Listing.{fieldLines, tableLines}
 use Rattle.rtr_listing.proofs.Puts.{put-then, put-keeps}
 use Rattle.rtr_listing.proofs.Lines.{table-length}
 use Rattle.rtr_listing.proofs.put_table.Statement.{statement}
@@ -125,7 +125,7 @@ put-counted-requires c κs =
     )
 
 returns : tie.Need-returns
-unfolding tableLines
+unfolding fieldLines tableLines
 returns c =
     let inside = c .before .before .before .before .before .before .before .before .before .before .before .before .before .before .before .before .before .before .before .before .before .before .before .before .before .before .before .before .before .before .before .before .before .before .before .before .pre in
     put-then (omega (arith, inside))

@@ -105,3 +105,17 @@ in-rule-lengths r e = go (either (eqb (familyOf r) 4) (lengthsWithin 32 r) _ (eq
     go : (lengthsWithin 32 r ≡ true) ⊎ (lengthsWithin 128 r ≡ true) → (prefixOf r ≤ maxOf r) × (maxOf r ≤ 128)
     go (inl f) = within 32 (omega arith) f
     go (inr f) = within 128 (omega arith) f
+
+-- a record in rule is of family 4 or 6
+one-family : (a b c d : Bool) → (a && b) || (c && d) ≡ true → (a ≡ true) ⊎ (c ≡ true)
+one-family true b c d h = inl refl
+one-family false b true d h = inr refl
+one-family false b false d h = absurd (false≢true h)
+
+pub in-rule-family : (r : Record) → inRule r ≡ true → (familyOf r ≡ 4) ⊎ (familyOf r ≡ 6)
+unfolding inRule
+in-rule-family r e = go (one-family (eqb (familyOf r) 4) _ (eqb (familyOf r) 6) (lengthsWithin 128 r) e)
+  where
+    go : (eqb (familyOf r) 4 ≡ true) ⊎ (eqb (familyOf r) 6 ≡ true) → (familyOf r ≡ 4) ⊎ (familyOf r ≡ 6)
+    go (inl f) = inl (eqb-true (familyOf r) 4 f)
+    go (inr f) = inr (eqb-true (familyOf r) 6 f)

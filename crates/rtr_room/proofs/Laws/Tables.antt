@@ -2,9 +2,9 @@
 -- that record alone; and two tables with the same members are one. Each goes by the list, the order's laws saying where a record can
 -- stand: the first record is before all others, so no record stands twice. Assumes nothing.
 use Prim.Native.Nat.{ℕ, suc, _<_, _≤_}
-use mathlib.Core.Bool.{Bool, true, false, cond, not, _&&_, _||_, true≢false, false≢true}
+use mathlib.Core.Bool.{Bool, true, false, cond, not, _&&_, _||_, true≢false, false≢true, or-true}
 use mathlib.Core.List.{List, [], _∷_}
-use mathlib.Core.Logic.{_⊎_, inl, inr}
+use mathlib.Core.Logic.{_↔_, _⊎_, inl, inr}
 use mathlib.Core.Path.{_≡_, refl, sym, ap, _∙_, subst}
 use native.Mathlib.Omega.{arith}
 use borrow.Author.Tests.{leb-false, lt-leb}
@@ -55,6 +55,21 @@ first-once x t h = unless (isIn x t) (λ i. not-both _ (first-before x x t h i) 
 pub isIn-first : (x : Record) (t : List Record) → isIn x (x ∷ t) ≡ true
 unfolding isIn
 isIn-first x t = rw (same-is-equal x x .1 refl)
+
+pub isIn-later : (x y : Record) (t : List Record) → isIn y t ≡ true → isIn y (x ∷ t) ≡ true
+unfolding isIn
+isIn-later x y t i = rw (i, or-true (same x y))
+
+-- a table by its first record
+pub table-next : (r : Record) (t : List Record) → isTable (r ∷ t) ≡ true ↔ ((inRule r ≡ true) × (above r t ≡ true) × (isTable t ≡ true))
+unfolding allInRule ordered
+table-next r t = (
+  λ h.
+      let rules = first-of (inRule r && allInRule t) _ h in
+      let order = second-of (inRule r && allInRule t) _ h in
+      (first-of (inRule r) _ rules, first-of (above r t) _ order, both _ _ (second-of (inRule r) _ rules) (second-of (above r t) _ order)),
+  λ p. both _ _ (both _ _ (p .0) (first-of _ _ (p .2))) (both _ _ (p .1) (second-of (allInRule t) _ (p .2))),
+)
 
 -- entering
 above-insert : (y r : Record) (t : List Record) → before y r ≡ true → above y t ≡ true → above y (insert r t) ≡ true
@@ -195,6 +210,15 @@ left-is r t t′ e = go (isIn r t) refl e
     go true p e = (p, cc)
     go false p e = let z : _≡_ {A = ℕ} 0 1 = cc in absurd (omega arith)
 
+-- a record that is not in enters where there is room, and one that is in leaves
+pub enter-applies : (limit : ℕ) (r : Record) (t : List Record) → isIn r t ≡ false → length t < limit → enter limit r t ≡ changed (insert r t)
+unfolding enter
+enter-applies limit r t i h = rw (i, lt-leb limit (length t) h)
+
+pub leave-applies : (r : Record) (t : List Record) → isIn r t ≡ true → leave r t ≡ changed (remove r t)
+unfolding leave
+leave-applies r t i = rw i
+
 pub enter-keeps : (limit : ℕ) (r : Record) (t t′ : List Record) → isTable t ≡ true → inRule r ≡ true → enter limit r t ≡ changed t′ → (isTable t′ ≡ true) × (length t′ ≡ suc (length t)) × (length t′ ≤ limit)
 enter-keeps limit r t t′ h i e =
     let f : _ = entered-is limit r t t′ e in
@@ -252,6 +276,31 @@ tables-equal (x ∷ t) (y ∷ u) h k e = go (sides x y) (tables-equal t u (order
     go (before-it p) rest = absurd (true≢false (sym (isIn-first x t) ∙ e x ∙ not-below x y u p k))
     go (the-same p) rest = let q : t ≡ u = rest (λ z. behind p z (same x z) refl) in cc
     go (behind-it p) rest = absurd (true≢false (sym (isIn-first y u) ∙ sym (e y) ∙ not-below y x t p h))
+
+-- each of these is one of those
+abbrev pub Inside : List Record → List Record → Type 0
+Inside t u = (x : Record) → isIn x t ≡ true → isIn x u ≡ true
+
+-- they still are when another has left those
+still-inside : (r : Record) (t u : List Record) → ordered u ≡ true → Inside t u → isIn r t ≡ false → Inside t (remove r u)
+still-inside r t u k inside out x i = remove-membership r x u k ∙ go (same r x) refl
+  where
+    go : (b : Bool) → same r x ≡ b → (not b && isIn x u) ≡ true
+    go true e = absurd (not-both _ i (subst (λ (y : Record). isIn y t ≡ false) (same-is-equal r x .0 e) out))
+    go false e = inside x i
+
+pub inside-is-no-longer : (t u : List Record) → ordered t ≡ true → ordered u ≡ true → Inside t u → length t ≤ length u
+inside-is-no-longer [] u h k inside = omega arith
+inside-is-no-longer (x ∷ t) u h k inside =
+    let more : Inside t u = λ y i. inside y (isIn-later x y t i) in
+    let rest = inside-is-no-longer t (remove x u) (ordered-tail x t h) (leave-keeps-order x u k) (still-inside x t u k more (first-once x t h)) in
+    omega (arith, remove-length x u (inside x (isIn-first x t)))
+
+pub inside-is-shorter : (r : Record) (t u : List Record) → ordered t ≡ true → ordered u ≡ true → Inside t u
+    → isIn r t ≡ false → isIn r u ≡ true → length t < length u
+inside-is-shorter r t u h k inside out i =
+    let rest = inside-is-no-longer t (remove r u) h (leave-keeps-order r u k) (still-inside r t u k inside out) in
+    omega (arith, remove-length r u i)
 
 -- the smallest tables
 pub enter-first : (limit : ℕ) (r : Record) → 1 ≤ limit → enter limit r [] ≡ changed (r ∷ [])
