@@ -4,7 +4,7 @@
  * Every call takes every input and answers; nothing is allocated, and nothing is kept between calls but the memory that you lend. A call's answer is 0 or a refusal's number (below); where several
  * would fit, the first in the order that the call names is given. What is proved of calls one after another (the table is that of the last finished update, however the bytes were cut) is `c-history` of crates/rtr_c: it asks that
  * the same session, rooms and hold are lent each time, the hold with one length, and that nobody else writes them in between. A refused call changes nothing, but for the numbers that it answers with (written, taken, updates, level, end, value, compared, state), which are
- * then 0 unless the call says otherwise. A stop is no such refusal: it is the receiver's new state.
+ * then 0 unless the call says otherwise, and for the rooms of hingemoss_diff. A stop is no such refusal: it is the receiver's new state.
  *
  * What you owe: a slice is a pointer and a length in elements, one behind the other, and so many elements are there, readable, set to something, and writable where there is no const. A pointer is never NULL (not
  * of an empty slice either) and is aligned to its element. Memory that a call may write overlaps nothing else that is lent to the same call, and until the call returns nobody else (another thread, a signal's
@@ -43,6 +43,7 @@ extern "C" {
 #define HINGEMOSS_FULL_QUERY 8          /* bytes of a full ask's query */
 #define HINGEMOSS_CHANGE_QUERY 12       /* and of a change ask's */
 #define HINGEMOSS_LISTING_MOST 131200   /* no listing has more bytes: 128 for the head, 128 for each record */
+#define HINGEMOSS_DIFF_MOST 294976      /* no text of hingemoss_diff has more bytes: 144 for each change of two tables, and 64 */
 
 /* Refusal numbers and, behind the colon, their values in order. */
 enum hingemoss_refusal {
@@ -69,7 +70,8 @@ enum hingemoss_refusal {
     HINGEMOSS_REFUSED_WRONG_PHASE = 20,    /* an ask in a wrong phase */
     HINGEMOSS_REFUSED_NO_TABLE = 21,       /* a change asked for, or a route asked about, without a table */
     HINGEMOSS_REFUSED_NOT_A_RECEIVER = 22, /* lent memory is not of receiver shape, or numbers are no session's, no PDU's, not six of a route or not in sixes */
-    HINGEMOSS_REFUSED_ROUTE = 23           /* a route longer than its family allows, of no known family, or with IPv4 spares that are not 0 */
+    HINGEMOSS_REFUSED_ROUTE = 23,          /* a route longer than its family allows, of no known family, or with IPv4 spares that are not 0 */
+    HINGEMOSS_REFUSED_LISTING = 24         /* a text that is no listing: line. No call answers it: hingemoss_diff writes it into its text */
 };
 
 /* A session: the place of each of its HINGEMOSS_SESSION_NUMBERS numbers. */
@@ -229,6 +231,13 @@ uint8_t hingemoss_notify(const uint64_t *session, size_t session_len, const uint
 
 /* The stop and the table as lines of text. 22, which asks of the session, the live room and the table alone; 9, written is how many bytes are needed. 0: written is how many bytes. */
 uint8_t hingemoss_listing(const uint64_t *session, size_t session_len, const uint32_t *live, size_t live_len, uint8_t *out, size_t out_len, uint64_t *written);
+
+/* What changed from one listing to another, as bin/rtr-diff prints it: withdrawals in the old table's order, then announcements in the new table's, six lines each; nothing where nothing changed. A text
+ * that is no listing is told in the output, old text first: refused=24, file=old or file=new, line=N, the first line that does not fit or is missing; the answer is then 0 as well. In this order: 22, where a room is not
+ * HINGEMOSS_ROOM_NUMBERS numbers, and nothing changes; 9, written is how many bytes are needed, and the output stays. On 0 and on 9 each room holds its text's table; of a refused text it is all 0, and so is the new
+ * room where the old text is refused. 0: written is how many bytes. */
+uint8_t hingemoss_diff(const uint8_t *old_text, size_t old_text_len, const uint8_t *new_text, size_t new_text_len, uint32_t *old_room, size_t old_room_len,
+                       uint32_t *new_room, size_t new_room_len, uint8_t *out, size_t out_len, uint64_t *written);
 
 /* Whether a route is good (RFC 6811), by the live table in any phase; nothing but state is written. In this order: 22, also where route is not exactly HINGEMOSS_ROUTE_NUMBERS numbers; 21; 23: of no
  * known family, longer than 32 (IPv4) or 128 (IPv6), or an IPv4 route whose second to fourth address number is not 0. 0: state is enum hingemoss_state's. On 22, 21 and 23 it is 0. */

@@ -327,6 +327,30 @@ static void records_for_routes(void)
     }
 }
 
+/* What changed between two listings: the listing above beside one without a table, beside itself and beside what is none. */
+static void diffs(void)
+{
+    static const char none[] = "stopped=0\ncount=none\n", record[] = "family=4\naddress=c0000200\nlength=24\nmax=24\nasn=64496\n";
+    static const char announced[] = "change=announce\nfamily=4\naddress=c0000200\nlength=24\nmax=24\nasn=64496\n";
+    static const char withdrawn[] = "change=withdraw\nfamily=4\naddress=c0000200\nlength=24\nmax=24\nasn=64496\n";
+    static uint32_t old_room[HINGEMOSS_ROOM_NUMBERS], new_room[HINGEMOSS_ROOM_NUMBERS];
+    static uint8_t text[HINGEMOSS_DIFF_MOST];
+    uint64_t written;
+#define TEXT(s) (const uint8_t *)(s), strlen(s)
+#define ROOMS old_room, HINGEMOSS_ROOM_NUMBERS, new_room, HINGEMOSS_ROOM_NUMBERS
+#define SAYS(old, new, expected) (hingemoss_diff(TEXT(old), TEXT(new), ROOMS, text, sizeof text, &written) == HINGEMOSS_OK \
+    && written == strlen(expected) && memcmp(text, expected, strlen(expected)) == 0)
+    EXPECT(SAYS(none, listing, announced) && old_room[0] == 0 && new_room[HINGEMOSS_RECORD_ASN] == 64496);
+    EXPECT(SAYS(listing, none, withdrawn) && old_room[HINGEMOSS_RECORD_ADDRESS] == 0xc0000200u && new_room[HINGEMOSS_RECORD_ADDRESS] == 0);
+    EXPECT(hingemoss_diff(TEXT(listing), TEXT(listing), ROOMS, text, 0, &written) == HINGEMOSS_OK && written == 0);
+    EXPECT(hingemoss_diff(TEXT(none), TEXT(listing), ROOMS, text, 15, &written) == HINGEMOSS_REFUSED_OUTPUT_SHORT && written == sizeof record - 1 + 16);
+    EXPECT(HINGEMOSS_REFUSED_LISTING == 24);
+    EXPECT(SAYS("", listing, "refused=24\nfile=old\nline=1\n") && new_room[HINGEMOSS_RECORD_ASN] == 0);
+    EXPECT(SAYS(listing, listing + 1, "refused=24\nfile=new\nline=1\n") && old_room[HINGEMOSS_RECORD_ASN] == 64496 && new_room[HINGEMOSS_RECORD_ASN] == 0);
+    EXPECT(hingemoss_diff(TEXT(none), TEXT(listing), old_room, HINGEMOSS_ROOM_NUMBERS - 1, new_room, HINGEMOSS_ROOM_NUMBERS, text, sizeof text, &written) == HINGEMOSS_REFUSED_NOT_A_RECEIVER && written == 0);
+    EXPECT(old_room[HINGEMOSS_RECORD_ASN] == 64496);
+}
+
 int main(void)
 {
     codec();
@@ -337,6 +361,7 @@ int main(void)
     routes();
     lists();
     records_for_routes();
+    diffs();
     puts(bad ? "calls: not all as expected" : "calls: all as expected");
     return bad;
 }

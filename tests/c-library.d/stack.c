@@ -10,7 +10,7 @@ enum { RECORDS = 1000, STACK = 1 << 16, PAINT = 0xa7 };
 
 static uint64_t session[HINGEMOSS_SESSION_NUMBERS], pdu[HINGEMOSS_PDU_NUMBERS], number, other, third;
 static uint32_t live[HINGEMOSS_ROOM_NUMBERS], working[HINGEMOSS_ROOM_NUMBERS];
-static uint8_t hold[8192], query[HINGEMOSS_CHANGE_QUERY], answer[8 + 20 * RECORDS + 24], nest[8 + 17 * 16], out[1 << 17], stack[STACK], said;
+static uint8_t hold[8192], query[HINGEMOSS_CHANGE_QUERY], answer[8 + 20 * RECORDS + 24], nest[8 + 17 * 16], out[1 << 17], text[HINGEMOSS_DIFF_MOST], stack[STACK], said;
 static const uint32_t route[HINGEMOSS_ROUTE_NUMBERS] = { 6u * 65536 + 128, 0x20010db8, 1, 2, 3, 64496 };
 static const uint32_t routes[] = { 6u * 65536 + 128, 0x20010db8, 1, 2, 3, 64496, 4u * 65536 + 24, 256, 0, 0, 0, 64496, 4u * 65536 + 33, 0, 0, 0, 0, 1 };
 static ucontext_t here, there;
@@ -30,6 +30,8 @@ static void read_one(void) { said = hingemoss_read(nest, sizeof nest, pdu, HINGE
 static void encode(void) { said = hingemoss_encode(pdu, HINGEMOSS_PDU_NUMBERS, nest, sizeof nest, out, sizeof out, &number); }
 static void validate(void) { said = hingemoss_validate(MEMORY, route, HINGEMOSS_ROUTE_NUMBERS, &number); }
 static void validate_all(void) { said = hingemoss_validate_all(MEMORY, routes, sizeof routes / sizeof routes[0], out, sizeof out, &number); }
+static const char none[] = "stopped=0\ncount=none\n";
+static void diff(void) { said = hingemoss_diff((const uint8_t *)none, sizeof none - 1, out, number, live, HINGEMOSS_ROOM_NUMBERS, working, HINGEMOSS_ROOM_NUMBERS, text, sizeof text, &other); }
 static void value(void) { number = hingemoss_read_value(nest, 3, 1), said = 0; }
 
 static void run(void) { job(); }
@@ -59,7 +61,8 @@ static uint8_t *header(uint8_t *at, uint32_t type, uint32_t field, uint32_t leng
 int main(void)
 {
     static const struct { const char *name; void (*call)(void); } calls[] = { { "start", start }, { "full_ask", full_ask }, { "feed", feed }, { "change_ask", change_ask }, { "notify", notify }, { "reconnect", reconnect },
-        { "listing", listing }, { "validate", validate }, { "validate_all", validate_all }, { "walk", walk }, { "read", read_one }, { "encode", encode }, { "read_value", value } };
+        { "listing", listing }, { "validate", validate }, { "validate_all", validate_all }, { "walk", walk }, { "read", read_one }, { "encode", encode }, { "read_value", value },
+        { "listing", listing }, { "diff", diff } }; /* the diff is of the listing before it, and takes the rooms */
     uint8_t *at = header(answer, 3, 7, 8);
     for (uint32_t i = 0; i < RECORDS; i++) /* far from table order */
         at = put(put(put(header(at, 4, 0, 20), 1u << 24 | 24 << 16 | 24 << 8), (i * 617 % RECORDS) << 8), 64496);

@@ -1,6 +1,6 @@
--- Read, encode, listing, validate and validate_all by their answer: for each number that the call returns, when it does so and what it leaves. proofs/Answers.antt (of
--- validate_all proofs/PeerAnswers.antt) has that each call is one of these, whatever it is lent.
-use Prim.Native.Nat.{ℕ, _%_, _≤_, _<_}
+-- Read, encode, listing, diff, validate and validate_all by their answer: for each number that the call returns, when it does so and what it leaves. proofs/Answers.antt (of
+-- validate_all proofs/PeerAnswers.antt, of diff proofs/DiffAnswers.antt) has that each call is one of these, whatever it is lent.
+use Prim.Native.Nat.{ℕ, _*_, _%_, _≤_, _<_}
 use mathlib.Core.Bool.{true, false}
 use mathlib.Core.List.{List, _++_}
 use mathlib.Core.Path.{_≡_}
@@ -13,7 +13,7 @@ use Rattle.rtr_listing.specs.Listing as lines
 use Rattle.rtr_listing.specs.Promises.{ListReason}
 use Rattle.rtr_receiver.specs.Contents.{contents}
 use Rattle.rtr_receiver.specs.History.{hasTable}
-use Rattle.rtr_receiver.specs.Promises.{Reason}
+use Rattle.rtr_receiver.specs.Promises.{Reason, recordLimit}
 use Rattle.rtr_receiver.specs.declared.LiveTable.{LiveTable}
 use Rattle.rtr_receiver.specs.declared.Session.{Session}
 use Rattle.rtr_numbers.specs.Back.{sessionOf}
@@ -28,7 +28,10 @@ use Rattle.rtr_origin.specs.Peer.{statesOf, routeCount}
 use Rattle.rtr_origin.specs.declared.Route.{Route}
 use Rattle.rtr_origin.specs.declared.RouteFound.{RouteFound}
 use Rattle.rtr_origin.specs.declared.RouteState.{RouteState}
-use Rattle.rtr_c.specs.Calls.{ReadLeft, readGives, EncodeLeft, encodeGives, ValidateLeft, validateGives}
+use Rattle.rtr_listed.specs.Listed.{readListing}
+use Rattle.rtr_listed.specs.Promises.{readAs}
+use Rattle.rtr_diffs.specs.Diffs.{newRoomBy, diffText}
+use Rattle.rtr_c.specs.Calls.{ReadLeft, readGives, EncodeLeft, encodeGives, DiffCLeft, diffGives, ValidateLeft, validateGives}
 
 -- read: 9 where not 12 numbers are lent; 0 and the PDU's numbers; or the read's refusal, 1 to 8, and the numbers as they were
 pub data ReadAnswers (bytes numbers : List ℕ) : ReadLeft → Type 0 where
@@ -177,3 +180,19 @@ pub data ValidateAllAnswers (session live working hold routes states : List ℕ)
       routeCount routes ≤ length states →
       ValidateAllAnswers session live working hold routes states
       (encodeGives 0 (routeCount routes) (statesOf (validateSays (s .life .limit) s live working hold) routes ++ drop (routeCount routes) states))
+
+-- diff: 22 where a room has not its size, and nothing changes; 9 and the bytes needed; or 0, the bytes written and the text, with the bytes behind it as they were. Each room is as reading its file
+-- leaves it
+pub data DiffAnswers (old new oldRoom newRoom out : List ℕ) : DiffCLeft → Type 0 where
+  offSize : ((length oldRoom ≡ 6 * recordLimit) × (length newRoom ≡ 6 * recordLimit) → ⊥) → DiffAnswers old new oldRoom newRoom out (diffGives 22 0 oldRoom newRoom out)
+  short : length oldRoom ≡ 6 * recordLimit →
+      length newRoom ≡ 6 * recordLimit →
+      length out < length (diffText recordLimit old new) →
+      DiffAnswers old new oldRoom newRoom out
+      (diffGives 9 (length (diffText recordLimit old new)) (readAs recordLimit (readListing recordLimit old) .room) (newRoomBy recordLimit (readListing recordLimit old) (readListing recordLimit new)) out)
+  whole : length oldRoom ≡ 6 * recordLimit →
+      length newRoom ≡ 6 * recordLimit →
+      length (diffText recordLimit old new) ≤ length out →
+      DiffAnswers old new oldRoom newRoom out
+      (diffGives 0 (length (diffText recordLimit old new)) (readAs recordLimit (readListing recordLimit old) .room) (newRoomBy recordLimit (readListing recordLimit old) (readListing recordLimit new))
+      (diffText recordLimit old new ++ drop (length (diffText recordLimit old new)) out))

@@ -12,6 +12,7 @@ use Rattle.rtr_codec.specs.Read.{Verdict, read}
 use Rattle.rtr_encode.specs.Encode.{Writing, Encoded, encode}
 use Rattle.rtr_encode.specs.Answers.{numberOf}
 use Rattle.rtr_listing.specs.Promises.{listingSays}
+use Rattle.rtr_diffs.specs.Diffs.{DiffLeft, diffSays}
 use Rattle.rtr_walk.specs.Walk.{End, WalkVerdict, walk}
 use Rattle.rtr_receiver.specs.Receiver.{Notified}
 use Rattle.rtr_receiver.specs.History.{hasTable}
@@ -298,6 +299,24 @@ listingFound SessionFound.Unknown live out = encodeGives 22 0 out
 -- the promise of `hingemoss_listing`
 unfoldable pub listingC : List ℕ → List ℕ → List ℕ → EncodeLeft
 listingC session live out = listingFound (sessionOf session) live out
+
+-- ---- diff: 0 (a refused file is told in the text), 22 or 9; the bytes written, or needed (9), or 0; the output; and both rooms
+pub record DiffCLeft : Type 0 where
+  pub encoded : EncodeLeft
+  pub oldRoom : List ℕ
+  pub newRoom : List ℕ
+
+-- what the answer and the memory that it leaves say
+abbrev pub diffGives : ℕ → ℕ → List ℕ → List ℕ → List ℕ → DiffCLeft
+diffGives answer written oldRoom newRoom out = record { encoded = encodeGives answer written out; oldRoom = oldRoom; newRoom = newRoom }
+
+-- what comparing two listings says and leaves
+abbrev pub diffLeftC : DiffLeft → DiffCLeft
+diffLeftC d = record { encoded = encodeLeft (d .out); oldRoom = d .oldRoom; newRoom = d .newRoom }
+
+-- the promise of `hingemoss_diff`
+unfoldable pub diffC : List ℕ → List ℕ → List ℕ → List ℕ → List ℕ → DiffCLeft
+diffC old new oldRoom newRoom out = diffLeftC (diffSays recordLimit old new oldRoom newRoom out)
 
 -- ---- validate: 0 and the number of the route's state by the live table; or 22, 21 or 23, and 0
 pub record ValidateLeft : Type 0 where

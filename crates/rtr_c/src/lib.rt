@@ -34,7 +34,7 @@ ghost use Rattle.rtr_receiver.specs.declared.LoadKind.{LoadKind};
 ghost use Rattle.rtr_numbers.specs.Numbers.{valueOf};
 ghost use Rattle.rtr_origin.specs.Peer.{peerSaid};
 ghost use Rattle.rtr_walk.specs.Walk.{endSaid};
-ghost use Rattle.rtr_c.specs.Calls.{isSession, amountOf, endNumber, endValue, readGives, readC, encodeGives, encodeC, walkGives, walkC, startGives, startC, askGives, fullAskC, changeAskC, feedGives, feedC, reconnectGives, reconnectC, notifyGives, notifyC, listingC, validateGives, validateC, validateAllC};
+ghost use Rattle.rtr_c.specs.Calls.{isSession, amountOf, endNumber, endValue, readGives, readC, encodeGives, encodeC, walkGives, walkC, startGives, startC, askGives, fullAskC, changeAskC, feedGives, feedC, reconnectGives, reconnectC, notifyGives, notifyC, listingC, diffGives, diffC, validateGives, validateC, validateAllC};
 ghost use Rattle.rtr_c.specs.Private.{feedNumber, notifyNumber, notifyCompared, validateNumber, validateState, askedRoute};
 ghost use Rattle.rtr_c.specs.Runs.{memory, LeadsOn, Begins};
 
@@ -500,6 +500,23 @@ pub extern "C" fn hingemoss_listing(
             22
         }
     }
+}
+
+// What changed from one listing to another, as rtr-diff prints it: 0 and the text, which tells a refused file too; or 22 or 9.
+#[no_mangle]
+pub extern "C" fn hingemoss_diff(
+    old_text: &[u8],
+    new_text: &[u8],
+    old_room: &mut [u32],
+    new_room: &mut [u32],
+    out: &mut [u8],
+    written: &mut u64,
+) -> u8
+    ensures { λ r. ⌜ diffGives r (now (written .exit)) (now («old_room» .exit)) (now («new_room» .exit)) (now (out .exit)) ≡ diffC (now («old_text» .entry)) (now («new_text» .entry)) (now («old_room» .entry)) (now («new_room» .entry)) (now (out .entry)) ⌝ }
+{
+    let answer = rtr_diffs::diff(old_text, new_text, old_room, new_room, out);
+    *written = list_amount(answer);
+    list_number(answer)
 }
 
 // Whether a route is good (RFC 6811) by the live table: 0 and its state, or the refusal.

@@ -1,0 +1,2 @@
+-- `Changes` is the page to believe.
+pub mod Changes

@@ -1,0 +1,2 @@
+-- What is handed over to be written.
+pub mod Printing

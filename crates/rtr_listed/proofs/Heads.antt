@@ -1,0 +1,81 @@
+-- The lines before the records, one behind another: the stop, then either the line of no table or five numbers and the count. Assumes nothing.
+use Prim.Native.Nat.{ℕ, suc, _+_, _≤_}
+use mathlib.Core.Bool.{Bool, true, false, cond, true≢false, false≢true}
+use mathlib.Core.List.{List, [], _∷_}
+use mathlib.Core.Path.{_≡_, refl, sym, ap, _∙_}
+use native.Mathlib.Omega.{arith}
+use lib.ListN.{length}
+use Rattle.rtr_listing.specs.Listing.{text, tableFields, tableNumbers}
+use Rattle.rtr_receiver.specs.declared.LiveTable.{LiveTable}
+use Rattle.rtr_receiver.specs.declared.Table.{Table}
+use Rattle.rtr_listed.specs.Listed.{Line, Fit, Place, Read, fitting, sameText, named, numberIn, countWidths, countIn, mayStop, tableOf, withoutTable, nextRecord, onLine, orMisfit, readFrom, readListing}
+use Rattle.rtr_listed.specs.Listed.Fit.{fits, misfits}
+use Rattle.rtr_listed.specs.Listed.Read.{misfit}
+use Rattle.rtr_listed.specs.Private.{lineGives, behind, linesAt, standsAt, refusedAt, Took}
+use Rattle.rtr_listed.specs.Private.Took.{took, missed}
+use Rattle.rtr_listed.specs.declared.Cursor.{Cursor}
+use Rattle.rtr_listed.proofs.Numbers.{fitting-fits, fitting-misfits}
+use Rattle.rtr_listed.proofs.Cursors.{took-stands}
+
+abbrev pub start : Cursor
+start = record { at = 0; line = 1; fits = true }
+
+-- the line of no table
+abbrev pub noneReads : List ℕ → Fit ℕ
+noneReads b = fitting (sameText b (text "count=none")) 0
+
+pub begins : (limit : ℕ) (s : List ℕ) → readListing limit s ≡ standsAt limit s Place.stopDue start
+unfolding standsAt
+begins limit s = refl
+
+pub stop-stands : (limit : ℕ) (s : List ℕ) (c : Cursor) (n : ℕ) (c′ : Cursor) → Took (named (text "stopped=") (numberIn mayStop)) s c n c′ → standsAt limit s Place.stopDue c ≡ standsAt limit s (Place.secondDue n) c′
+stop-stands limit s = took-stands (named (text "stopped=") (numberIn mayStop)) Place.secondDue limit Place.stopDue (λ b. refl) (λ n. refl) s
+
+pub count-stands : (limit stopped : ℕ) (t : Table) (s : List ℕ) (c : Cursor) (n : ℕ) (c′ : Cursor) → Took (named (text "count=") (countIn countWidths limit)) s c n c′
+    → standsAt limit s (Place.numbersDue stopped (tableNumbers t) []) c ≡ standsAt limit s (nextRecord (record { stopped = stopped; table = LiveTable.Known t; count = n }) []) c′
+count-stands limit stopped t s =
+    took-stands (named (text "count=") (countIn countWidths limit)) (λ n. nextRecord (record { stopped = stopped; table = LiveTable.Known t; count = n }) []) limit (Place.numbersDue stopped (tableNumbers t) []) (λ b. refl) (λ n. refl) s
+
+module _ (limit stopped : ℕ) where
+  second-on : (ls : List Line) (n : ℕ) → lineGives noneReads ls ≡ fits 0 → readFrom countWidths limit (Place.secondDue stopped) n ls ≡ readFrom countWidths limit (Place.endDue (withoutTable stopped) []) (suc n) (behind ls)
+  unfolding readFrom
+  second-on [] n e = let z : _≡_ {A = ℕ} 0 1 = cc in absurd (omega arith)
+  second-on (l ∷ ls) n e = go (l .ended) (sameText (l .bytes) (text "count=none")) e
+    where
+      go : (a b : Bool) → cond a (fitting {A = ℕ} b 0) misfits ≡ fits 0 →
+          orMisfit n (cond a (cond b (fits (Place.endDue (withoutTable stopped) [])) (onLine countWidths limit (Place.numbersDue stopped [] tableFields) (l .bytes))) misfits) (λ next. readFrom countWidths limit next (suc n) ls)
+          ≡ readFrom countWidths limit (Place.endDue (withoutTable stopped) []) (suc n) ls
+      go true true k = refl
+      go true false k = let z : _≡_ {A = ℕ} 0 1 = cc in absurd (omega arith)
+      go false b k = let z : _≡_ {A = ℕ} 0 1 = cc in absurd (omega arith)
+
+  pub second-off : (ls : List Line) (n : ℕ) → lineGives noneReads ls ≡ misfits → readFrom countWidths limit (Place.secondDue stopped) n ls ≡ readFrom countWidths limit (Place.numbersDue stopped [] tableFields) n ls
+  unfolding readFrom
+  second-off [] n e = refl
+  second-off (l ∷ ls) n e = go (l .ended) (sameText (l .bytes) (text "count=none")) e
+    where
+      go : (a b : Bool) → cond a (fitting {A = ℕ} b 0) misfits ≡ misfits →
+          orMisfit n (cond a (cond b (fits (Place.endDue (withoutTable stopped) [])) (onLine countWidths limit (Place.numbersDue stopped [] tableFields) (l .bytes))) misfits) (λ next. readFrom countWidths limit next (suc n) ls)
+          ≡ orMisfit n (cond a (onLine countWidths limit (Place.numbersDue stopped [] tableFields) (l .bytes)) misfits) (λ next. readFrom countWidths limit next (suc n) ls)
+      go true true k = let z : _≡_ {A = ℕ} 0 1 = cc in absurd (omega arith)
+      go true false k = refl
+      go false b k = refl
+
+  pub second-none : (s : List ℕ) (c c′ : Cursor) → Took noneReads s c 0 c′ → c′ .fits ≡ true → standsAt limit s (Place.secondDue stopped) c ≡ standsAt limit s (nextRecord (withoutTable stopped) []) c′
+  unfolding standsAt
+  second-none s c c′ (took f g t nf nl) h =
+      ap (λ (x : Bool). cond x (readFrom countWidths limit (Place.secondDue stopped) (c .line) (linesAt s c)) (misfit (c .line))) f
+      ∙ second-on (linesAt s c) (c .line) g
+      ∙ (λ i. readFrom countWidths limit (Place.endDue (withoutTable stopped) []) (sym nl i) (t i))
+      ∙ sym (ap (λ (x : Bool). cond x (readFrom countWidths limit (Place.endDue (withoutTable stopped) []) (c′ .line) (linesAt s c′)) (misfit (c′ .line))) nf)
+  second-none s c c′ (missed m e) h = absurd (false≢true (sym (ap (λ (x : Cursor). x .fits) e) ∙ h))
+
+  pub second-table : (s : List ℕ) (c c′ : Cursor) → Took noneReads s c 0 c′ → c′ .fits ≡ false → standsAt limit s (Place.secondDue stopped) c ≡ standsAt limit s (Place.numbersDue stopped [] tableFields) c
+  unfolding standsAt
+  second-table s c c′ (took f g t nf nl) h = absurd (true≢false (sym nf ∙ h))
+  second-table s c c′ (missed m e) h = go (c .fits) m
+    where
+      go : (b : Bool) → (b ≡ true → lineGives noneReads (linesAt s c) ≡ misfits) →
+          cond b (readFrom countWidths limit (Place.secondDue stopped) (c .line) (linesAt s c)) (misfit (c .line)) ≡ cond b (readFrom countWidths limit (Place.numbersDue stopped [] tableFields) (c .line) (linesAt s c)) (misfit (c .line))
+      go true k = second-off (linesAt s c) (c .line) (k refl)
+      go false k = refl

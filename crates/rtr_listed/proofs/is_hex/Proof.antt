@@ -1,0 +1,28 @@
+-- `is_hex`: each test decides one of the ranges. Assumes nothing.
+use Prim.Native.Nat.{ℕ, suc, _+_, _-_, _*_, _≤_, _<_}
+use mathlib.Core.Bool.{Bool, true, false, cond, _&&_, _||_}
+use mathlib.Core.List.{List, [], _∷_, _++_}
+use mathlib.Core.Path.{_≡_, refl, sym, ap, _∙_}
+use native.Mathlib.Numerals.{add-one}
+use native.Mathlib.Omega.{arith}
+use borrow.Author.Tests.{lt-ltb, le-ltb, lt-leb, le-leb, eq-eqb, ne-eqb}
+use denote.Ref.{now}
+use lib.Dec.{leb, eqb}
+use lib.ListN.{length, getD, take, drop}
+use Rattle.rtr_listed.proofs.is_hex.Statement.{statement}
+use Rattle.rtr_listed.proofs.is_hex.Tie as tie
+
+returns : tie.Need-returns
+returns c = let n = c .before .args .c in sym (simp (lt-leb 48 n (omega arith), lt-leb 97 n (omega arith)))
+
+returns-2 : tie.Need-returns-2
+returns-2 c = let n = c .before .before .args .c in sym (simp (le-leb 48 n (omega arith), le-leb n 57 (omega arith)))
+
+returns-3 : tie.Need-returns-3
+returns-3 c = let n = c .before .before .before .args .c in sym (simp (le-leb 48 n (omega arith), lt-leb n 57 (omega arith), lt-leb 97 n (omega arith)))
+
+returns-4 : tie.Need-returns-4
+returns-4 c = let n = c .before .before .before .args .c in sym (simp (le-leb 48 n (omega arith), lt-leb n 57 (omega arith), le-leb 97 n (omega arith)))
+
+pub is-hex-spec : {M : Type 1} → statement M
+is-hex-spec = tie.close (tie.spec returns returns-2 returns-3 returns-4)
