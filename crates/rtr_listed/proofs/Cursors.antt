@@ -12,7 +12,7 @@ use Rattle.rtr_listing.specs.Listing.{Field}
 use Rattle.rtr_listed.specs.Listed.{Line, Fit, Place, Read, fitting, leading, sameText, named, numberIn, addressIn, wordsIn, countWidths, onLine, atEnd, orMisfit, fitLine, readFrom}
 use Rattle.rtr_listed.specs.Listed.Fit.{fits, misfits}
 use Rattle.rtr_listed.specs.Listed.Read.{misfit}
-use Rattle.rtr_listed.specs.Private.{numberSaid, lineGives, behind, linesAt, standsAt, refusedAt, pastEnd, Near, Took, NumberTook, numberTook, narrowed, between, ValueAt, ValueIs}
+use Rattle.rtr_listed.specs.Private.{numberSaid, lineGives, behind, linesAt, readOn, refusedAt, pastEnd, Near, Took, NumberTook, numberTook, narrowed, between, ValueAt, ValueIs}
 use Rattle.rtr_listed.specs.Private.Took.{took, missed}
 use Rattle.rtr_listed.specs.declared.Cursor.{Cursor}
 use Rattle.rtr_listed.specs.declared.Number.{Number}
@@ -135,6 +135,18 @@ module _ (s : List ℕ) (c : Cursor) (name : List ℕ) (most : ℕ) (q : ℕ →
 
 -- ---- what reading comes to
 
+-- ---- what reading comes to from a cursor on
+
+-- where the lines before it fitted, what the lines there come to
+pub read-on : (limit : ℕ) (s : List ℕ) (place : Place) (c : Cursor) → c .fits ≡ true → readOn limit s place c ≡ readFrom countWidths limit place (c .line) (linesAt s c)
+unfolding readOn
+read-on limit s place c e = ap (λ (b : Bool). cond b (readFrom countWidths limit place (c .line) (linesAt s c)) (misfit (c .line))) e
+
+-- a cursor that stays at a line is a misfit there
+pub read-off : (limit : ℕ) (s : List ℕ) (place : Place) (c : Cursor) → c .fits ≡ false → readOn limit s place c ≡ misfit (c .line)
+unfolding readOn
+read-off limit s place c e = ap (λ (b : Bool). cond b (readFrom countWidths limit place (c .line) (linesAt s c)) (misfit (c .line))) e
+
 module _ {A : Type 0} (reads : List ℕ → Fit A) (next : A → Place) (limit : ℕ) (place : Place) (due : (b : List ℕ) → onLine countWidths limit place b ≡ leading next (reads b)) (open′ : (n : ℕ) → atEnd place n ≡ misfit n) where
   line-leads : (l : Line) (b : Bool) → l .ended ≡ b → fitLine countWidths limit place l ≡ leading next (cond b (reads (l .bytes)) misfits)
   line-leads l true e = ap (λ (x : Bool). cond x (onLine countWidths limit place (l .bytes)) misfits) e ∙ due (l .bytes)
@@ -150,22 +162,17 @@ module _ {A : Type 0} (reads : List ℕ → Fit A) (next : A → Place) (limit :
   reads-off [] n e = open′ n
   reads-off (l ∷ ls) n e = ap (λ (x : Fit Place). orMisfit n x (λ p. readFrom countWidths limit p (suc n) ls)) (line-leads l (l .ended) refl ∙ ap (leading next) e)
 
-  pub took-stands : (s : List ℕ) (c : Cursor) (a : A) (c′ : Cursor) → Took reads s c a c′ → standsAt limit s place c ≡ standsAt limit s (next a) c′
-  unfolding standsAt
-  took-stands s c a c′ (took f g t nf nl) =
-      ap (λ (x : Bool). cond x (readFrom countWidths limit place (c .line) (linesAt s c)) (misfit (c .line))) f
-      ∙ reads-on (linesAt s c) (c .line) a g
-      ∙ (λ i. readFrom countWidths limit (next a) (sym nl i) (t i))
-      ∙ sym (ap (λ (x : Bool). cond x (readFrom countWidths limit (next a) (c′ .line) (linesAt s c′)) (misfit (c′ .line))) nf)
-  took-stands s c a c′ (missed m e) = go (c .fits) m ∙ sym (ap (λ (x : Cursor). standsAt limit s (next a) x) e)
+  pub took-stands : (s : List ℕ) (c : Cursor) (a : A) (c′ : Cursor) → Took reads s c a c′ → readOn limit s place c ≡ readOn limit s (next a) c′
+  took-stands s c a c′ (took f g t nf nl) = read-on limit s place c f ∙ reads-on (linesAt s c) (c .line) a g ∙ (λ i. readFrom countWidths limit (next a) (sym nl i) (t i)) ∙ sym (read-on limit s (next a) c′ nf)
+  took-stands s c a c′ (missed m e) = go (c .fits) refl ∙ sym (ap (λ (x : Cursor). readOn limit s (next a) x) e ∙ read-off limit s (next a) (refusedAt c) refl)
     where
-      go : (b : Bool) → (b ≡ true → lineGives reads (linesAt s c) ≡ misfits) → cond b (readFrom countWidths limit place (c .line) (linesAt s c)) (misfit (c .line)) ≡ misfit (c .line)
-      go true h = reads-off (linesAt s c) (c .line) (h refl)
-      go false h = refl
+      go : (b : Bool) → c .fits ≡ b → readOn limit s place c ≡ misfit (c .line)
+      go true f = read-on limit s place c f ∙ reads-off (linesAt s c) (c .line) (m f)
+      go false f = read-off limit s place c f
 
 -- one of the table's numbers
 pub field-stands : (limit stopped : ℕ) (ns : List ℕ) (f : Field) (fs : List Field) (s : List ℕ) (c : Cursor) (n : ℕ) (c′ : Cursor) → Took (named (f .name) (numberIn (λ k. leb k (f .most)))) s c n c′
-    → standsAt limit s (Place.numbersDue stopped ns (f ∷ fs)) c ≡ standsAt limit s (Place.numbersDue stopped (ns ++ n ∷ []) fs) c′
+    → readOn limit s (Place.numbersDue stopped ns (f ∷ fs)) c ≡ readOn limit s (Place.numbersDue stopped (ns ++ n ∷ []) fs) c′
 field-stands limit stopped ns f fs s c n c′ t =
     took-stands (named (f .name) (numberIn (λ k. leb k (f .most)))) (λ k. Place.numbersDue stopped (ns ++ k ∷ []) fs) limit (Place.numbersDue stopped ns (f ∷ fs)) (λ b. refl) (λ k. refl) s c n c′ t
 

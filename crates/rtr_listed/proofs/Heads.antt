@@ -11,11 +11,11 @@ use Rattle.rtr_receiver.specs.declared.Table.{Table}
 use Rattle.rtr_listed.specs.Listed.{Line, Fit, Place, Read, fitting, sameText, named, numberIn, countWidths, countIn, mayStop, tableOf, withoutTable, nextRecord, onLine, orMisfit, readFrom, readListing}
 use Rattle.rtr_listed.specs.Listed.Fit.{fits, misfits}
 use Rattle.rtr_listed.specs.Listed.Read.{misfit}
-use Rattle.rtr_listed.specs.Private.{lineGives, behind, linesAt, standsAt, refusedAt, Took}
+use Rattle.rtr_listed.specs.Private.{lineGives, behind, linesAt, readOn, refusedAt, Took}
 use Rattle.rtr_listed.specs.Private.Took.{took, missed}
 use Rattle.rtr_listed.specs.declared.Cursor.{Cursor}
 use Rattle.rtr_listed.proofs.Numbers.{fitting-fits, fitting-misfits}
-use Rattle.rtr_listed.proofs.Cursors.{took-stands}
+use Rattle.rtr_listed.proofs.Cursors.{read-on, read-off, took-stands}
 
 abbrev pub start : Cursor
 start = record { at = 0; line = 1; fits = true }
@@ -24,15 +24,14 @@ start = record { at = 0; line = 1; fits = true }
 abbrev pub noneReads : List ℕ → Fit ℕ
 noneReads b = fitting (sameText b (text "count=none")) 0
 
-pub begins : (limit : ℕ) (s : List ℕ) → readListing limit s ≡ standsAt limit s Place.stopDue start
-unfolding standsAt
-begins limit s = refl
+pub begins : (limit : ℕ) (s : List ℕ) → readListing limit s ≡ readOn limit s Place.stopDue start
+begins limit s = sym (read-on limit s Place.stopDue start refl)
 
-pub stop-stands : (limit : ℕ) (s : List ℕ) (c : Cursor) (n : ℕ) (c′ : Cursor) → Took (named (text "stopped=") (numberIn mayStop)) s c n c′ → standsAt limit s Place.stopDue c ≡ standsAt limit s (Place.secondDue n) c′
+pub stop-stands : (limit : ℕ) (s : List ℕ) (c : Cursor) (n : ℕ) (c′ : Cursor) → Took (named (text "stopped=") (numberIn mayStop)) s c n c′ → readOn limit s Place.stopDue c ≡ readOn limit s (Place.secondDue n) c′
 stop-stands limit s = took-stands (named (text "stopped=") (numberIn mayStop)) Place.secondDue limit Place.stopDue (λ b. refl) (λ n. refl) s
 
 pub count-stands : (limit stopped : ℕ) (t : Table) (s : List ℕ) (c : Cursor) (n : ℕ) (c′ : Cursor) → Took (named (text "count=") (countIn countWidths limit)) s c n c′
-    → standsAt limit s (Place.numbersDue stopped (tableNumbers t) []) c ≡ standsAt limit s (nextRecord (record { stopped = stopped; table = LiveTable.Known t; count = n }) []) c′
+    → readOn limit s (Place.numbersDue stopped (tableNumbers t) []) c ≡ readOn limit s (nextRecord (record { stopped = stopped; table = LiveTable.Known t; count = n }) []) c′
 count-stands limit stopped t s =
     took-stands (named (text "count=") (countIn countWidths limit)) (λ n. nextRecord (record { stopped = stopped; table = LiveTable.Known t; count = n }) []) limit (Place.numbersDue stopped (tableNumbers t) []) (λ b. refl) (λ n. refl) s
 
@@ -61,21 +60,18 @@ module _ (limit stopped : ℕ) where
       go true false k = refl
       go false b k = refl
 
-  pub second-none : (s : List ℕ) (c c′ : Cursor) → Took noneReads s c 0 c′ → c′ .fits ≡ true → standsAt limit s (Place.secondDue stopped) c ≡ standsAt limit s (nextRecord (withoutTable stopped) []) c′
-  unfolding standsAt
+  pub second-none : (s : List ℕ) (c c′ : Cursor) → Took noneReads s c 0 c′ → c′ .fits ≡ true → readOn limit s (Place.secondDue stopped) c ≡ readOn limit s (nextRecord (withoutTable stopped) []) c′
   second-none s c c′ (took f g t nf nl) h =
-      ap (λ (x : Bool). cond x (readFrom countWidths limit (Place.secondDue stopped) (c .line) (linesAt s c)) (misfit (c .line))) f
+      read-on limit s (Place.secondDue stopped) c f
       ∙ second-on (linesAt s c) (c .line) g
       ∙ (λ i. readFrom countWidths limit (Place.endDue (withoutTable stopped) []) (sym nl i) (t i))
-      ∙ sym (ap (λ (x : Bool). cond x (readFrom countWidths limit (Place.endDue (withoutTable stopped) []) (c′ .line) (linesAt s c′)) (misfit (c′ .line))) nf)
+      ∙ sym (read-on limit s (Place.endDue (withoutTable stopped) []) c′ nf)
   second-none s c c′ (missed m e) h = absurd (false≢true (sym (ap (λ (x : Cursor). x .fits) e) ∙ h))
 
-  pub second-table : (s : List ℕ) (c c′ : Cursor) → Took noneReads s c 0 c′ → c′ .fits ≡ false → standsAt limit s (Place.secondDue stopped) c ≡ standsAt limit s (Place.numbersDue stopped [] tableFields) c
-  unfolding standsAt
+  pub second-table : (s : List ℕ) (c c′ : Cursor) → Took noneReads s c 0 c′ → c′ .fits ≡ false → readOn limit s (Place.secondDue stopped) c ≡ readOn limit s (Place.numbersDue stopped [] tableFields) c
   second-table s c c′ (took f g t nf nl) h = absurd (true≢false (sym nf ∙ h))
-  second-table s c c′ (missed m e) h = go (c .fits) m
+  second-table s c c′ (missed m e) h = go (c .fits) refl
     where
-      go : (b : Bool) → (b ≡ true → lineGives noneReads (linesAt s c) ≡ misfits) →
-          cond b (readFrom countWidths limit (Place.secondDue stopped) (c .line) (linesAt s c)) (misfit (c .line)) ≡ cond b (readFrom countWidths limit (Place.numbersDue stopped [] tableFields) (c .line) (linesAt s c)) (misfit (c .line))
-      go true k = second-off (linesAt s c) (c .line) (k refl)
-      go false k = refl
+      go : (b : Bool) → c .fits ≡ b → readOn limit s (Place.secondDue stopped) c ≡ readOn limit s (Place.numbersDue stopped [] tableFields) c
+      go true f = read-on limit s (Place.secondDue stopped) c f ∙ second-off (linesAt s c) (c .line) (m f) ∙ sym (read-on limit s (Place.numbersDue stopped [] tableFields) c f)
+      go false f = read-off limit s (Place.secondDue stopped) c f ∙ sym (read-off limit s (Place.numbersDue stopped [] tableFields) c f)

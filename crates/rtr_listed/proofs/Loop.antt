@@ -11,12 +11,12 @@ use Rattle.rtr_room.specs.Room.{records, isRoom, entered}
 use Rattle.rtr_room.specs.declared.Record.{Record}
 use Rattle.rtr_room.proofs.Laws.{records-none, empty-is}
 use Rattle.rtr_listing.specs.declared.Head.{Head}
-use Rattle.rtr_listed.specs.Listed.{Place, Read, countWidths, readFrom, nextRecord}
-use Rattle.rtr_listed.specs.Listed.Read.{misfit}
-use Rattle.rtr_listed.specs.Private.{linesAt, standsAt, RecordTook, AllRead, RecordsTook}
+use Rattle.rtr_listed.specs.Listed.{Place, nextRecord}
+use Rattle.rtr_listed.specs.Private.{readOn, RecordTook, AllRead, RecordsTook}
 use Rattle.rtr_listed.specs.Private.AllRead.{all, some}
 use Rattle.rtr_listed.specs.declared.Cursor.{Cursor}
 use Rattle.rtr_listed.specs.declared.RecordRead.{RecordRead}
+use Rattle.rtr_listed.proofs.Cursors.{read-off}
 use Rattle.rtr_listed.proofs.Order.{room-is, enter-behind}
 
 -- at the loop's head
@@ -25,12 +25,7 @@ pub record Reading (limit : ℕ) (s : List ℕ) (count : ℕ) (c : Cursor) (lent
   pub inside : next .at ≤ length s
   pub line : next .line ≤ 8 + 5 * i
   pub rules : isRoom limit i lent ≡ true
-  pub stands : (h : Head) → h .count ≡ count → standsAt limit s (nextRecord h []) c ≡ standsAt limit s (nextRecord h (records i lent)) next
-
--- a cursor that stays at a line is a misfit there
-pub stands-off : (limit : ℕ) (s : List ℕ) (place : Place) (c : Cursor) → c .fits ≡ false → standsAt limit s place c ≡ misfit (c .line)
-unfolding standsAt
-stands-off limit s place c e = ap (λ (b : Bool). cond b (readFrom countWidths limit place (c .line) (linesAt s c)) (misfit (c .line))) e
+  pub stands : (h : Head) → h .count ≡ count → readOn limit s (nextRecord h []) c ≡ readOn limit s (nextRecord h (records i lent)) next
 
 module _ (limit : ℕ) (s : List ℕ) (count : ℕ) (c : Cursor) where
   pub starts : (lent : List ℕ) → length lent ≡ 6 * limit → lent ≡ replicate (length lent) 0 → c .at ≤ length s → c .line ≤ 8 → Reading limit s count c lent c 0
@@ -40,7 +35,7 @@ module _ (limit : ℕ) (s : List ℕ) (count : ℕ) (c : Cursor) where
         inside = h;
         line = omega arith;
         rules = ap (isRoom limit 0) (e ∙ ap (λ (n : ℕ). replicate n 0) size) ∙ empty-is limit .1;
-        stands = λ head n. ap (λ (t : List Record). standsAt limit s (nextRecord head t) c) (sym (records-none lent));
+        stands = λ head n. ap (λ (t : List Record). readOn limit s (nextRecord head t) c) (sym (records-none lent));
       }
 
   module _ (lent : List ℕ) (next : Cursor) (i : ℕ) (at-head : Reading limit s count c lent next i) where
@@ -51,8 +46,8 @@ module _ (limit : ℕ) (s : List ℕ) (count : ℕ) (c : Cursor) where
 
     -- one record more was read
     turn : (r : RecordRead) → i < count → RecordTook s next (records i lent) r → (h : Head) → h .count ≡ count
-        → standsAt limit s (nextRecord h []) c ≡ standsAt limit s (nextRecord h (records i lent ++ r .entry ∷ [])) (r .next)
-    turn r l t h n = at-head .stands h n ∙ ap (λ (p : Place). standsAt limit s p next) (due h n l) ∙ t .stands limit h
+        → readOn limit s (nextRecord h []) c ≡ readOn limit s (nextRecord h (records i lent ++ r .entry ∷ [])) (r .next)
+    turn r l t h n = at-head .stands h n ∙ ap (λ (p : Place). readOn limit s p next) (due h n l) ∙ t .stands limit h
 
     pub goes-on : (r : RecordRead) (left : List ℕ) → i < count → count ≤ limit → RecordTook s next (records i lent) r → r .next .fits ≡ true → left ≡ entered lent i (r .entry) .left → Reading limit s count c left (r .next) (suc i)
     goes-on r left l w t on e =
@@ -62,11 +57,11 @@ module _ (limit : ℕ) (s : List ℕ) (count : ℕ) (c : Cursor) where
           inside = t .near .at;
           line = omega (arith, t .near .line, at-head .line);
           rules = more .0;
-          stands = λ h n. turn r l t h n ∙ ap (λ (x : List Record). standsAt limit s (nextRecord h x) (r .next)) (sym (more .1));
+          stands = λ h n. turn r l t h n ∙ ap (λ (x : List Record). readOn limit s (nextRecord h x) (r .next)) (sym (more .1));
         }
 
     pub stops : (r : RecordRead) (left : List ℕ) → i < count → RecordTook s next (records i lent) r → r .next .fits ≡ false → RecordsTook limit s c count left (r .next)
-    stops r left l t off = (t .near .at, λ h n. some off (turn r l t h n ∙ stands-off limit s (nextRecord h (records i lent ++ r .entry ∷ [])) (r .next) off))
+    stops r left l t off = (t .near .at, λ h n. some off (turn r l t h n ∙ read-off limit s (nextRecord h (records i lent ++ r .entry ∷ [])) (r .next) off))
 
     pub ends : i ≡ count → RecordsTook limit s c count lent next
     ends e = (
@@ -75,5 +70,5 @@ module _ (limit : ℕ) (s : List ℕ) (count : ℕ) (c : Cursor) where
           let is = room-is limit i lent (record { kind = 0; w0 = 0; w1 = 0; w2 = 0; w3 = 0; asn = 0 }) (at-head .rules) in
           let last : nextRecord h (records i lent) ≡ Place.endDue h (records i lent) =
           ap (λ (b : Bool). cond b (Place.familyDue h (records i lent)) (Place.endDue h (records i lent))) (le-ltb (length (records i lent)) (h .count) (omega (arith, is .1, n, e))) in
-          all (records i lent) (is .0) (is .1 ∙ e ∙ sym n) (is .2) (at-head .stands h n ∙ ap (λ (p : Place). standsAt limit s p next) last),
+          all (records i lent) (is .0) (is .1 ∙ e ∙ sym n) (is .2) (at-head .stands h n ∙ ap (λ (p : Place). readOn limit s p next) last),
     )

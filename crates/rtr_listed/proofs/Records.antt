@@ -14,7 +14,7 @@ use Rattle.rtr_room.proofs.Laws.Tests.{first-of, second-of, both}
 use Rattle.rtr_listing.specs.Listing.{text}
 use Rattle.rtr_listing.specs.declared.Head.{Head}
 use Rattle.rtr_listed.specs.Listed.{Place, named, numberIn, recordOf, wordAt, wordsIn, addressIn, widest, nextRecord}
-use Rattle.rtr_listed.specs.Private.{linesAt, standsAt, Near, Took, NumberTook, WordsTook, narrowed, RecordTook}
+use Rattle.rtr_listed.specs.Private.{linesAt, readOn, Near, Took, NumberTook, WordsTook, narrowed, RecordTook}
 use Rattle.rtr_listed.specs.declared.Cursor.{Cursor}
 use Rattle.rtr_listed.specs.declared.NumberRead.{NumberRead}
 use Rattle.rtr_listed.specs.declared.Words.{Words}

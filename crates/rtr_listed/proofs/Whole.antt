@@ -17,10 +17,10 @@ use Rattle.rtr_listed.specs.Listed.{Line, Place, Read, Listed, begun, li
 use Rattle.rtr_listed.specs.Listed.Fit.{misfits}
 use Rattle.rtr_listed.specs.Listed.Read.{listed, misfit}
 use Rattle.rtr_listed.specs.Promises.{ListedSays, ListedLeft, says, refused, readAs, listedSays}
-use Rattle.rtr_listed.specs.Private.{linesAt, standsAt, AllRead}
+use Rattle.rtr_listed.specs.Private.{linesAt, readOn, AllRead}
 use Rattle.rtr_listed.specs.Private.AllRead.{all, some}
 use Rattle.rtr_listed.specs.declared.Cursor.{Cursor}
-use Rattle.rtr_listed.proofs.Loop.{stands-off}
+use Rattle.rtr_listed.proofs.Cursors.{read-on, read-off}
 
 -- some text has a line
 pub some-line : (b : ℕ) (s : List ℕ) → (l : Line) × (ls : List Line) × (linesOf (b ∷ s) ≡ l ∷ ls)
@@ -57,11 +57,7 @@ end-none : (limit n : ℕ) (h : Head) (t : List Record) → readFrom countWidths
 unfolding readFrom linesOf
 end-none limit n h t = refl
 
-stands-on : (limit : ℕ) (s : List ℕ) (place : Place) (c : Cursor) → c .fits ≡ true → standsAt limit s place c ≡ readFrom countWidths limit place (c .line) (linesAt s c)
-unfolding standsAt
-stands-on limit s place c e = ap (λ (b : Bool). cond b (readFrom countWidths limit place (c .line) (linesAt s c)) (misfit (c .line))) e
-
-module _ (limit : ℕ) (s : List ℕ) (h : Head) (c : Cursor) (left : List ℕ) (next : Cursor) (begins : readListing limit s ≡ standsAt limit s (nextRecord h []) c) where
+module _ (limit : ℕ) (s : List ℕ) (h : Head) (c : Cursor) (left : List ℕ) (next : Cursor) (begins : readListing limit s ≡ readOn limit s (nextRecord h []) c) where
   pub all-listed : AllRead limit s h c left next → next .fits && eqb (next .at) (length s) ≡ true → readAs limit (readListing limit s) ≡ record { answer = says h; room = left }
   all-listed (some off e) done = absurd (false≢true (sym off ∙ first-of (next .fits) _ done))
   all-listed (all t table long is e) done =
@@ -71,17 +67,17 @@ module _ (limit : ℕ) (s : List ℕ) (h : Head) (c : Cursor) (left : List ℕ) 
       let read : readListing limit s ≡ listed (record { stopped = h .stopped; table = h .table; records = t }) =
       begins
       ∙ e
-      ∙ stands-on limit s (Place.endDue h t) next on
+      ∙ read-on limit s (Place.endDue h t) next on
       ∙ ap (λ (x : List ℕ). readFrom countWidths limit (Place.endDue h t) (next .line) (linesOf x)) none
       ∙ end-none limit (next .line) h t in
       ap (readAs limit) read ∙ (λ i. record { answer = says (record { stopped = h .stopped; table = h .table; count = long i }); room = sym is i })
 
-  left-over : (t : List Record) (b : Bool) → next .fits ≡ b → next .at ≤ length s → b && eqb (next .at) (length s) ≡ false → standsAt limit s (Place.endDue h t) next ≡ misfit (next .line)
-  left-over t false off w over = stands-off limit s (Place.endDue h t) next off
+  left-over : (t : List Record) (b : Bool) → next .fits ≡ b → next .at ≤ length s → b && eqb (next .at) (length s) ≡ false → readOn limit s (Place.endDue h t) next ≡ misfit (next .line)
+  left-over t false off w over = read-off limit s (Place.endDue h t) next off
   left-over t true on w over =
       let short : next .at < length s = short-of (next .at) (length s) w (eqb-false (next .at) (length s) over) in
       let line = some-line (getD s (next .at) 0) (drop (suc (next .at)) s) in
-      stands-on limit s (Place.endDue h t) next on
+      read-on limit s (Place.endDue h t) next on
       ∙ ap (readFrom countWidths limit (Place.endDue h t) (next .line)) (ap linesOf (drop-cons s (next .at) 0 short) ∙ line .2)
       ∙ end-line limit (next .line) h t (line .0) (line .1)
     where
