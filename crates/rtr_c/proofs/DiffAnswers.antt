@@ -1,12 +1,12 @@
 -- `hingemoss_diff` by its answer, and that its promise leaves one answer and one content of all that is lent. Assumes nothing.
 use Prim.Native.Nat.{ℕ, _*_, _≤_, _<_}
 use mathlib.Core.Bool.{Bool, true, false}
-use mathlib.Core.List.{List, [], _∷_, _++_}
+use mathlib.Core.List.{List}
 use mathlib.Core.Path.{_≡_, refl, sym, ap, _∙_, subst}
 use borrow.Author.Tests.{eqb-true, eqb-false, leb-true, leb-false}
 use denote.Ref.{now}
 use lib.Dec.{eqb, leb}
-use lib.ListN.{length, drop}
+use lib.ListN.{length}
 use Rattle.rtr_receiver.specs.Promises.{recordLimit}
 use Rattle.rtr_encode.specs.Encode.{Encoded}
 use Rattle.rtr_listing.specs.Promises.{listSaid}
@@ -14,10 +14,10 @@ use Rattle.rtr_listing.specs.declared.ListAnswer.{ListAnswer}
 use Rattle.rtr_listing.proofs.Laws.{written-is, short-is}
 use Rattle.rtr_listed.specs.Listed.{readListing}
 use Rattle.rtr_listed.specs.Promises.{readAs}
-use Rattle.rtr_diffs.specs.Diffs.{DiffLeft, newRoomBy, diffText, diffSays, diffLeft}
+use Rattle.rtr_diffs.specs.Diffs.{newRoomBy, diffText, diffSays, diffLeft}
 use Rattle.rtr_diffs.proofs.Laws.{diff-of-size, diff-off-size}
 use Rattle.rtr_encode.specs.Answers.{numberOf}
-use Rattle.rtr_c.specs.Calls.{EncodeLeft, DiffCLeft, amountOf, diffGives, diffLeftC, diffC}
+use Rattle.rtr_c.specs.Calls.{DiffCLeft, amountOf, diffGives, diffLeftC, diffC}
 use Rattle.rtr_c.specs.Answers.{DiffAnswers}
 use Rattle.rtr_c.proofs.hingemoss_diff.Reads as diff-reads
 

@@ -1,13 +1,12 @@
 -- What reading each file tells of the text and of the rooms. Assumes nothing.
 use Prim.Native.Nat.{ℕ, _*_, _≤_}
 use mathlib.Core.Bool.{Bool, true, false, cond, _&&_}
-use mathlib.Core.List.{List, [], _∷_}
-use mathlib.Core.Path.{_≡_, refl, sym, ap, _∙_}
+use mathlib.Core.List.{List, []}
+use mathlib.Core.Path.{_≡_, sym, ap, _∙_}
 use native.Mathlib.Omega.{arith}
 use borrow.Author.Tests.{eq-eqb, ne-eqb}
 use lib.Dec.{eqb}
 use lib.ListN.{length, replicate}
-use Rattle.rtr_encode.specs.Encode.{Encoded}
 use Rattle.rtr_encode.specs.Encode.Writing.{refused}
 use Rattle.rtr_room.specs.Table.{isTable}
 use Rattle.rtr_room.specs.Room.{room, records, isRoom}
@@ -24,7 +23,7 @@ use Rattle.rtr_listed.specs.Promises.{readAs}
 use Rattle.rtr_listed.proofs.Calls.{WasListed}
 use Rattle.rtr_listed.proofs.Laws.{reads-exactly}
 use Rattle.rtr_changes.specs.Changes.{changes}
-use Rattle.rtr_diffs.specs.Diffs.{DiffLeft, changesLines, refusalLines, afterOld, diffRead, newRoomBy, diffText, diffSays, diffLeft}
+use Rattle.rtr_diffs.specs.Diffs.{changesLines, refusalLines, afterOld, diffRead, newRoomBy, diffText, diffSays, diffLeft}
 use Rattle.rtr_diffs.specs.Private.{NewRead}
 
 -- what was read is a table within the limit

@@ -1,16 +1,15 @@
 -- What a call of rtr_listing writes at the front of a part of the output is written there in the whole. Assumes nothing.
-use Prim.Native.Nat.{ℕ, zero, suc, _+_, _-_, _≤_, _<_}
+use Prim.Native.Nat.{ℕ, zero, suc, _+_, _-_, _≤_}
 use mathlib.Core.List.{List, [], _∷_, _++_, append-assoc, append-nil}
 use mathlib.Core.Path.{_≡_, refl, sym, ap, _∙_}
 use native.Mathlib.Omega.{arith}
 use lib.ListN.{length, take, drop, length-drop, drop-of-length-le}
-use lib.Seq.{drop-drop, length-take-le}
+use lib.Seq.{drop-drop}
 use Rattle.rtr_base.proofs.Overs.{over-is}
 use Rattle.rtr_encode.specs.Encode.{Encoded}
 use Rattle.rtr_encode.specs.Encode.Writing.{written}
 use Rattle.rtr_listing.specs.Private.{Fits, Put}
 use Rattle.rtr_listing.specs.Promises.{listSaid, leaves, puts}
-use Rattle.rtr_listing.specs.declared.ListError.{ListError}
 use Rattle.rtr_listing.specs.declared.ListError.the-variants.{NotAReceiver, OutputShort}
 use Rattle.rtr_listing.specs.declared.ListAnswer.{ListAnswer}
 use Rattle.rtr_listing.proofs.Laws.{written-is}

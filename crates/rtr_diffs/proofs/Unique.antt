@@ -1,13 +1,11 @@
 -- What `diff` promises leaves one result, one content of the output and one of each room. `Post` is the contract as Rattle reads it off the source, and `s` the
 -- parameters as the function returns. Assumes nothing.
-use Prim.Native.Nat.{ℕ}
 use mathlib.Core.Bool.{cond}
-use mathlib.Core.List.{List}
 use mathlib.Core.Path.{_≡_, refl, sym, ap, _∙_}
 use lib.Dec.{eqb}
 use lib.ListN.{getD}
 use denote.Ref.{now}
-use Rattle.rtr_base.proofs.Unique.{only-one, only-this}
+use Rattle.rtr_base.proofs.Unique.{only-one}
 use Rattle.rtr_encode.specs.Encode.{Writing}
 use Rattle.rtr_encode.specs.Encode.Writing.{written, refused}
 use Rattle.rtr_listing.specs.Promises.{listSaid}

@@ -1,6 +1,6 @@
 -- What changed between two listings, as a text: document 02, request Four. One definition from two texts to one text: the refusal's three lines, old file first, or the lines of every change.
 use Prim.Native.Nat.{ℕ, _*_}
-use mathlib.Core.Bool.{Bool, true, false, cond, _&&_}
+use mathlib.Core.Bool.{Bool, cond, _&&_}
 use mathlib.Core.List.{List, [], _∷_, _++_}
 use lib.Dec.{eqb}
 use lib.ListN.{length, replicate}

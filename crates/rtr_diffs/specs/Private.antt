@@ -3,7 +3,7 @@ use Prim.Native.Nat.{ℕ, _+_}
 use mathlib.Core.Bool.{Bool, true}
 use mathlib.Core.List.{List, map}
 use mathlib.Core.Path.{_≡_}
-use Rattle.rtr_room.specs.Room.{records, isRoom}
+use Rattle.rtr_room.specs.Room.{isRoom}
 use Rattle.rtr_room.specs.declared.Record.{Record}
 use Rattle.rtr_receiver.specs.Promises.{recordLimit}
 use Rattle.rtr_changes.specs.Changes.{without}

@@ -1,19 +1,18 @@
 -- An address fits exactly where it has the family's digits, all of them hex: each eight are the digits of their own number. Assumes nothing.
-use Prim.Native.Nat.{ℕ, zero, suc, _+_, _≤_, _<_}
-use mathlib.Core.Bool.{Bool, true, false, cond, _&&_}
+use Prim.Native.Nat.{ℕ, zero, suc, _+_, _≤_}
+use mathlib.Core.Bool.{Bool, true, _&&_}
 use mathlib.Core.List.{List, [], _∷_, _++_}
 use mathlib.Core.Path.{_≡_, refl, sym, ap, _∙_}
 use native.Mathlib.Omega.{arith}
 use borrow.Author.Tests.{eq-eqb, ne-eqb}
-use lib.Dec.{eqb}
 use lib.ListN.{length, take, drop, length-drop}
 use lib.Seq.{take-add, length-take-le}
 use Rattle.rtr_room.proofs.Laws.Tests.{first-of, second-of, both, unless}
 use Rattle.rtr_room.specs.Table.{familyOf}
 use Rattle.rtr_listing.specs.Listing.{digits, addressOf}
-use Rattle.rtr_listing.specs.Digits.{isHex, areHex, hexOf}
+use Rattle.rtr_listing.specs.Digits.{isHex, areHex}
 use Rattle.rtr_listing.proofs.Laws.{hex-none, hex-next, hex-exactly, four-length, other-length, four-address, other-address, address-lower-case}
-use Rattle.rtr_listed.specs.Listed.{Fit, fitting, sameText, recordOf, wordAt, wordsIn, addressIn}
+use Rattle.rtr_listed.specs.Listed.{fitting, sameText, recordOf, wordAt, wordsIn, addressIn}
 use Rattle.rtr_listed.specs.Listed.Fit.{fits, misfits}
 use Rattle.rtr_listed.specs.declared.Words.{Words}
 use Rattle.rtr_listed.proofs.Texts.{same-equal, equal-same}

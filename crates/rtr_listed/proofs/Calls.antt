@@ -1,7 +1,6 @@
 -- What a call of `read_listing` tells its caller, by the answer. Assumes nothing.
-use Prim.Native.Nat.{ℕ, _*_, _≤_}
+use Prim.Native.Nat.{ℕ, _*_}
 use mathlib.Core.List.{List, [], _∷_}
-use mathlib.Core.Bool.{true}
 use mathlib.Core.Path.{_≡_, refl, sym, ap, _∙_}
 use native.Mathlib.Omega.{arith}
 use lib.ListN.{length}
@@ -9,7 +8,7 @@ use Rattle.rtr_listing.specs.declared.Head.{Head}
 use Rattle.rtr_room.specs.Room.{room}
 use Rattle.rtr_listed.specs.Listed.{Listed, Read, readListing}
 use Rattle.rtr_listed.specs.Listed.Read.{listed, misfit}
-use Rattle.rtr_listed.specs.Promises.{ListedSays, ListedLeft, says, refused, headOf, lineIn, listedSaid, readAs, listedSays}
+use Rattle.rtr_listed.specs.Promises.{ListedLeft, says, refused, headOf, lineIn, listedSaid, readAs, listedSays}
 use Rattle.rtr_listed.specs.declared.ListedAnswer.{ListedAnswer}
 use Rattle.rtr_listed.specs.declared.ListedError.{ListedError}
 use Rattle.rtr_listed.proofs.Whole.{of-size}

@@ -1,15 +1,14 @@
 -- A line taken or missed at a cursor, and what reading comes to from there. Assumes nothing.
 use Prim.Native.Nat.{ℕ, suc, _+_, _-_, _≤_, _<_}
-use mathlib.Core.Bool.{Bool, true, false, cond, true≢false, false≢true}
+use mathlib.Core.Bool.{Bool, true, false, cond, false≢true}
 use mathlib.Core.List.{List, [], _∷_, _++_}
 use mathlib.Core.Path.{_≡_, refl, sym, ap, _∙_, subst}
 use native.Mathlib.Omega.{arith}
-use borrow.Author.Tests.{leb-true}
 use lib.Dec.{leb}
 use lib.ListN.{length, take, drop, length-drop}
 use lib.Seq.{length-take-le}
 use Rattle.rtr_listing.specs.Listing.{Field}
-use Rattle.rtr_listed.specs.Listed.{Line, Fit, Place, Read, fitting, leading, sameText, named, numberIn, addressIn, wordsIn, countWidths, onLine, atEnd, orMisfit, fitLine, readFrom}
+use Rattle.rtr_listed.specs.Listed.{Line, Fit, Place, fitting, leading, sameText, named, numberIn, addressIn, wordsIn, countWidths, onLine, atEnd, orMisfit, fitLine, readFrom}
 use Rattle.rtr_listed.specs.Listed.Fit.{fits, misfits}
 use Rattle.rtr_listed.specs.Listed.Read.{misfit}
 use Rattle.rtr_listed.specs.Private.{numberSaid, lineGives, behind, linesAt, readOn, refusedAt, pastEnd, Near, Took, NumberTook, numberTook, narrowed, between, ValueAt, ValueIs}

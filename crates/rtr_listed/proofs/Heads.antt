@@ -1,20 +1,17 @@
 -- The lines before the records, one behind another: the stop, then either the line of no table or five numbers and the count. Assumes nothing.
-use Prim.Native.Nat.{ℕ, suc, _+_, _≤_}
+use Prim.Native.Nat.{ℕ, suc}
 use mathlib.Core.Bool.{Bool, true, false, cond, true≢false, false≢true}
 use mathlib.Core.List.{List, [], _∷_}
 use mathlib.Core.Path.{_≡_, refl, sym, ap, _∙_}
 use native.Mathlib.Omega.{arith}
-use lib.ListN.{length}
 use Rattle.rtr_listing.specs.Listing.{text, tableFields, tableNumbers}
 use Rattle.rtr_receiver.specs.declared.LiveTable.{LiveTable}
 use Rattle.rtr_receiver.specs.declared.Table.{Table}
-use Rattle.rtr_listed.specs.Listed.{Line, Fit, Place, Read, fitting, sameText, named, numberIn, countWidths, countIn, mayStop, tableOf, withoutTable, nextRecord, onLine, orMisfit, readFrom, readListing}
+use Rattle.rtr_listed.specs.Listed.{Line, Fit, Place, fitting, sameText, named, numberIn, countWidths, countIn, mayStop, withoutTable, nextRecord, onLine, orMisfit, readFrom, readListing}
 use Rattle.rtr_listed.specs.Listed.Fit.{fits, misfits}
-use Rattle.rtr_listed.specs.Listed.Read.{misfit}
-use Rattle.rtr_listed.specs.Private.{lineGives, behind, linesAt, readOn, refusedAt, Took}
+use Rattle.rtr_listed.specs.Private.{lineGives, behind, linesAt, readOn, Took}
 use Rattle.rtr_listed.specs.Private.Took.{took, missed}
 use Rattle.rtr_listed.specs.declared.Cursor.{Cursor}
-use Rattle.rtr_listed.proofs.Numbers.{fitting-fits, fitting-misfits}
 use Rattle.rtr_listed.proofs.Cursors.{read-on, read-off, took-stands}
 
 abbrev pub start : Cursor

@@ -2,17 +2,16 @@
 use Prim.Native.Nat.{ℕ, suc, _+_, _*_, _≤_, _<_}
 use mathlib.Core.Bool.{Bool, true, false, cond}
 use mathlib.Core.List.{List, [], _∷_, _++_}
-use mathlib.Core.Path.{_≡_, refl, sym, ap, _∙_, subst}
+use mathlib.Core.Path.{_≡_, sym, ap, _∙_}
 use native.Mathlib.Omega.{arith}
 use borrow.Author.Tests.{lt-ltb, le-ltb}
-use lib.Dec.{ltb}
 use lib.ListN.{length, replicate}
 use Rattle.rtr_room.specs.Room.{records, isRoom, entered}
 use Rattle.rtr_room.specs.declared.Record.{Record}
 use Rattle.rtr_room.proofs.Laws.{records-none, empty-is}
 use Rattle.rtr_listing.specs.declared.Head.{Head}
 use Rattle.rtr_listed.specs.Listed.{Place, nextRecord}
-use Rattle.rtr_listed.specs.Private.{readOn, RecordTook, AllRead, RecordsTook}
+use Rattle.rtr_listed.specs.Private.{readOn, RecordTook, RecordsTook}
 use Rattle.rtr_listed.specs.Private.AllRead.{all, some}
 use Rattle.rtr_listed.specs.declared.Cursor.{Cursor}
 use Rattle.rtr_listed.specs.declared.RecordRead.{RecordRead}

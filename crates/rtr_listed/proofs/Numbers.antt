@@ -1,10 +1,10 @@
 -- Numbers as a line says them: the digits, no leading zero and at most ten of them decide (`decimal-exactly` of rtr_listing), and one test more narrows what is allowed. Assumes nothing.
-use Prim.Native.Nat.{ℕ, suc, _+_, _≤_, _<_}
-use mathlib.Core.Bool.{Bool, true, false, cond, not, _&&_, _||_, true≢false, false≢true}
+use Prim.Native.Nat.{ℕ, _≤_, _<_}
+use mathlib.Core.Bool.{Bool, true, false, not, _&&_, _||_}
 use mathlib.Core.List.{List, [], _∷_}
 use mathlib.Core.Path.{_≡_, refl, sym, ap, _∙_}
 use native.Mathlib.Omega.{arith}
-use borrow.Author.Tests.{leb-true, leb-false, le-leb, lt-leb, eq-eqb, ne-eqb, eqb-true}
+use borrow.Author.Tests.{leb-true, le-leb, lt-leb, eq-eqb, eqb-true}
 use lib.Dec.{leb, eqb}
 use lib.ListN.{length, getD}
 use Rattle.rtr_room.proofs.Laws.Tests.{first-of, second-of, both, unless, not-both}
@@ -13,7 +13,7 @@ use Rattle.rtr_listing.specs.Digits.{areDecimal, hasNoLead, valueOf}
 use Rattle.rtr_listing.proofs.Laws.{decimal-exactly, places-exactly}
 use Rattle.rtr_listed.specs.Listed.{Fit, fitting, sameText, numberIn, countWidths, inWidth, countIn, mayStop}
 use Rattle.rtr_listed.specs.Listed.Fit.{fits, misfits}
-use Rattle.rtr_listed.proofs.Texts.{same-equal, equal-same, other-same}
+use Rattle.rtr_listed.proofs.Texts.{same-equal, equal-same}
 
 -- ---- a test decides whether it fits
 

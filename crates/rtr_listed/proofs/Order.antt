@@ -8,7 +8,7 @@ use borrow.Author.Tests.{eq-eqb, ne-eqb}
 use lib.Dec.{eqb}
 use lib.ListN.{length, length-append}
 use Rattle.rtr_room.specs.Table.{isTable, allInRule, inRule, ordered, isIn, rank, enter}
-use Rattle.rtr_room.specs.Room.{Found, Outcome, room, records, isRoom, limitOf, lookUp, entered, outcomeOf}
+use Rattle.rtr_room.specs.Room.{Outcome, room, records, isRoom, limitOf, lookUp, entered, outcomeOf}
 use Rattle.rtr_room.specs.Room.Found.{standsAt, missingAt, refused}
 use Rattle.rtr_room.specs.declared.Record.{Record}
 use Rattle.rtr_room.proofs.Laws.{rules-exactly, rules-size, records-of-room, look-up-is, last-exactly, last-not-in, enter-is, enter-last, changed-is, table-last}

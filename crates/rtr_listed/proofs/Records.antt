@@ -4,17 +4,15 @@ use mathlib.Core.Bool.{Bool, true, false, cond, _&&_, _||_}
 use mathlib.Core.List.{List, [], _∷_, _++_}
 use mathlib.Core.Path.{_≡_, refl, sym, ap, _∙_, subst}
 use native.Mathlib.Omega.{arith}
-use borrow.Author.Tests.{le-leb, leb-true, eqb-true, eq-eqb}
+use borrow.Author.Tests.{le-leb, eqb-true}
 use lib.Dec.{leb, eqb}
-use lib.ListN.{length}
-use Rattle.rtr_room.specs.Table.{ipv4Record, ipv6Record, inRule, ordered}
+use Rattle.rtr_room.specs.Table.{inRule, ordered}
 use Rattle.rtr_room.specs.declared.Record.{Record}
 use Rattle.rtr_room.proofs.Laws.{ipv4-in-rule, ipv6-in-rule}
-use Rattle.rtr_room.proofs.Laws.Tests.{first-of, second-of, both}
+use Rattle.rtr_room.proofs.Laws.Tests.{first-of, second-of}
 use Rattle.rtr_listing.specs.Listing.{text}
-use Rattle.rtr_listing.specs.declared.Head.{Head}
 use Rattle.rtr_listed.specs.Listed.{Place, named, numberIn, recordOf, wordAt, wordsIn, addressIn, widest, nextRecord}
-use Rattle.rtr_listed.specs.Private.{linesAt, readOn, Near, Took, NumberTook, WordsTook, narrowed, RecordTook}
+use Rattle.rtr_listed.specs.Private.{linesAt, Near, Took, NumberTook, WordsTook, narrowed, RecordTook}
 use Rattle.rtr_listed.specs.declared.Cursor.{Cursor}
 use Rattle.rtr_listed.specs.declared.NumberRead.{NumberRead}
 use Rattle.rtr_listed.specs.declared.Words.{Words}

@@ -1,6 +1,6 @@
 -- A whole text: the lines before the records, the records, and whether anything is left. Assumes nothing.
-use Prim.Native.Nat.{ℕ, suc, _+_, _*_, _≤_, _<_}
-use mathlib.Core.Bool.{Bool, true, false, cond, _&&_, true≢false, false≢true}
+use Prim.Native.Nat.{ℕ, suc, _*_, _≤_, _<_}
+use mathlib.Core.Bool.{Bool, true, false, cond, _&&_, false≢true}
 use mathlib.Core.List.{List, [], _∷_}
 use mathlib.Core.Logic.{_⊎_, inl, inr}
 use mathlib.Core.Path.{_≡_, refl, sym, ap, _∙_}
@@ -13,11 +13,11 @@ use Rattle.rtr_room.specs.Room.{room}
 use Rattle.rtr_room.specs.declared.Record.{Record}
 use Rattle.rtr_room.proofs.Laws.Tests.{first-of, second-of}
 use Rattle.rtr_listing.specs.declared.Head.{Head}
-use Rattle.rtr_listed.specs.Listed.{Line, Place, Read, Listed, begun, linesOf, countWidths, nextRecord, atEnd, orMisfit, readFrom, readListing}
+use Rattle.rtr_listed.specs.Listed.{Line, Place, begun, linesOf, countWidths, nextRecord, atEnd, orMisfit, readFrom, readListing}
 use Rattle.rtr_listed.specs.Listed.Fit.{misfits}
 use Rattle.rtr_listed.specs.Listed.Read.{listed, misfit}
-use Rattle.rtr_listed.specs.Promises.{ListedSays, ListedLeft, says, refused, readAs, listedSays}
-use Rattle.rtr_listed.specs.Private.{linesAt, readOn, AllRead}
+use Rattle.rtr_listed.specs.Promises.{says, refused, readAs, listedSays}
+use Rattle.rtr_listed.specs.Private.{readOn, AllRead}
 use Rattle.rtr_listed.specs.Private.AllRead.{all, some}
 use Rattle.rtr_listed.specs.declared.Cursor.{Cursor}
 use Rattle.rtr_listed.proofs.Cursors.{read-on, read-off}

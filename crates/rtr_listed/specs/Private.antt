@@ -1,9 +1,9 @@
 -- What the functions inside this crate ask and leave. A cursor is a place in the text, the number of the line there, and whether all lines before it fitted; where one did not, it stays at that line.
 use Prim.Native.Nat.{ℕ, suc, _+_, _-_, _≤_, _<_}
-use mathlib.Core.Bool.{Bool, true, false, cond, _&&_}
+use mathlib.Core.Bool.{Bool, true, false, cond}
 use mathlib.Core.List.{List, [], _∷_, _++_}
 use mathlib.Core.Path.{_≡_}
-use lib.Dec.{eqb, leb}
+use lib.Dec.{eqb}
 use lib.ListN.{length, take, drop}
 use Rattle.rtr_room.specs.Room.{room}
 use Rattle.rtr_room.specs.Table.{isTable, inRule, ordered}

@@ -1,12 +1,12 @@
 -- `put_side`: at the loop's head what was written and what is left make the whole. The measure is how many places are left. Assumes nothing.
-use Prim.Native.Nat.{ℕ, suc, _+_, _-_, _*_, _≤_, _<_}
-use mathlib.Core.List.{List, [], _∷_, _++_}
-use mathlib.Core.Path.{_≡_, refl, sym, ap, _∙_, subst}
+use Prim.Native.Nat.{ℕ, _-_, _≤_}
+use mathlib.Core.List.{List, []}
+use mathlib.Core.Path.{_≡_, refl, sym, subst}
 use native.Mathlib.Numerals.{add-one}
 use native.Mathlib.Omega.{arith}
 use borrow.Author.Needs.{needs}
 use denote.Ref.{now}
-use lib.ListN.{length, drop, length-append}
+use lib.ListN.{length, drop}
 use Rattle.rtr_room.specs.Room.{records}
 use Rattle.rtr_room.specs.declared.Record.{Record}
 use Rattle.rtr_room.proofs.Laws.{rules-size}
@@ -17,7 +17,6 @@ use Rattle.rtr_changes.proofs.Laws.{room-of-rules, next-at, next-nothing, next-
 use Rattle.rtr_changes.proofs.Places.{NextAt}
 use Rattle.rtr_listing.specs.Private.{Fits, Put}
 use Rattle.rtr_diffs.specs.Diffs.{changeLines}
-use Rattle.rtr_diffs.specs.Private.{sideLines}
 use Rattle.rtr_diffs.proofs.Sides.{Side, side-starts, side-fits, side-goes-on, side-ends}
 use Rattle.rtr_diffs.proofs.put_side.Statement.{statement}
 use Rattle.rtr_diffs.proofs.put_side.Tie as tie

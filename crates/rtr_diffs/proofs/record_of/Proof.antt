@@ -9,7 +9,6 @@ use Rattle.rtr_room.proofs.Laws.{found-inside}
 use borrow.Author.Needs.{needs}
 use Rattle.rtr_diffs.proofs.record_of.Statement.{statement}
 use Rattle.rtr_diffs.proofs.record_of.Tie as tie
-use Rattle.rtr_room.proofs.Record.ipv4.Reads as ipv4-reads
 
 found-is : (i : ℕ) (r r′ : Record) → RecordFound.Found r ≡ RecordFound.Found r′ → r′ ≡ r
 found-is i r r′ e = cc

@@ -1,13 +1,11 @@
 -- `address_in`: eight digits or 32, all hex, are read word by word. Assumes nothing.
 use Prim.Native.Nat.{ℕ}
 use mathlib.Core.Bool.{true≢false}
-use mathlib.Core.Path.{_≡_, sym, ap, _∙_}
+use mathlib.Core.Path.{sym, ap, _∙_}
 use native.Mathlib.Omega.{arith}
 use borrow.Author.Tests.{not-true, not-false}
 use denote.Ref.{now}
-use Rattle.rtr_listed.specs.Listed.{Fit}
 use Rattle.rtr_listed.specs.Listed.Fit.{fits}
-use Rattle.rtr_listed.specs.declared.Words.{Words}
 use Rattle.rtr_listed.proofs.Addresses.{four-yes, four-not, six-yes, six-not}
 use borrow.Author.Needs.{needs}
 use Rattle.rtr_listed.proofs.address_in.Statement.{statement}

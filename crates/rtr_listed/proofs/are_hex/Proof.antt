@@ -1,20 +1,17 @@
 -- `are_hex`: at the loop's head the first i bytes are digits. The measure is what is left. Assumes nothing.
-use Prim.Native.Nat.{ℕ, suc, _+_, _-_, _*_, _≤_, _<_}
-use mathlib.Core.Bool.{Bool, true, false, cond, _&&_, _||_}
-use mathlib.Core.List.{List, [], _∷_, _++_}
+use Prim.Native.Nat.{suc, _-_, _≤_}
+use mathlib.Core.Bool.{Bool, true, false, _&&_}
 use mathlib.Core.Path.{_≡_, refl, sym, ap, _∙_}
 use native.Mathlib.Numerals.{add-one}
 use native.Mathlib.Omega.{arith}
-use borrow.Author.Tests.{lt-ltb, le-ltb, lt-leb, le-leb, eq-eqb, ne-eqb, not-true, not-false}
+use borrow.Author.Tests.{not-true, not-false}
 use denote.Ref.{now}
-use lib.Dec.{leb, eqb}
-use lib.ListN.{length, getD, take, drop}
+use lib.ListN.{length, getD, drop}
 use borrow.Author.Needs.{needs}
 use Rattle.rtr_listing.specs.Digits.{isHex, areHex}
 use Rattle.rtr_listed.proofs.Values.{hex-at-next, hex-at-none}
 use Rattle.rtr_listed.proofs.are_hex.Statement.{statement}
 use Rattle.rtr_listed.proofs.are_hex.Tie as tie
-use Rattle.rtr_listed.proofs.is_hex.Reads as is-hex-reads
 
 abbrev Inv-loop : tie.InvT-loop
 Inv-loop value i₀ i = (i ≤ length value) × (areHex value ≡ areHex (drop i value))

@@ -1,13 +1,10 @@
 -- `family_line`: a number's line, and one test more. Assumes nothing.
-use Prim.Native.Nat.{ℕ}
-use mathlib.Core.Bool.{Bool, true, false, _&&_, _||_}
-use mathlib.Core.Path.{_≡_, refl, sym, ap, _∙_, subst}
-use native.Mathlib.Omega.{arith}
-use borrow.Author.Tests.{le-leb, leb-true, eqb-true}
+use mathlib.Core.Bool.{_||_}
+use mathlib.Core.Path.{sym, ap, _∙_, subst}
 use denote.Ref.{now}
-use lib.Dec.{leb, eqb}
+use lib.Dec.{eqb}
 use Rattle.rtr_listing.specs.Listing.{text}
-use Rattle.rtr_listed.specs.Listed.{named, numberIn, mayStop, widest}
+use Rattle.rtr_listed.specs.Listed.{named, numberIn}
 use Rattle.rtr_listed.specs.Private.{NumberTook, narrowed}
 use Rattle.rtr_listed.proofs.Cursors.{narrow-took}
 use Rattle.rtr_listed.proofs.Numbers.{family-low}

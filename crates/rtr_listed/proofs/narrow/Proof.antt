@@ -4,7 +4,6 @@ use Rattle.rtr_listed.specs.Private.{narrowed}
 use Rattle.rtr_listed.specs.declared.Cursor.{Cursor}
 use Rattle.rtr_listed.proofs.narrow.Statement.{statement}
 use Rattle.rtr_listed.proofs.narrow.Tie as tie
-use Rattle.rtr_listed.proofs.refused.Reads as refused-reads
 
 returns : tie.Need-returns
 returns c = search needs

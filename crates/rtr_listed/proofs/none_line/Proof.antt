@@ -1,6 +1,5 @@
 -- `none_line`: the whole line is that text, or another one. Assumes nothing.
-use Prim.Native.Nat.{ℕ}
-use mathlib.Core.Path.{_≡_, sym, subst}
+use mathlib.Core.Path.{sym, subst}
 use native.Mathlib.Omega.{arith}
 use denote.Ref.{now}
 use Rattle.rtr_listing.specs.Listing.{text}

@@ -1,18 +1,16 @@
 -- `sum_of`: at the loop's head the first i bytes are digits and `sum` is their number. The measure is what is left. Assumes nothing.
-use Prim.Native.Nat.{ℕ, suc, _+_, _-_, _*_, _^_, _≤_, _<_}
-use mathlib.Core.Bool.{Bool, true, false, cond, _&&_, _||_}
-use mathlib.Core.List.{List, [], _∷_, _++_}
+use Prim.Native.Nat.{ℕ, _-_, _^_, _≤_, _<_}
+use mathlib.Core.Bool.{Bool, false}
 use mathlib.Core.Path.{_≡_, refl, sym, ap, _∙_}
 use native.Mathlib.Numerals.{add-one}
 use native.Mathlib.Omega.{arith}
-use borrow.Author.Tests.{lt-ltb, le-ltb, lt-leb, le-leb, eq-eqb, ne-eqb}
+use borrow.Author.Tests.{lt-leb, le-leb}
 use denote.Ref.{now}
-use lib.Dec.{leb, eqb}
-use lib.ListN.{length, getD, take, drop}
+use lib.ListN.{length, getD}
 use borrow.Author.Needs.{needs}
 use Rattle.rtr_listed.proofs.Values.{powers-rise, SumSo, sum-next, sum-not, sum-done}
 use native.Mathlib.Nat.{pow-suc}
-use Rattle.rtr_listing.specs.Digits.{isDecimal, areDecimal, valueOf}
+use Rattle.rtr_listing.specs.Digits.{isDecimal, valueOf}
 use Rattle.rtr_listed.specs.Listed.{fitting}
 use Rattle.rtr_listed.specs.Listed.Fit.{fits}
 use Rattle.rtr_listed.proofs.sum_of.Statement.{statement}

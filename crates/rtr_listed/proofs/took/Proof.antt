@@ -4,8 +4,6 @@ use Rattle.rtr_listed.specs.Private.{numberTook}
 use Rattle.rtr_listed.specs.declared.Cursor.{Cursor}
 use Rattle.rtr_listed.proofs.took.Statement.{statement}
 use Rattle.rtr_listed.proofs.took.Tie as tie
-use Rattle.rtr_listed.proofs.past.Reads as past-reads
-use Rattle.rtr_listed.proofs.refused.Reads as refused-reads
 
 enum-known-number : tie.Need-enum-known-number
 enum-known-number c = search needs

@@ -8,8 +8,6 @@ use Rattle.rtr_listed.proofs.Found.{value-unended, value-short, value-o
 use borrow.Author.Needs.{needs}
 use Rattle.rtr_listed.proofs.value_of.Statement.{statement}
 use Rattle.rtr_listed.proofs.value_of.Tie as tie
-use Rattle.rtr_listed.proofs.is_text.Reads as is-text-reads
-use Rattle.rtr_listed.proofs.line_end.Reads as line-end-reads
 
 returns : tie.Need-returns
 returns c = let a = c .before .before .before .before .args in λ f l ls e ended. absurd (true≢false (sym f ∙ not-true _ (c .if1 .taken)))

@@ -1,22 +1,17 @@
 -- `word_at`: at the loop's head `word` is the number of the first i digits. The measure is how many are left. Assumes nothing.
 use Prim.Native.Nat.{ℕ, suc, _+_, _-_, _*_, _^_, _≤_, _<_}
-use mathlib.Core.Bool.{Bool, true, false, cond, _&&_, _||_}
-use mathlib.Core.List.{List, [], _∷_, _++_}
 use mathlib.Core.Path.{_≡_, refl, sym, ap, _∙_}
 use native.Mathlib.Numerals.{add-one}
 use native.Mathlib.Omega.{arith}
-use borrow.Author.Tests.{lt-ltb, le-ltb, lt-leb, le-leb, eq-eqb, ne-eqb}
 use denote.Ref.{now}
-use lib.Dec.{leb, eqb}
-use lib.ListN.{length, getD, take, drop}
-use Rattle.rtr_listing.specs.Digits.{hexOf, hexDigit}
+use lib.ListN.{take, drop}
+use Rattle.rtr_listing.specs.Digits.{hexOf}
 use Rattle.rtr_listing.proofs.Laws.{hex-value-none}
 use Rattle.rtr_listed.specs.Listed.{wordAt}
 use Rattle.rtr_listed.proofs.Values.{powers-rise, hex-at, word-next}
 use native.Mathlib.Nat.{add-zero, pow-suc}
 use Rattle.rtr_listed.proofs.word_at.Statement.{statement}
 use Rattle.rtr_listed.proofs.word_at.Tie as tie
-use Rattle.rtr_listed.proofs.hex_digit.Reads as hex-digit-reads
 
 abbrev Inv-loop : tie.InvT-loop
 Inv-loop value at word₀ i₀ word i = (i ≤ 8) × ((word < 16 ^ i) × (wordAt value at ≡ hexOf (take (8 - i) (drop (at + i) value)) word))
