@@ -13,7 +13,7 @@ use Rattle.rtr_listing.specs.Promises.{listSaid}
 use Rattle.rtr_listing.specs.declared.ListAnswer.{ListAnswer}
 use Rattle.rtr_listing.proofs.Laws.{written-is, short-is}
 use Rattle.rtr_listed.specs.Listed.{readListing}
-use Rattle.rtr_listed.specs.Promises.{readAs}
+use Rattle.rtr_listed.specs.Promises.{readLeaves}
 use Rattle.rtr_diffs.specs.Diffs.{newRoomBy, diffText, diffSays, diffLeft}
 use Rattle.rtr_diffs.proofs.Laws.{diff-of-size, diff-off-size}
 use Rattle.rtr_encode.specs.Answers.{numberOf}
@@ -36,12 +36,12 @@ module _ (old new oldRoom newRoom out : List ℕ) where
   by-size p q true e =
       let fits : length bytes ≤ length out = leb-true (length bytes) (length out) e in
       let left = diff-of-size recordLimit old new oldRoom newRoom out p q in
-      let put = ap (λ (x : Encoded). diffLeftC (record { out = x; oldRoom = readAs recordLimit (readListing recordLimit old) .room; newRoom = newRoomBy recordLimit (readListing recordLimit old) (readListing recordLimit new) })) (written-is bytes out fits) in
+      let put = ap (λ (x : Encoded). diffLeftC (record { out = x; oldRoom = readLeaves recordLimit (readListing recordLimit old) .room; newRoom = newRoomBy recordLimit (readListing recordLimit old) (readListing recordLimit new) })) (written-is bytes out fits) in
       subst (DiffAnswers old new oldRoom newRoom out) (sym (ap diffLeftC left ∙ put)) (DiffAnswers.whole p q fits)
   by-size p q false e =
       let less : length out < length bytes = leb-false (length bytes) (length out) e in
       let left = diff-of-size recordLimit old new oldRoom newRoom out p q in
-      let put = ap (λ (x : Encoded). diffLeftC (record { out = x; oldRoom = readAs recordLimit (readListing recordLimit old) .room; newRoom = newRoomBy recordLimit (readListing recordLimit old) (readListing recordLimit new) })) (short-is bytes out less) in
+      let put = ap (λ (x : Encoded). diffLeftC (record { out = x; oldRoom = readLeaves recordLimit (readListing recordLimit old) .room; newRoom = newRoomBy recordLimit (readListing recordLimit old) (readListing recordLimit new) })) (short-is bytes out less) in
       subst (DiffAnswers old new oldRoom newRoom out) (sym (ap diffLeftC left ∙ put)) (DiffAnswers.short p q less)
 
   off : ((length oldRoom ≡ 6 * recordLimit) × (length newRoom ≡ 6 * recordLimit) → ⊥) → DiffAnswers old new oldRoom newRoom out (diffC old new oldRoom newRoom out)

@@ -29,7 +29,7 @@ use Rattle.rtr_origin.specs.declared.Route.{Route}
 use Rattle.rtr_origin.specs.declared.RouteFound.{RouteFound}
 use Rattle.rtr_origin.specs.declared.RouteState.{RouteState}
 use Rattle.rtr_listed.specs.Listed.{readListing}
-use Rattle.rtr_listed.specs.Promises.{readAs}
+use Rattle.rtr_listed.specs.Promises.{readLeaves}
 use Rattle.rtr_diffs.specs.Diffs.{newRoomBy, diffText}
 use Rattle.rtr_c.specs.Calls.{ReadLeft, readGives, EncodeLeft, encodeGives, DiffCLeft, diffGives, ValidateLeft, validateGives}
 
@@ -189,10 +189,10 @@ pub data DiffAnswers (old new oldRoom newRoom out : List ℕ) : DiffCLeft → Ty
       length newRoom ≡ 6 * recordLimit →
       length out < length (diffText recordLimit old new) →
       DiffAnswers old new oldRoom newRoom out
-      (diffGives 9 (length (diffText recordLimit old new)) (readAs recordLimit (readListing recordLimit old) .room) (newRoomBy recordLimit (readListing recordLimit old) (readListing recordLimit new)) out)
+      (diffGives 9 (length (diffText recordLimit old new)) (readLeaves recordLimit (readListing recordLimit old) .room) (newRoomBy recordLimit (readListing recordLimit old) (readListing recordLimit new)) out)
   whole : length oldRoom ≡ 6 * recordLimit →
       length newRoom ≡ 6 * recordLimit →
       length (diffText recordLimit old new) ≤ length out →
       DiffAnswers old new oldRoom newRoom out
-      (diffGives 0 (length (diffText recordLimit old new)) (readAs recordLimit (readListing recordLimit old) .room) (newRoomBy recordLimit (readListing recordLimit old) (readListing recordLimit new))
+      (diffGives 0 (length (diffText recordLimit old new)) (readLeaves recordLimit (readListing recordLimit old) .room) (newRoomBy recordLimit (readListing recordLimit old) (readListing recordLimit new))
       (diffText recordLimit old new ++ drop (length (diffText recordLimit old new)) out))

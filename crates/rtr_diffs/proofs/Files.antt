@@ -19,7 +19,7 @@ use Rattle.rtr_listing.specs.declared.ListAnswer.{ListAnswer}
 use Rattle.rtr_listing.specs.declared.ListError.{ListError}
 use Rattle.rtr_listed.specs.Listed.{Listed, Read, readListing}
 use Rattle.rtr_listed.specs.Listed.Read.{listed, misfit}
-use Rattle.rtr_listed.specs.Promises.{readAs}
+use Rattle.rtr_listed.specs.Promises.{readLeaves}
 use Rattle.rtr_listed.proofs.Calls.{WasListed}
 use Rattle.rtr_listed.proofs.Laws.{reads-exactly}
 use Rattle.rtr_changes.specs.Changes.{changes}
@@ -49,17 +49,17 @@ module _ (limit : ℕ) (s left : List ℕ) (head : Head) (was : WasListed limit 
   new-listed old out left′ r e =
       record {
         writes = e ∙ ap (λ (t : List Record). puts (changesLines (changes old t)) out) records-are ∙ ap (λ (x : Read). puts (afterOld old x) out) (sym (was .read));
-        room-is = was .room-is ∙ ap (λ (x : Read). readAs limit x .room) (sym (was .read));
+        room-is = was .room-is ∙ ap (λ (x : Read). readLeaves limit x .room) (sym (was .read));
       }
 
-pub new-refused : (limit : ℕ) (old : List Record) (s out left left′ : List ℕ) (n : ℕ) (r : ListAnswer) → readListing limit s ≡ misfit n → left ≡ readAs limit (readListing limit s) .room → leaves r left′ ≡ puts (refusalLines (text "new") n) out → NewRead limit old s out left′ left r
+pub new-refused : (limit : ℕ) (old : List Record) (s out left left′ : List ℕ) (n : ℕ) (r : ListAnswer) → readListing limit s ≡ misfit n → left ≡ readLeaves limit (readListing limit s) .room → leaves r left′ ≡ puts (refusalLines (text "new") n) out → NewRead limit old s out left′ left r
 new-refused limit old s out left left′ n r e room-left w = record { writes = w ∙ ap (λ (x : Read). puts (afterOld old x) out) (sym e); room-is = room-left }
 
 module _ (limit : ℕ) (old new oldRoom newRoom out : List ℕ) where
   -- both rooms have the size
   module _ (oldSize : length oldRoom ≡ 6 * limit) (newSize : length newRoom ≡ 6 * limit) where
     pub sized : diffSays limit old new oldRoom newRoom out
-        ≡ record { out = puts (diffRead (readListing limit old) (readListing limit new)) out; oldRoom = readAs limit (readListing limit old) .room; newRoom = newRoomBy limit (readListing limit old) (readListing limit new) }
+        ≡ record { out = puts (diffRead (readListing limit old) (readListing limit new)) out; oldRoom = readLeaves limit (readListing limit old) .room; newRoom = newRoomBy limit (readListing limit old) (readListing limit new) }
     unfolding diffSays diffText
     sized = simp (eq-eqb (length oldRoom) (6 * limit) oldSize, eq-eqb (length newRoom) (6 * limit) newSize)
 
@@ -67,19 +67,19 @@ module _ (limit : ℕ) (old new oldRoom newRoom out : List ℕ) where
         → diffLeft r oldLeft newLeft out′ ≡ diffSays limit old new oldRoom newRoom out
     old-listed v oldLeft newLeft out′ r e o n =
         (λ i. record { out = n .writes i; oldRoom = o i; newRoom = n .room-is i })
-        ∙ (λ i. record { out = puts (diffRead (sym e i) (readListing limit new)) out; oldRoom = readAs limit (sym e i) .room; newRoom = newRoomBy limit (sym e i) (readListing limit new) })
+        ∙ (λ i. record { out = puts (diffRead (sym e i) (readListing limit new)) out; oldRoom = readLeaves limit (sym e i) .room; newRoom = newRoomBy limit (sym e i) (readListing limit new) })
         ∙ sym sized
 
-    pub old-refused : (n : ℕ) (oldLeft newLeft out′ : List ℕ) (r : ListAnswer) → readListing limit old ≡ misfit n → oldLeft ≡ readAs limit (readListing limit old) .room → newLeft ≡ replicate (length newRoom) 0
+    pub old-refused : (n : ℕ) (oldLeft newLeft out′ : List ℕ) (r : ListAnswer) → readListing limit old ≡ misfit n → oldLeft ≡ readLeaves limit (readListing limit old) .room → newLeft ≡ replicate (length newRoom) 0
         → leaves r out′ ≡ puts (refusalLines (text "old") n) out → diffLeft r oldLeft newLeft out′ ≡ diffSays limit old new oldRoom newRoom out
     old-refused n oldLeft newLeft out′ r e o z w =
-        (λ i. record { out = w i; oldRoom = (o ∙ ap (λ (x : Read). readAs limit x .room) e) i; newRoom = (z ∙ ap (λ (k : ℕ). replicate k 0) newSize) i })
-        ∙ (λ i. record { out = puts (diffRead (sym e i) (readListing limit new)) out; oldRoom = readAs limit (sym e i) .room; newRoom = newRoomBy limit (sym e i) (readListing limit new) })
+        (λ i. record { out = w i; oldRoom = (o ∙ ap (λ (x : Read). readLeaves limit x .room) e) i; newRoom = (z ∙ ap (λ (k : ℕ). replicate k 0) newSize) i })
+        ∙ (λ i. record { out = puts (diffRead (sym e i) (readListing limit new)) out; oldRoom = readLeaves limit (sym e i) .room; newRoom = newRoomBy limit (sym e i) (readListing limit new) })
         ∙ sym sized
 
-  off : (a b : Bool) → a && b ≡ false → cond (a && b) (record { out = puts (diffText limit old new) out; oldRoom = readAs limit (readListing limit old) .room; newRoom = newRoomBy limit (readListing limit old) (readListing limit new) })
+  off : (a b : Bool) → a && b ≡ false → cond (a && b) (record { out = puts (diffText limit old new) out; oldRoom = readLeaves limit (readListing limit old) .room; newRoom = newRoomBy limit (readListing limit old) (readListing limit new) })
       (record { out = record { says = refused 22 []; out = out }; oldRoom = oldRoom; newRoom = newRoom }) ≡ diffLeft (ListAnswer.Refused ListError.NotAReceiver) oldRoom newRoom out
-  off a b e = ap (λ (x : Bool). cond x (record { out = puts (diffText limit old new) out; oldRoom = readAs limit (readListing limit old) .room; newRoom = newRoomBy limit (readListing limit old) (readListing limit new) })
+  off a b e = ap (λ (x : Bool). cond x (record { out = puts (diffText limit old new) out; oldRoom = readLeaves limit (readListing limit old) .room; newRoom = newRoomBy limit (readListing limit old) (readListing limit new) })
       (record { out = record { says = refused 22 []; out = out }; oldRoom = oldRoom; newRoom = newRoom })) e
 
   pub old-off-size : (length oldRoom ≡ 6 * limit → ⊥) → diffLeft (ListAnswer.Refused ListError.NotAReceiver) oldRoom newRoom out ≡ diffSays limit old new oldRoom newRoom out

@@ -17,7 +17,7 @@ use Rattle.rtr_listing.specs.Promises.{puts}
 use Rattle.rtr_listing.proofs.Laws.{written-is}
 use Rattle.rtr_listed.specs.Listed.{Listed, Read, readListing}
 use Rattle.rtr_listed.specs.Listed.Read.{listed, misfit}
-use Rattle.rtr_listed.specs.Promises.{readAs}
+use Rattle.rtr_listed.specs.Promises.{readLeaves}
 use Rattle.rtr_listed.proofs.Laws.{reads-exactly, front-is-enough, empty-is-refused}
 use Rattle.rtr_changes.specs.Changes.{changes, Applies, howOften}
 use Rattle.rtr_changes.proofs.Laws.{changes-at-most, changes-apply, once-or-never, no-changes-exactly}
@@ -103,7 +103,7 @@ diff-at-most limit old new = go (readListing limit old) refl (readListing limit 
 
 -- with rooms of the size: the text, or 9, and each room as reading its file leaves it
 pub diff-of-size : (limit : ℕ) (old new oldRoom newRoom out : List ℕ) → length oldRoom ≡ 6 * limit → length newRoom ≡ 6 * limit
-    → diffSays limit old new oldRoom newRoom out ≡ record { out = puts (diffText limit old new) out; oldRoom = readAs limit (readListing limit old) .room; newRoom = newRoomBy limit (readListing limit old) (readListing limit new) }
+    → diffSays limit old new oldRoom newRoom out ≡ record { out = puts (diffText limit old new) out; oldRoom = readLeaves limit (readListing limit old) .room; newRoom = newRoomBy limit (readListing limit old) (readListing limit new) }
 unfolding diffText
 diff-of-size = sized
 

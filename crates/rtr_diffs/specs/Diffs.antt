@@ -13,7 +13,7 @@ use Rattle.rtr_listing.specs.Promises.{puts, listSaid}
 use Rattle.rtr_listing.specs.declared.ListAnswer.{ListAnswer}
 use Rattle.rtr_listed.specs.Listed.{Read, readListing}
 use Rattle.rtr_listed.specs.Listed.Read.{listed, misfit}
-use Rattle.rtr_listed.specs.Promises.{readAs}
+use Rattle.rtr_listed.specs.Promises.{readLeaves}
 use Rattle.rtr_changes.specs.Changes.{changes}
 
 -- ---- the text
@@ -59,7 +59,7 @@ pub record DiffLeft : Type 0 where
 
 -- a refused old file leaves no table in either room
 abbrev pub newRoomBy : ℕ → Read → Read → List ℕ
-newRoomBy limit (listed old) new = readAs limit new .room
+newRoomBy limit (listed old) new = readLeaves limit new .room
 newRoomBy limit (misfit number) new = replicate (6 * limit) 0
 
 -- 22 where a room has not the size of the limit, and nothing changes; then 9 with how much is needed, or the text. Each room is left as reading its file leaves it; where the old file is
@@ -69,7 +69,7 @@ diffSays limit old new oldRoom newRoom out =
     cond (eqb (length oldRoom) (6 * limit) && eqb (length newRoom) (6 * limit))
     (record {
       out = puts (diffText limit old new) out;
-      oldRoom = readAs limit (readListing limit old) .room;
+      oldRoom = readLeaves limit (readListing limit old) .room;
       newRoom = newRoomBy limit (readListing limit old) (readListing limit new);
     })
     (record { out = record { says = refused 22 []; out = out }; oldRoom = oldRoom; newRoom = newRoom })

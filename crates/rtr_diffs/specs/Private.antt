@@ -11,7 +11,7 @@ use Rattle.rtr_receiver.specs.History.{Changed}
 use Rattle.rtr_listing.specs.Promises.{leaves, puts}
 use Rattle.rtr_listing.specs.declared.ListAnswer.{ListAnswer}
 use Rattle.rtr_listed.specs.Listed.{readListing}
-use Rattle.rtr_listed.specs.Promises.{readAs}
+use Rattle.rtr_listed.specs.Promises.{readLeaves}
 use Rattle.rtr_diffs.specs.Diffs.{changesLines, afterOld}
 
 -- a change of one side
@@ -34,4 +34,4 @@ behindOf at (ListAnswer.Refused error) = at
 -- what the new file comes to, behind an old table: the text, and its room
 pub record NewRead (limit : ℕ) (old : List Record) (new out left lent : List ℕ) (r : ListAnswer) : Type 0 where
   pub writes : leaves r left ≡ puts (afterOld old (readListing limit new)) out
-  pub room-is : lent ≡ readAs limit (readListing limit new) .room
+  pub room-is : lent ≡ readLeaves limit (readListing limit new) .room

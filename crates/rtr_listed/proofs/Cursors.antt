@@ -8,7 +8,7 @@ use lib.Dec.{leb}
 use lib.ListN.{length, take, drop, length-drop}
 use lib.Seq.{length-take-le}
 use Rattle.rtr_listing.specs.Listing.{Field}
-use Rattle.rtr_listed.specs.Listed.{Line, Fit, Place, fitting, leading, sameText, named, numberIn, addressIn, wordsIn, countWidths, onLine, atEnd, orMisfit, fitLine, readFrom}
+use Rattle.rtr_listed.specs.Listed.{Line, Fit, Due, fitting, leading, sameText, named, numberIn, addressIn, wordsIn, countWidths, onLine, atEnd, orMisfit, fitLine, readFrom}
 use Rattle.rtr_listed.specs.Listed.Fit.{fits, misfits}
 use Rattle.rtr_listed.specs.Listed.Read.{misfit}
 use Rattle.rtr_listed.specs.Private.{numberSaid, lineGives, behind, linesAt, readOn, refusedAt, pastEnd, Near, Took, NumberTook, numberTook, narrowed, between, ValueAt, ValueIs}
@@ -137,16 +137,16 @@ module _ (s : List ℕ) (c : Cursor) (name : List ℕ) (most : ℕ) (q : ℕ →
 -- ---- what reading comes to from a cursor on
 
 -- where the lines before it fitted, what the lines there come to
-pub read-on : (limit : ℕ) (s : List ℕ) (place : Place) (c : Cursor) → c .fits ≡ true → readOn limit s place c ≡ readFrom countWidths limit place (c .line) (linesAt s c)
+pub read-on : (limit : ℕ) (s : List ℕ) (place : Due) (c : Cursor) → c .fits ≡ true → readOn limit s place c ≡ readFrom countWidths limit place (c .line) (linesAt s c)
 unfolding readOn
 read-on limit s place c e = ap (λ (b : Bool). cond b (readFrom countWidths limit place (c .line) (linesAt s c)) (misfit (c .line))) e
 
 -- a cursor that stays at a line is a misfit there
-pub read-off : (limit : ℕ) (s : List ℕ) (place : Place) (c : Cursor) → c .fits ≡ false → readOn limit s place c ≡ misfit (c .line)
+pub read-off : (limit : ℕ) (s : List ℕ) (place : Due) (c : Cursor) → c .fits ≡ false → readOn limit s place c ≡ misfit (c .line)
 unfolding readOn
 read-off limit s place c e = ap (λ (b : Bool). cond b (readFrom countWidths limit place (c .line) (linesAt s c)) (misfit (c .line))) e
 
-module _ {A : Type 0} (reads : List ℕ → Fit A) (next : A → Place) (limit : ℕ) (place : Place) (due : (b : List ℕ) → onLine countWidths limit place b ≡ leading next (reads b)) (open′ : (n : ℕ) → atEnd place n ≡ misfit n) where
+module _ {A : Type 0} (reads : List ℕ → Fit A) (next : A → Due) (limit : ℕ) (place : Due) (due : (b : List ℕ) → onLine countWidths limit place b ≡ leading next (reads b)) (open′ : (n : ℕ) → atEnd place n ≡ misfit n) where
   line-leads : (l : Line) (b : Bool) → l .ended ≡ b → fitLine countWidths limit place l ≡ leading next (cond b (reads (l .bytes)) misfits)
   line-leads l true e = ap (λ (x : Bool). cond x (onLine countWidths limit place (l .bytes)) misfits) e ∙ due (l .bytes)
   line-leads l false e = ap (λ (x : Bool). cond x (onLine countWidths limit place (l .bytes)) misfits) e
@@ -154,12 +154,12 @@ module _ {A : Type 0} (reads : List ℕ → Fit A) (next : A → Place) (limit :
   reads-on : (ls : List Line) (n : ℕ) (a : A) → lineGives reads ls ≡ fits a → readFrom countWidths limit place n ls ≡ readFrom countWidths limit (next a) (suc n) (behind ls)
   unfolding readFrom
   reads-on [] n a e = let z : _≡_ {A = ℕ} 0 1 = cc in absurd (omega arith)
-  reads-on (l ∷ ls) n a e = ap (λ (x : Fit Place). orMisfit n x (λ p. readFrom countWidths limit p (suc n) ls)) (line-leads l (l .ended) refl ∙ ap (leading next) e)
+  reads-on (l ∷ ls) n a e = ap (λ (x : Fit Due). orMisfit n x (λ p. readFrom countWidths limit p (suc n) ls)) (line-leads l (l .ended) refl ∙ ap (leading next) e)
 
   reads-off : (ls : List Line) (n : ℕ) → lineGives reads ls ≡ misfits → readFrom countWidths limit place n ls ≡ misfit n
   unfolding readFrom
   reads-off [] n e = open′ n
-  reads-off (l ∷ ls) n e = ap (λ (x : Fit Place). orMisfit n x (λ p. readFrom countWidths limit p (suc n) ls)) (line-leads l (l .ended) refl ∙ ap (leading next) e)
+  reads-off (l ∷ ls) n e = ap (λ (x : Fit Due). orMisfit n x (λ p. readFrom countWidths limit p (suc n) ls)) (line-leads l (l .ended) refl ∙ ap (leading next) e)
 
   pub took-stands : (s : List ℕ) (c : Cursor) (a : A) (c′ : Cursor) → Took reads s c a c′ → readOn limit s place c ≡ readOn limit s (next a) c′
   took-stands s c a c′ (took f g t nf nl) = read-on limit s place c f ∙ reads-on (linesAt s c) (c .line) a g ∙ (λ i. readFrom countWidths limit (next a) (sym nl i) (t i)) ∙ sym (read-on limit s (next a) c′ nf)
@@ -171,9 +171,9 @@ module _ {A : Type 0} (reads : List ℕ → Fit A) (next : A → Place) (limit :
 
 -- one of the table's numbers
 pub field-stands : (limit stopped : ℕ) (ns : List ℕ) (f : Field) (fs : List Field) (s : List ℕ) (c : Cursor) (n : ℕ) (c′ : Cursor) → Took (named (f .name) (numberIn (λ k. leb k (f .most)))) s c n c′
-    → readOn limit s (Place.numbersDue stopped ns (f ∷ fs)) c ≡ readOn limit s (Place.numbersDue stopped (ns ++ n ∷ []) fs) c′
+    → readOn limit s (Due.numbersDue stopped ns (f ∷ fs)) c ≡ readOn limit s (Due.numbersDue stopped (ns ++ n ∷ []) fs) c′
 field-stands limit stopped ns f fs s c n c′ t =
-    took-stands (named (f .name) (numberIn (λ k. leb k (f .most)))) (λ k. Place.numbersDue stopped (ns ++ k ∷ []) fs) limit (Place.numbersDue stopped ns (f ∷ fs)) (λ b. refl) (λ k. refl) s c n c′ t
+    took-stands (named (f .name) (numberIn (λ k. leb k (f .most)))) (λ k. Due.numbersDue stopped (ns ++ k ∷ []) fs) limit (Due.numbersDue stopped ns (f ∷ fs)) (λ b. refl) (λ k. refl) s c n c′ t
 
 -- a line read as it fits says so of the lines before it
 pub took-fits : {A : Type 0} (reads : List ℕ → Fit A) (s : List ℕ) (c : Cursor) (a : A) (c′ : Cursor) → Took reads s c a c′ → c′ .fits ≡ true → (c .fits ≡ true) × (lineGives reads (linesAt s c) ≡ fits a)

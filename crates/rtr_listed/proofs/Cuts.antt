@@ -9,22 +9,22 @@ use lib.Dec.{eqb}
 use lib.ListN.{length, take}
 use Rattle.rtr_room.specs.declared.Record.{Record}
 use Rattle.rtr_listing.specs.declared.Head.{Head}
-use Rattle.rtr_listed.specs.Listed.{Fit, Place, Read, Listed, feeds, countWidths, onLine, atEnd, orMisfit, readListing}
+use Rattle.rtr_listed.specs.Listed.{Fit, Due, Read, Listed, feeds, countWidths, onLine, atEnd, orMisfit, readListing}
 use Rattle.rtr_listed.specs.Listed.Fit.{fits, misfits}
-use Rattle.rtr_listed.specs.Listed.Place.{stopDue, endDue}
+use Rattle.rtr_listed.specs.Listed.Due.{stopDue, endDue}
 use Rattle.rtr_listed.specs.Listed.Read.{listed, misfit}
 use Rattle.rtr_listed.proofs.Whole.{ending}
 use Rattle.rtr_listed.proofs.Bytes.{lastBytes, readBytes, read-bytes, end-bytes}
 
 -- what a text comes to behind a line, by whether it fits
-behind-line : (n : ℕ) (x : Fit Place) (v : Listed) (rest other : Place → Read) (m : ℕ) → ((next : Place) → rest next ≡ listed v → other next ≡ misfit m)
+behind-line : (n : ℕ) (x : Fit Due) (v : Listed) (rest other : Due → Read) (m : ℕ) → ((next : Due) → rest next ≡ listed v → other next ≡ misfit m)
     → orMisfit n x rest ≡ listed v → orMisfit n x other ≡ misfit m
 behind-line n (fits next) v rest other m h e = h next e
 behind-line n misfits v rest other m h e = let z : _≡_ {A = ℕ} 0 1 = cc in absurd (omega arith)
 
 -- a byte read alike in two texts of which one is read and the other refused
-module _ (limit : ℕ) (p : Place) (n : ℕ) (b : List ℕ) (c : ℕ) (s t u : List ℕ) (v : Listed) where
-  byte-alike : ((next : Place) → readBytes limit next (suc n) [] s ≡ listed v → readBytes limit next (suc n) [] t ≡ misfit (suc n + feeds u))
+module _ (limit : ℕ) (p : Due) (n : ℕ) (b : List ℕ) (c : ℕ) (s t u : List ℕ) (v : Listed) where
+  byte-alike : ((next : Due) → readBytes limit next (suc n) [] s ≡ listed v → readBytes limit next (suc n) [] t ≡ misfit (suc n + feeds u))
       → (readBytes limit p n (b ++ c ∷ []) s ≡ listed v → readBytes limit p n (b ++ c ∷ []) t ≡ misfit (n + feeds u))
       → readBytes limit p n b (c ∷ s) ≡ listed v → readBytes limit p n b (c ∷ t) ≡ misfit (n + feeds (c ∷ u))
   unfolding readBytes feeds
@@ -40,18 +40,18 @@ module _ (limit : ℕ) (p : Place) (n : ℕ) (b : List ℕ) (c : ℕ) (s t u : L
       go false q = more q
 
 -- where bytes are read there is no end
-not-end : (limit : ℕ) (p : Place) (n : ℕ) (b : List ℕ) (c : ℕ) (s : List ℕ) (v : Listed) → readBytes limit p n b (c ∷ s) ≡ listed v → lastBytes p n b ≡ misfit n
+not-end : (limit : ℕ) (p : Due) (n : ℕ) (b : List ℕ) (c : ℕ) (s : List ℕ) (v : Listed) → readBytes limit p n b (c ∷ s) ≡ listed v → lastBytes p n b ≡ misfit n
 not-end limit p n (d ∷ b) c s v e = refl
 not-end limit p n [] c s v e = go (ending p n)
   where
     go : (atEnd p n ≡ misfit n) ⊎ ((h : Head) × (t : List Record) × (p ≡ endDue h t)) → atEnd p n ≡ misfit n
     go (inl m) = m
     go (inr (h, t, q)) =
-        let none : readBytes limit p n [] (c ∷ s) ≡ misfit n = ap (λ (x : Place). readBytes limit x n [] (c ∷ s)) q ∙ end-bytes limit h t n [] c s in
+        let none : readBytes limit p n [] (c ∷ s) ≡ misfit n = ap (λ (x : Due). readBytes limit x n [] (c ∷ s)) q ∙ end-bytes limit h t n [] c s in
         let z : _≡_ {A = ℕ} 0 1 = cc in
         absurd (omega arith)
 
-cut-bytes : (limit : ℕ) (p : Place) (n k : ℕ) (b s : List ℕ) (v : Listed) → readBytes limit p n b s ≡ listed v → k < length s
+cut-bytes : (limit : ℕ) (p : Due) (n k : ℕ) (b s : List ℕ) (v : Listed) → readBytes limit p n b s ≡ listed v → k < length s
     → readBytes limit p n b (take k s) ≡ misfit (n + feeds (take k s))
 unfolding readBytes feeds
 cut-bytes limit p n k b [] v e h = absurd (omega arith)
@@ -60,7 +60,7 @@ cut-bytes limit p n (suc k) b (c ∷ s) v e h =
     byte-alike limit p n b c s (take k s) (take k s) v (λ next q. cut-bytes limit next (suc n) k [] s v q (omega arith))
     (λ q. cut-bytes limit p n k (b ++ c ∷ []) s v q (omega arith)) e
 
-more-bytes : (limit : ℕ) (p : Place) (n : ℕ) (b s : List ℕ) (c : ℕ) (more : List ℕ) (v : Listed) → readBytes limit p n b s ≡ listed v
+more-bytes : (limit : ℕ) (p : Due) (n : ℕ) (b s : List ℕ) (c : ℕ) (more : List ℕ) (v : Listed) → readBytes limit p n b s ≡ listed v
     → readBytes limit p n b (s ++ c ∷ more) ≡ misfit (n + feeds s)
 unfolding readBytes feeds
 more-bytes limit p n (d ∷ b) [] c more v e = let z : _≡_ {A = ℕ} 0 1 = cc in absurd (omega arith)
@@ -70,7 +70,7 @@ more-bytes limit p n [] [] c more v e = go (ending p n)
     go (inl m) = let z : _≡_ {A = ℕ} 0 1 = cc in absurd (omega arith)
     go (inr (h, t, q)) =
         let here : n ≡ n + 0 = omega arith in
-        ap (λ (x : Place). readBytes limit x n [] (c ∷ more)) q ∙ end-bytes limit h t n [] c more ∙ ap misfit here
+        ap (λ (x : Due). readBytes limit x n [] (c ∷ more)) q ∙ end-bytes limit h t n [] c more ∙ ap misfit here
 more-bytes limit p n b (d ∷ s) c more v e =
     byte-alike limit p n b d s (s ++ c ∷ more) s v (λ next q. more-bytes limit next (suc n) [] s c more v q)
     (λ q. more-bytes limit p n (b ++ d ∷ []) s c more v q) e

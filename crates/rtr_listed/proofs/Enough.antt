@@ -10,9 +10,9 @@ use Rattle.rtr_room.specs.declared.Record.{Record}
 use Rattle.rtr_listing.specs.Listing.{Field, text, decimal, lineOf, line, tableFields, fieldLines, headLines, addressOf, recordLines, allLines}
 use Rattle.rtr_listing.specs.declared.Head.{Head}
 use Rattle.rtr_listing.proofs.Laws.{line-length, number-at-most, address-at-most, field-lines-next, field-lines-none, all-none, all-first, head-at-most, record-at-most}
-use Rattle.rtr_listed.specs.Listed.{Fit, Place, countWidths, recordOf, onLine, orMisfit, readListing}
+use Rattle.rtr_listed.specs.Listed.{Fit, Due, countWidths, recordOf, onLine, orMisfit, readListing}
 use Rattle.rtr_listed.specs.Listed.Fit.{fits, misfits}
-use Rattle.rtr_listed.specs.Listed.Place.{stopDue, secondDue, numbersDue, familyDue, addressDue, lengthDue, maxDue, asnDue, endDue}
+use Rattle.rtr_listed.specs.Listed.Due.{stopDue, secondDue, numbersDue, familyDue, addressDue, lengthDue, maxDue, asnDue, endDue}
 use Rattle.rtr_listed.specs.Listed.Read.{misfit}
 use Rattle.rtr_listed.specs.declared.Words.{Words}
 use Rattle.rtr_listed.proofs.Written.{ended, front, familySo, addressSo, lengthSo, maxSo, written, Within, Behind, Good, leads}
@@ -71,7 +71,7 @@ max-most f w l m = omega (arith, length-append (lengthSo f w l) (line "max=" (de
 so-most : (limit : ℕ) (h : Head) (t : List Record) (so : List ℕ) → Behind limit h t → length t < h .count → length so ≤ 128 → length (front h t ++ so) ≤ 131200
 so-most limit h t so g few low = omega (arith, length-append (front h t) so, front-at-most h t, g .head .written)
 
-pub written-at-most : (limit : ℕ) (p : Place) → Good limit p → length (written p) ≤ 131200
+pub written-at-most : (limit : ℕ) (p : Due) → Good limit p → length (written p) ≤ 131200
 written-at-most limit stopDue g = omega arith
 written-at-most limit (secondDue n) g = omega (arith, number-at-most (text "stopped=") n)
 written-at-most limit (numbersDue n ns fs) g =
@@ -93,26 +93,26 @@ written-at-most limit (endDue h t) g = omega (arith, front-at-most h t, g .0 .he
 -- ---- a line that is over it does not fit
 
 -- where a line leads, the text before it is longer by it and its line feed
-longer-by : (limit : ℕ) (b : List ℕ) (p next : Place) → Good limit p → onLine countWidths limit p b ≡ fits next
+longer-by : (limit : ℕ) (b : List ℕ) (p next : Due) → Good limit p → onLine countWidths limit p b ≡ fits next
     → Good limit next × (length (written next) ≡ length (written p) + length b + 1)
 longer-by limit b p next g e =
     let to = leads limit b next p g e in
     (to .1, ap length (to .0) ∙ length-append (written p) (ended b) ∙ omega (arith, length-append b (10 ∷ [])))
 
-over-misfits : (limit : ℕ) (p : Place) (n : ℕ) (b s : List ℕ) → Good limit p → 131200 < length (written p) + length b → readBytes limit p n b s ≡ misfit n
+over-misfits : (limit : ℕ) (p : Due) (n : ℕ) (b s : List ℕ) → Good limit p → 131200 < length (written p) + length b → readBytes limit p n b s ≡ misfit n
 unfolding readBytes
 over-misfits limit p n [] [] g h = absurd (omega (arith, written-at-most limit p g))
 over-misfits limit p n (c ∷ b) [] g h = refl
 over-misfits limit p n b (c ∷ s) g h =
     go (eqb c 10) (onLine countWidths limit p b) refl (over-misfits limit p n (b ++ c ∷ []) s g (omega (arith, length-append b (c ∷ []))))
   where
-    go : (d : Bool) (x : Fit Place) → onLine countWidths limit p b ≡ x → readBytes limit p n (b ++ c ∷ []) s ≡ misfit n
+    go : (d : Bool) (x : Fit Due) → onLine countWidths limit p b ≡ x → readBytes limit p n (b ++ c ∷ []) s ≡ misfit n
         → cond d (orMisfit n x (λ next. readBytes limit next (suc n) [] s)) (readBytes limit p n (b ++ c ∷ []) s) ≡ misfit n
     go true (fits next) e more = let l = longer-by limit b p next g e in absurd (omega (arith, l .1, written-at-most limit next (l .0)))
     go true misfits e more = refl
     go false x e more = more
 
-enough-bytes : (limit : ℕ) (p : Place) (n k : ℕ) (b s : List ℕ) → Good limit p → 131200 < length (written p) + length b + k
+enough-bytes : (limit : ℕ) (p : Due) (n k : ℕ) (b s : List ℕ) → Good limit p → 131200 < length (written p) + length b + k
     → readBytes limit p n b (take k s) ≡ readBytes limit p n b s
 unfolding readBytes
 enough-bytes limit p n zero b s g h = over-misfits limit p n b [] g (omega arith) ∙ sym (over-misfits limit p n b s g (omega arith))
@@ -122,8 +122,8 @@ enough-bytes limit p n (suc k) b (c ∷ s) g h =
     (λ next to long. enough-bytes limit next (suc n) k [] s to (omega arith))
     (enough-bytes limit p n k (b ++ c ∷ []) s g (omega (arith, length-append b (c ∷ []))))
   where
-    go : (d : Bool) (x : Fit Place) → onLine countWidths limit p b ≡ x
-        → ((next : Place) → Good limit next → length (written next) ≡ length (written p) + length b + 1
+    go : (d : Bool) (x : Fit Due) → onLine countWidths limit p b ≡ x
+        → ((next : Due) → Good limit next → length (written next) ≡ length (written p) + length b + 1
         → readBytes limit next (suc n) [] (take k s) ≡ readBytes limit next (suc n) [] s)
         → readBytes limit p n (b ++ c ∷ []) (take k s) ≡ readBytes limit p n (b ++ c ∷ []) s
         → cond d (orMisfit n x (λ next. readBytes limit next (suc n) [] (take k s))) (readBytes limit p n (b ++ c ∷ []) (take k s))

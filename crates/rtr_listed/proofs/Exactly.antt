@@ -17,7 +17,7 @@ use Rattle.rtr_listing.specs.declared.Head.{Head}
 use Rattle.rtr_listed.specs.Listed.{Listed, Read, readListing, listingText}
 use Rattle.rtr_listed.specs.Listed.Read.{listed, misfit}
 use Rattle.rtr_listed.specs.Fits.{ListingFits}
-use Rattle.rtr_listed.specs.Promises.{ListedSays, ListedLeft, listedSaid, headOf, readAs, listedSays}
+use Rattle.rtr_listed.specs.Promises.{ListedSays, ListedLeft, listedSaid, listedHead, readLeaves, listedSays}
 use Rattle.rtr_listed.specs.Promises.ListedSays.{says, refused}
 use Rattle.rtr_listed.specs.declared.ListedError.{ListedError}
 use Rattle.rtr_listed.specs.declared.ListedAnswer.{ListedAnswer}
@@ -31,7 +31,7 @@ use Rattle.rtr_listed.proofs.read_listing.Reads as reads
 -- the three ways
 data Comes (limit : ℕ) (s lent : List ℕ) (said : ListedSays) (left : List ℕ) : Type 0 where
   off : (length lent ≡ 6 * limit → ⊥) → said ≡ refused 22 [] → left ≡ lent → Comes limit s lent said left
-  read : length lent ≡ 6 * limit → (v : Listed) → readListing limit s ≡ listed v → said ≡ says (headOf v) → left ≡ room limit (v .records)
+  read : length lent ≡ 6 * limit → (v : Listed) → readListing limit s ≡ listed v → said ≡ says (listedHead v) → left ≡ room limit (v .records)
       → Comes limit s lent said left
   misread : length lent ≡ 6 * limit → (n : ℕ) → readListing limit s ≡ misfit n → said ≡ refused 24 (n ∷ []) → left ≡ replicate (6 * limit) 0
       → Comes limit s lent said left
@@ -41,7 +41,7 @@ abbrev Holds : ℕ → List ℕ → List ℕ → Listed → Type 0
 Holds limit s lent v = (length lent ≡ 6 * limit) × (s ≡ listingText v) × ListingFits limit v
 
 -- the same head and the same room are the same values
-same-values : (limit : ℕ) (v w : Listed) → headOf v ≡ headOf w → room limit (v .records) ≡ room limit (w .records) → v ≡ w
+same-values : (limit : ℕ) (v w : Listed) → listedHead v ≡ listedHead w → room limit (v .records) ≡ room limit (w .records) → v ≡ w
 same-values limit v w head rooms =
     let count : length (v .records) ≡ length (w .records) = ap (λ (h : Head). h .count) head in
     let all : v .records ≡ w .records = sym (records-of-room limit (v .records)) ∙ (λ i. records (count i) (rooms i)) ∙ records-of-room limit (w .records) in
@@ -54,10 +54,10 @@ module _ (limit : ℕ) (s lent : List ℕ) (said : ListedSays) (left : List ℕ)
       is : (x : ListedLeft) → record { answer = said; room = left } ≡ x → (said ≡ x .answer) × (left ≡ x .room)
       is x e = (ap (λ (y : ListedLeft). y .answer) e, ap (λ (y : ListedLeft). y .room) e)
 
-      by : length lent ≡ 6 * limit → (x : Read) → readListing limit s ≡ x → record { answer = said; room = left } ≡ readAs limit x
+      by : length lent ≡ 6 * limit → (x : Read) → readListing limit s ≡ x → record { answer = said; room = left } ≡ readLeaves limit x
           → Comes limit s lent said left
-      by size (listed v) e q = let k = is (readAs limit (listed v)) q in read size v e (k .0) (k .1)
-      by size (misfit n) e q = let k = is (readAs limit (misfit n)) q in misread size n e (k .0) (k .1)
+      by size (listed v) e q = let k = is (readLeaves limit (listed v)) q in read size v e (k .0) (k .1)
+      by size (misfit n) e q = let k = is (readLeaves limit (misfit n)) q in misread size n e (k .0) (k .1)
 
       go : (b : Bool) → eqb (length lent) (6 * limit) ≡ b → Comes limit s lent said left
       go true e = let size = eqb-true (length lent) (6 * limit) e in by size (readListing limit s) refl (p ∙ sym (of-size limit s lent size))
@@ -111,33 +111,33 @@ module _ (limit : ℕ) (s lent : List ℕ) (said : ListedSays) (left : List ℕ)
       go (misread size m k a r) = r
 
   -- a head: the text is the listing of values that fit and have it, and the room is theirs
-  listed-is : (h : Head) → said ≡ says h → (v : Listed) × (headOf v ≡ h) × (left ≡ room limit (v .records)) × Holds limit s lent v
+  listed-is : (h : Head) → said ≡ says h → (v : Listed) × (listedHead v ≡ h) × (left ≡ room limit (v .records)) × Holds limit s lent v
   listed-is h e = go comes
     where
-      go : Comes limit s lent said left → (v : Listed) × (headOf v ≡ h) × (left ≡ room limit (v .records)) × Holds limit s lent v
+      go : Comes limit s lent said left → (v : Listed) × (listedHead v ≡ h) × (left ≡ room limit (v .records)) × Holds limit s lent v
       go (off size a r) = let z : _≡_ {A = ℕ} 0 1 = cc in absurd (omega arith)
       go (read size v k a r) =
-          let same : headOf v ≡ h = cc in
+          let same : listedHead v ≡ h = cc in
           let exact = reads-exactly limit s v .0 k in
           (v, same, r, (size, exact .0, exact .1))
       go (misread size n k a r) = let z : _≡_ {A = ℕ} 0 1 = cc in absurd (omega arith)
 
   -- exactly then
-  listed-exactly : (v : Listed) → ((said ≡ says (headOf v)) × (left ≡ room limit (v .records))) ↔ Holds limit s lent v
+  listed-exactly : (v : Listed) → ((said ≡ says (listedHead v)) × (left ≡ room limit (v .records))) ↔ Holds limit s lent v
   listed-exactly v = (λ e. there e, λ h. back comes (h .0) (reads-exactly limit s v .1 (h .1, h .2)))
     where
-      there : (said ≡ says (headOf v)) × (left ≡ room limit (v .records)) → Holds limit s lent v
+      there : (said ≡ says (listedHead v)) × (left ≡ room limit (v .records)) → Holds limit s lent v
       there e =
-          let is = listed-is (headOf v) (e .0) in
+          let is = listed-is (listedHead v) (e .0) in
           let same : is .0 ≡ v = same-values limit (is .0) v (is .1) (sym (is .2) ∙ e .1) in
           subst (Holds limit s lent) same (is .3)
 
       back : Comes limit s lent said left → length lent ≡ 6 * limit → readListing limit s ≡ listed v
-          → (said ≡ says (headOf v)) × (left ≡ room limit (v .records))
+          → (said ≡ says (listedHead v)) × (left ≡ room limit (v .records))
       back (off size a r) h k = absurd (size h)
       back (read size w e a r) h k =
           let same : w ≡ v = cc in
-          (a ∙ ap (λ (x : Listed). says (headOf x)) same, r ∙ ap (λ (x : Listed). room limit (x .records)) same)
+          (a ∙ ap (λ (x : Listed). says (listedHead x)) same, r ∙ ap (λ (x : Listed). room limit (x .records)) same)
       back (misread size n e a r) h k = let z : _≡_ {A = ℕ} 0 1 = cc in absurd (omega arith)
 
 -- ---- of the call, by its promise
@@ -175,13 +175,13 @@ module _ (κs : _) (a : _) (r : _) (st : _) (p : reads.Post κs a r st) where
   read-listing-24-zeros n e = misread-zeros recordLimit listing lent (listedSaid r) left p n (ap listedSaid e)
 
   -- the answer is a head exactly if the text is the listing of some fitting values with that head; then the room is theirs
-  pub read-listing-exactly : (v : Listed) → ((r ≡ ListedAnswer.Listed (headOf v)) × (left ≡ room recordLimit (v .records)))
+  pub read-listing-exactly : (v : Listed) → ((r ≡ ListedAnswer.Listed (listedHead v)) × (left ≡ room recordLimit (v .records)))
       ↔ ((length lent ≡ 6 * recordLimit) × (listing ≡ listingText v) × ListingFits recordLimit v)
   read-listing-exactly v =
       let k = listed-exactly recordLimit listing lent (listedSaid r) left p v in
-      (λ e. k .0 (ap listedSaid (e .0), e .1), λ h. let x = k .1 h in (said-is r (says (headOf v)) (x .0), x .1))
+      (λ e. k .0 (ap listedSaid (e .0), e .1), λ h. let x = k .1 h in (said-is r (says (listedHead v)) (x .0), x .1))
 
   pub read-listing-head : (h : Head) → r ≡ ListedAnswer.Listed h
-      → (v : Listed) × (headOf v ≡ h) × (left ≡ room recordLimit (v .records))
+      → (v : Listed) × (listedHead v ≡ h) × (left ≡ room recordLimit (v .records))
       × ((length lent ≡ 6 * recordLimit) × (listing ≡ listingText v) × ListingFits recordLimit v)
   read-listing-head h e = listed-is recordLimit listing lent (listedSaid r) left p h (ap listedSaid e)

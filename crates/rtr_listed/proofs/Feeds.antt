@@ -9,7 +9,7 @@ use lib.Dec.{eqb, leb}
 use Rattle.rtr_room.proofs.Laws.Tests.{first-of, second-of, both}
 use Rattle.rtr_listing.specs.Digits.{isDecimal, areDecimal, isHex, areHex}
 use Rattle.rtr_listing.proofs.Laws.{decimal-next, hex-next}
-use Rattle.rtr_listed.specs.Listed.{Line, begun, linesOf}
+use Rattle.rtr_listed.specs.Listed.{Line, inFront, linesOf}
 use Rattle.rtr_listed.proofs.Values.{hex-range}
 
 -- no byte is a line feed
@@ -44,37 +44,37 @@ hex-no-feed (c ∷ s) h =
     no-feed-here c s (λ e. omega (arith, e, range .0)) (hex-no-feed s (second-of (isHex c) _ k))
 
 -- another byte goes before the first line
-line-begins : (c : ℕ) (s : List ℕ) → not (eqb c 10) ≡ true → linesOf (c ∷ s) ≡ begun c (linesOf s)
+line-begins : (c : ℕ) (s : List ℕ) → not (eqb c 10) ≡ true → linesOf (c ∷ s) ≡ inFront c (linesOf s)
 unfolding linesOf
-line-begins c s h = ap (λ (x : Bool). cond x (record { bytes = []; ended = true } ∷ linesOf s) (begun c (linesOf s))) (not-true (eqb c 10) h)
+line-begins c s h = ap (λ (x : Bool). cond x (record { bytes = []; ended = true } ∷ linesOf s) (inFront c (linesOf s))) (not-true (eqb c 10) h)
 
 -- one of them and its line feed are a line
 pub line-first : (b s : List ℕ) → noFeed b ≡ true → linesOf (b ++ 10 ∷ s) ≡ record { bytes = b; ended = true } ∷ linesOf s
 unfolding linesOf noFeed
 line-first [] s h = refl
-line-first (c ∷ b) s h = line-begins c (b ++ 10 ∷ s) (first-of (not (eqb c 10)) _ h) ∙ ap (begun c) (line-first b s (second-of (not (eqb c 10)) _ h))
+line-first (c ∷ b) s h = line-begins c (b ++ 10 ∷ s) (first-of (not (eqb c 10)) _ h) ∙ ap (inFront c) (line-first b s (second-of (not (eqb c 10)) _ h))
 
 -- and one alone is a line without an end, where it has a byte
 pub line-open : (c : ℕ) (b : List ℕ) → noFeed (c ∷ b) ≡ true → linesOf (c ∷ b) ≡ record { bytes = c ∷ b; ended = false } ∷ []
 unfolding linesOf noFeed
 line-open c [] h = line-begins c [] (first-of (not (eqb c 10)) _ h)
-line-open c (d ∷ b) h = line-begins c (d ∷ b) (first-of (not (eqb c 10)) _ h) ∙ ap (begun c) (line-open d b (second-of (not (eqb c 10)) _ h))
+line-open c (d ∷ b) h = line-begins c (d ∷ b) (first-of (not (eqb c 10)) _ h) ∙ ap (inFront c) (line-open d b (second-of (not (eqb c 10)) _ h))
 
 -- lines put together again
 unfoldable pub joined : List Line → List ℕ
 joined [] = []
 joined (l ∷ ls) = l .bytes ++ cond (l .ended) (10 ∷ []) [] ++ joined ls
 
-joined-begun : (b : ℕ) (ls : List Line) → joined (begun b ls) ≡ b ∷ joined ls
+joined-inFront : (b : ℕ) (ls : List Line) → joined (inFront b ls) ≡ b ∷ joined ls
 unfolding joined
-joined-begun b [] = refl
-joined-begun b (l ∷ ls) = refl
+joined-inFront b [] = refl
+joined-inFront b (l ∷ ls) = refl
 
 pub joined-lines : (s : List ℕ) → joined (linesOf s) ≡ s
 unfolding joined linesOf
 joined-lines [] = refl
 joined-lines (b ∷ s) = go (eqb b 10) refl (joined-lines s)
   where
-    go : (c : Bool) → eqb b 10 ≡ c → joined (linesOf s) ≡ s → joined (cond c (record { bytes = []; ended = true } ∷ linesOf s) (begun b (linesOf s))) ≡ b ∷ s
+    go : (c : Bool) → eqb b 10 ≡ c → joined (linesOf s) ≡ s → joined (cond c (record { bytes = []; ended = true } ∷ linesOf s) (inFront b (linesOf s))) ≡ b ∷ s
     go true e h = λ i. sym (eqb-true b 10 e) i ∷ h i
-    go false e h = joined-begun b (linesOf s) ∙ ap (λ (x : List ℕ). b ∷ x) h
+    go false e h = joined-inFront b (linesOf s) ∙ ap (λ (x : List ℕ). b ∷ x) h

@@ -7,37 +7,37 @@ use native.Mathlib.Omega.{arith}
 use lib.ListN.{take}
 use Rattle.rtr_room.specs.declared.Record.{Record}
 use Rattle.rtr_listing.specs.declared.Head.{Head}
-use Rattle.rtr_listed.specs.Listed.{Line, Fit, Place, Read, Listed, linesOf, countWidths, atEnd, orMisfit, fitLine, readFrom, readListing}
+use Rattle.rtr_listed.specs.Listed.{Line, Fit, Due, Read, Listed, linesOf, countWidths, atEnd, orMisfit, fitLine, readFrom, readListing}
 use Rattle.rtr_listed.specs.Listed.Fit.{fits, misfits}
-use Rattle.rtr_listed.specs.Listed.Place.{stopDue, endDue}
+use Rattle.rtr_listed.specs.Listed.Due.{stopDue, endDue}
 use Rattle.rtr_listed.specs.Listed.Read.{listed, misfit}
 use Rattle.rtr_listed.proofs.Whole.{ending}
 
 -- a misfit is at the first line's number or behind it
-misfit-from : (limit : ℕ) (p : Place) (n m : ℕ) (ls : List Line) → readFrom countWidths limit p n ls ≡ misfit m → n ≤ m
+misfit-from : (limit : ℕ) (p : Due) (n m : ℕ) (ls : List Line) → readFrom countWidths limit p n ls ≡ misfit m → n ≤ m
 unfolding readFrom
 misfit-from limit p n m [] e = go (ending p n)
   where
     go : (atEnd p n ≡ misfit n) ⊎ ((h : Head) × (t : List Record) × (p ≡ endDue h t)) → n ≤ m
     go (inl k) = let same : n ≡ m = cc in omega arith
     go (inr (h, t, q)) =
-        let end : atEnd (endDue h t) n ≡ misfit m = ap (λ (x : Place). atEnd x n) (sym q) ∙ e in
+        let end : atEnd (endDue h t) n ≡ misfit m = ap (λ (x : Due). atEnd x n) (sym q) ∙ e in
         let z : _≡_ {A = ℕ} 0 1 = cc in
         absurd (omega arith)
 misfit-from limit p n m (l ∷ ls) e = go (fitLine countWidths limit p l) (λ next. misfit-from limit next (suc n) m ls) e
   where
-    go : (x : Fit Place) → ((next : Place) → readFrom countWidths limit next (suc n) ls ≡ misfit m → suc n ≤ m)
+    go : (x : Fit Due) → ((next : Due) → readFrom countWidths limit next (suc n) ls ≡ misfit m → suc n ≤ m)
         → orMisfit n x (λ next. readFrom countWidths limit next (suc n) ls) ≡ misfit m → n ≤ m
     go (fits next) rest q = omega (arith, rest next q)
     go misfits rest q = let same : n ≡ m = cc in omega arith
 
 -- two texts with one line in front, refused alike where they are behind it
-alike : (n m : ℕ) (x : Fit Place) (rest other : Place → Read) → ((next : Place) → rest next ≡ misfit m → other next ≡ misfit m)
+alike : (n m : ℕ) (x : Fit Due) (rest other : Due → Read) → ((next : Due) → rest next ≡ misfit m → other next ≡ misfit m)
     → orMisfit n x rest ≡ misfit m → orMisfit n x other ≡ misfit m
 alike n m (fits next) rest other h e = h next e
 alike n m misfits rest other h e = e
 
-front-same : (limit : ℕ) (p : Place) (n k m : ℕ) (ls ls′ : List Line) → m ≡ n + k → readFrom countWidths limit p n ls ≡ misfit m
+front-same : (limit : ℕ) (p : Due) (n k m : ℕ) (ls ls′ : List Line) → m ≡ n + k → readFrom countWidths limit p n ls ≡ misfit m
     → take (suc k) ls′ ≡ take (suc k) ls → readFrom countWidths limit p n ls′ ≡ misfit m
 unfolding readFrom
 front-same limit p n k m [] [] a e f = e
@@ -63,19 +63,19 @@ front-decides limit (suc k) s s′ e f = front-same limit stopDue 1 k (suc k) (l
 abbrev pub RefusedOrListed : ℕ → Read → Type 0
 RefusedOrListed m r = (r ≡ misfit m) ⊎ ((v : Listed) × (r ≡ listed v))
 
-end-or : (p : Place) (n m : ℕ) → m ≡ n + 0 → RefusedOrListed m (atEnd p n)
+end-or : (p : Due) (n m : ℕ) → m ≡ n + 0 → RefusedOrListed m (atEnd p n)
 end-or p n m a = go (ending p n)
   where
     go : (atEnd p n ≡ misfit n) ⊎ ((h : Head) × (t : List Record) × (p ≡ endDue h t)) → RefusedOrListed m (atEnd p n)
     go (inl k) = let same : n ≡ m = omega arith in inl (k ∙ ap misfit same)
-    go (inr (h, t, q)) = inr (record { stopped = h .stopped; table = h .table; records = t }, ap (λ (x : Place). atEnd x n) q)
+    go (inr (h, t, q)) = inr (record { stopped = h .stopped; table = h .table; records = t }, ap (λ (x : Due). atEnd x n) q)
 
-alike-or : (n m : ℕ) (x : Fit Place) (rest other : Place → Read) → ((next : Place) → rest next ≡ misfit m → RefusedOrListed m (other next))
+alike-or : (n m : ℕ) (x : Fit Due) (rest other : Due → Read) → ((next : Due) → rest next ≡ misfit m → RefusedOrListed m (other next))
     → orMisfit n x rest ≡ misfit m → RefusedOrListed m (orMisfit n x other)
 alike-or n m (fits next) rest other h e = h next e
 alike-or n m misfits rest other h e = inl e
 
-before-only : (limit : ℕ) (p : Place) (n k m : ℕ) (ls : List Line) → m ≡ n + k → readFrom countWidths limit p n ls ≡ misfit m
+before-only : (limit : ℕ) (p : Due) (n k m : ℕ) (ls : List Line) → m ≡ n + k → readFrom countWidths limit p n ls ≡ misfit m
     → RefusedOrListed m (readFrom countWidths limit p n (take k ls))
 unfolding readFrom
 before-only limit p n zero m ls a e = end-or p n m a

@@ -14,7 +14,7 @@ use Rattle.rtr_receiver.specs.Runs.{Call, Memory, Run}
 use Rattle.rtr_receiver.specs.declared.Session.{Session}
 use Rattle.rtr_listing.specs.Listing.{listing}
 use Rattle.rtr_listing.proofs.Printed.{listed as listedIn}
-use Rattle.rtr_listed.specs.Listed.{Listed, linesOf, feeds, mayStop, readFrom, readListing, listingText, saidBy}
+use Rattle.rtr_listed.specs.Listed.{Listed, linesOf, feeds, mayStop, readFrom, readListing, listingText, listedBy}
 use Rattle.rtr_listed.specs.Listed.Read.{listed, misfit}
 use Rattle.rtr_listed.specs.Fits.{ListingFits, NumbersFit}
 use Rattle.rtr_listed.proofs.Numbers as numbers
@@ -64,12 +64,12 @@ front-is-enough = enough.front-is-enough
 -- ---- listings that a receiver's call writes
 
 -- a session's listing is the text of what the session and its live table say
-pub listing-is-text : (s : Session) (t : List Record) → s .live .records ≡ length t → listing s t ≡ listingText (saidBy s t)
+pub listing-is-text : (s : Session) (t : List Record) → s .live .records ≡ length t → listing s t ≡ listingText (listedBy s t)
 listing-is-text = printed.listing-is-text
 
 -- after any run it is read as the stop's number, the table and the records, where the numbers in memory are of their types
 pub run-reads-back : (limit H : ℕ) (v : RtrProtocolVersion) (calls : List Call) (m : Memory) → Run limit v H calls m → limit ≤ 1024 → NumbersFit m
-    → readListing limit (listedIn m) ≡ listed (saidBy (m .session) (contents (m .session .live) (m .live)))
+    → readListing limit (listedIn m) ≡ listed (listedBy (m .session) (contents (m .session .live) (m .live)))
 run-reads-back = printed.run-reads-back
 
 -- a text of no bytes is refused at its first line

@@ -8,7 +8,7 @@ use borrow.Author.Tests.{eq-eqb, ne-eqb}
 use lib.Dec.{eqb}
 use lib.ListN.{length, getD, take, drop}
 use lib.Seq.{drop-cons, drop-length}
-use Rattle.rtr_listed.specs.Listed.{Line, begun, linesOf}
+use Rattle.rtr_listed.specs.Listed.{Line, inFront, linesOf}
 use Rattle.rtr_listed.specs.Private.{lineLength}
 
 pub length-within : (s : List ℕ) → lineLength s ≤ length s
@@ -28,9 +28,9 @@ lines-ended (b ∷ s) h = go (eqb b 10) refl (lines-ended s) h
   where
     go : (c : Bool) → eqb b 10 ≡ c → (lineLength s < length s → linesOf s ≡ record { bytes = take (lineLength s) s; ended = true } ∷ linesOf (drop (suc (lineLength s)) s))
         → cond c 0 (suc (lineLength s)) < suc (length s)
-        → cond c (record { bytes = []; ended = true } ∷ linesOf s) (begun b (linesOf s)) ≡ record { bytes = take (cond c 0 (suc (lineLength s))) (b ∷ s); ended = true } ∷ linesOf (drop (suc (cond c 0 (suc (lineLength s)))) (b ∷ s))
+        → cond c (record { bytes = []; ended = true } ∷ linesOf s) (inFront b (linesOf s)) ≡ record { bytes = take (cond c 0 (suc (lineLength s))) (b ∷ s); ended = true } ∷ linesOf (drop (suc (cond c 0 (suc (lineLength s)))) (b ∷ s))
     go true e rest k = refl
-    go false e rest k = ap (begun b) (rest (omega arith))
+    go false e rest k = ap (inFront b) (rest (omega arith))
 
 -- a line without an end, or none
 abbrev pub Unended : List Line → Type 0
@@ -42,11 +42,11 @@ unfolding lineLength linesOf
 lines-unended [] h = refl
 lines-unended (b ∷ s) h = go (eqb b 10) (lines-unended s) h
   where
-    begins : (ls : List Line) → Unended ls → Unended (begun b ls)
+    begins : (ls : List Line) → Unended ls → Unended (inFront b ls)
     begins [] u = refl
     begins (l ∷ ls) u = u
 
-    go : (c : Bool) → (lineLength s ≡ length s → Unended (linesOf s)) → cond c 0 (suc (lineLength s)) ≡ suc (length s) → Unended (cond c (record { bytes = []; ended = true } ∷ linesOf s) (begun b (linesOf s)))
+    go : (c : Bool) → (lineLength s ≡ length s → Unended (linesOf s)) → cond c 0 (suc (lineLength s)) ≡ suc (length s) → Unended (cond c (record { bytes = []; ended = true } ∷ linesOf s) (inFront b (linesOf s)))
     go true rest k = absurd (omega arith)
     go false rest k = begins (linesOf s) (rest (omega arith))
 

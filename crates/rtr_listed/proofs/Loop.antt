@@ -10,7 +10,7 @@ use Rattle.rtr_room.specs.Room.{records, isRoom, entered}
 use Rattle.rtr_room.specs.declared.Record.{Record}
 use Rattle.rtr_room.proofs.Laws.{records-none, empty-is}
 use Rattle.rtr_listing.specs.declared.Head.{Head}
-use Rattle.rtr_listed.specs.Listed.{Place, nextRecord}
+use Rattle.rtr_listed.specs.Listed.{Due, nextRecord}
 use Rattle.rtr_listed.specs.Private.{readOn, RecordTook, RecordsTook}
 use Rattle.rtr_listed.specs.Private.AllRead.{all, some}
 use Rattle.rtr_listed.specs.declared.Cursor.{Cursor}
@@ -38,15 +38,15 @@ module _ (limit : ℕ) (s : List ℕ) (count : ℕ) (c : Cursor) where
       }
 
   module _ (lent : List ℕ) (next : Cursor) (i : ℕ) (at-head : Reading limit s count c lent next i) where
-    due : (h : Head) → h .count ≡ count → i < count → nextRecord h (records i lent) ≡ Place.familyDue h (records i lent)
+    due : (h : Head) → h .count ≡ count → i < count → nextRecord h (records i lent) ≡ Due.familyDue h (records i lent)
     due h n l =
         let long : length (records i lent) ≡ i = room-is limit i lent (record { kind = 0; w0 = 0; w1 = 0; w2 = 0; w3 = 0; asn = 0 }) (at-head .rules) .1 in
-        ap (λ (b : Bool). cond b (Place.familyDue h (records i lent)) (Place.endDue h (records i lent))) (lt-ltb (length (records i lent)) (h .count) (omega (arith, long, n)))
+        ap (λ (b : Bool). cond b (Due.familyDue h (records i lent)) (Due.endDue h (records i lent))) (lt-ltb (length (records i lent)) (h .count) (omega (arith, long, n)))
 
     -- one record more was read
     turn : (r : RecordRead) → i < count → RecordTook s next (records i lent) r → (h : Head) → h .count ≡ count
         → readOn limit s (nextRecord h []) c ≡ readOn limit s (nextRecord h (records i lent ++ r .entry ∷ [])) (r .next)
-    turn r l t h n = at-head .stands h n ∙ ap (λ (p : Place). readOn limit s p next) (due h n l) ∙ t .stands limit h
+    turn r l t h n = at-head .stands h n ∙ ap (λ (p : Due). readOn limit s p next) (due h n l) ∙ t .stands limit h
 
     pub goes-on : (r : RecordRead) (left : List ℕ) → i < count → count ≤ limit → RecordTook s next (records i lent) r → r .next .fits ≡ true → left ≡ entered lent i (r .entry) .left → Reading limit s count c left (r .next) (suc i)
     goes-on r left l w t on e =
@@ -67,7 +67,7 @@ module _ (limit : ℕ) (s : List ℕ) (count : ℕ) (c : Cursor) where
       at-head .inside,
       λ h n.
           let is = room-is limit i lent (record { kind = 0; w0 = 0; w1 = 0; w2 = 0; w3 = 0; asn = 0 }) (at-head .rules) in
-          let last : nextRecord h (records i lent) ≡ Place.endDue h (records i lent) =
-          ap (λ (b : Bool). cond b (Place.familyDue h (records i lent)) (Place.endDue h (records i lent))) (le-ltb (length (records i lent)) (h .count) (omega (arith, is .1, n, e))) in
-          all (records i lent) (is .0) (is .1 ∙ e ∙ sym n) (is .2) (at-head .stands h n ∙ ap (λ (p : Place). readOn limit s p next) last),
+          let last : nextRecord h (records i lent) ≡ Due.endDue h (records i lent) =
+          ap (λ (b : Bool). cond b (Due.familyDue h (records i lent)) (Due.endDue h (records i lent))) (le-ltb (length (records i lent)) (h .count) (omega (arith, is .1, n, e))) in
+          all (records i lent) (is .0) (is .1 ∙ e ∙ sym n) (is .2) (at-head .stands h n ∙ ap (λ (p : Due). readOn limit s p next) last),
     )

@@ -29,14 +29,14 @@ use Rattle.rtr_listing.specs.Listing.{headLines, allLines, stoppedAs, listing}
 use Rattle.rtr_listing.specs.Promises.{isListed}
 use Rattle.rtr_listing.proofs.Laws.{history-is-listed}
 use Rattle.rtr_listing.proofs.Printed.{listed as printed}
-use Rattle.rtr_listed.specs.Listed.{mayStop, readListing, listingText, saidBy}
+use Rattle.rtr_listed.specs.Listed.{mayStop, readListing, listingText, listedBy}
 use Rattle.rtr_listed.specs.Listed.Read.{listed}
-use Rattle.rtr_listed.specs.Fits.{TableFits, InfoFits, AllFit, ListingFits, NumbersFit}
+use Rattle.rtr_listed.specs.Fits.{TableNumbersFit, InfoFits, AllFit, ListingFits, NumbersFit}
 use Rattle.rtr_listed.proofs.Order.{room-is}
 use Rattle.rtr_listed.proofs.Shown.{text-reads}
 
 -- a session's listing is the text of what it says
-pub listing-is-text : (s : Session) (t : List Record) → s .live .records ≡ length t → listing s t ≡ listingText (saidBy s t)
+pub listing-is-text : (s : Session) (t : List Record) → s .live .records ≡ length t → listing s t ≡ listingText (listedBy s t)
 unfolding listingText
 listing-is-text s t e = ap (λ (n : ℕ). headLines (record { stopped = stoppedAs (s .phase); table = s .table; count = n }) ++ allLines t) e
 
@@ -58,15 +58,15 @@ phase-may (Phase.Stopped why) h = go (stopSaid why) h
     go (Verdict.refused n x) k = either (eqb n 0) (isStop n) k
 
 -- no record stands without a table
-info-of : (x : LiveTable) (n : ℕ) (live : List ℕ) → ((t : Table) → x ≡ LiveTable.Known t → TableFits t) → hasTable x || eqb n 0 ≡ true
+info-of : (x : LiveTable) (n : ℕ) (live : List ℕ) → ((t : Table) → x ≡ LiveTable.Known t → TableNumbersFit t) → hasTable x || eqb n 0 ≡ true
     → InfoFits x (records n live)
 info-of (LiveTable.Known t) n live fit e = fit t refl
 info-of LiveTable.NoTable n live fit e = ap (λ (k : ℕ). records k live) (eqb-true n 0 e) ∙ records-none live
 
 -- what can be listed fits, where the stop may be and the numbers are of their types
 session-fits : (limit : ℕ) (s : Session) (live : List ℕ) → limit ≤ 1024 → isListed limit s live ≡ true → stopsRightly (stageOf (s .phase)) ≡ true
-    → ((t : Table) → s .table ≡ LiveTable.Known t → TableFits t) → AllFit (records (s .live .records) live)
-    → ListingFits limit (saidBy s (records (s .live .records) live))
+    → ((t : Table) → s .table ≡ LiveTable.Known t → TableNumbersFit t) → AllFit (records (s .live .records) live)
+    → ListingFits limit (listedBy s (records (s .live .records) live))
 session-fits limit s live low can stops fit words =
     let rest = second-of (hasLimit limit s) _ can in
     let rules : isRoom limit (s .live .records) live ≡ true = first-of (areRooms limit (s .live) live) _ rest in
@@ -82,9 +82,9 @@ session-fits limit s live low can stops fit words =
     }
 
 pub run-reads-back : (limit H : ℕ) (v : RtrProtocolVersion) (calls : List Call) (m : Memory) → Run limit v H calls m → limit ≤ 1024 → NumbersFit m
-    → readListing limit (printed m) ≡ listed (saidBy (m .session) (contents (m .session .live) (m .live)))
+    → readListing limit (printed m) ≡ listed (listedBy (m .session) (contents (m .session .live) (m .live)))
 run-reads-back limit H v calls m run low fit =
     let s : Session = m .session in
     let t : List Record = contents (s .live) (m .live) in
     let fits = session-fits limit s (m .live) low (history-is-listed limit H v calls m run) (run-stops-are limit H v calls m run) (fit .table) (fit .words) in
-    ap (readListing limit) (listing-is-text s t (sym (records-length (s .live .records) (m .live)))) ∙ text-reads limit (saidBy s t) fits 1
+    ap (readListing limit) (listing-is-text s t (sym (records-length (s .live .records) (m .live)))) ∙ text-reads limit (listedBy s t) fits 1

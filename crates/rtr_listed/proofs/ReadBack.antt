@@ -10,9 +10,9 @@ use Rattle.rtr_room.specs.declared.Record.{Record}
 use Rattle.rtr_receiver.specs.declared.LiveTable.{LiveTable}
 use Rattle.rtr_listing.specs.Listing.{headLines, allLines}
 use Rattle.rtr_listing.specs.declared.Head.{Head}
-use Rattle.rtr_listed.specs.Listed.{Line, Fit, Place, Listed, linesOf, countWidths, onLine, atEnd, orMisfit, readFrom, readListing, listingText}
+use Rattle.rtr_listed.specs.Listed.{Line, Fit, Due, Listed, linesOf, countWidths, onLine, atEnd, orMisfit, readFrom, readListing, listingText}
 use Rattle.rtr_listed.specs.Listed.Fit.{fits, misfits}
-use Rattle.rtr_listed.specs.Listed.Place.{stopDue, endDue}
+use Rattle.rtr_listed.specs.Listed.Due.{stopDue, endDue}
 use Rattle.rtr_listed.specs.Listed.Read.{listed, misfit}
 use Rattle.rtr_listed.specs.Fits.{InfoFits, ListingFits}
 use Rattle.rtr_listed.proofs.Whole.{ending}
@@ -46,24 +46,24 @@ end-listed limit h t g =
     )
 
 -- where no line is left
-ends-listed : (limit n : ℕ) (p : Place) (v : Listed) → Good limit p → atEnd p n ≡ listed v → IsListing limit (written p) v
+ends-listed : (limit n : ℕ) (p : Due) (v : Listed) → Good limit p → atEnd p n ≡ listed v → IsListing limit (written p) v
 ends-listed limit n p v g e = go (ending p n)
   where
     go : (atEnd p n ≡ misfit n) ⊎ ((h : Head) × (t : List Record) × (p ≡ endDue h t)) → IsListing limit (written p) v
     go (inl m) = let z : _≡_ {A = ℕ} 0 1 = cc in absurd (omega arith)
     go (inr (h, t, q)) =
-        let read : atEnd (endDue h t) n ≡ listed v = ap (λ (x : Place). atEnd x n) (sym q) ∙ e in
+        let read : atEnd (endDue h t) n ≡ listed v = ap (λ (x : Due). atEnd x n) (sym q) ∙ e in
         let same : record { stopped = h .stopped; table = h .table; records = t } ≡ v = cc in
-        subst (λ (x : Place). IsListing limit (written x) v) (sym q) (subst (IsListing limit (front h t)) same (end-listed limit h t (subst (Good limit) q g)))
+        subst (λ (x : Due). IsListing limit (written x) v) (sym q) (subst (IsListing limit (front h t)) same (end-listed limit h t (subst (Good limit) q g)))
 
-reads-listing : (limit n : ℕ) (p : Place) (ls : List Line) (v : Listed) → Good limit p → readFrom countWidths limit p n ls ≡ listed v
+reads-listing : (limit n : ℕ) (p : Due) (ls : List Line) (v : Listed) → Good limit p → readFrom countWidths limit p n ls ≡ listed v
     → IsListing limit (written p ++ joined ls) v
 unfolding readFrom joined
 reads-listing limit n p [] v g e = subst (λ (x : List ℕ). IsListing limit x v) (sym (append-nil (written p))) (ends-listed limit n p v g e)
 reads-listing limit n p (l ∷ ls) v g e = go (l .ended) (onLine countWidths limit p (l .bytes)) refl (λ next k. reads-listing limit (suc n) next ls v k) e
   where
-    go : (c : Bool) (x : Fit Place) → onLine countWidths limit p (l .bytes) ≡ x
-        → ((next : Place) → Good limit next → readFrom countWidths limit next (suc n) ls ≡ listed v → IsListing limit (written next ++ joined ls) v)
+    go : (c : Bool) (x : Fit Due) → onLine countWidths limit p (l .bytes) ≡ x
+        → ((next : Due) → Good limit next → readFrom countWidths limit next (suc n) ls ≡ listed v → IsListing limit (written next ++ joined ls) v)
         → orMisfit n (cond c x misfits) (λ next. readFrom countWidths limit next (suc n) ls) ≡ listed v
         → IsListing limit (written p ++ (l .bytes ++ cond c (10 ∷ []) [] ++ joined ls)) v
     go true (fits next) k rest q =

@@ -11,7 +11,7 @@ use Rattle.rtr_room.specs.declared.Record.{Record}
 use Rattle.rtr_room.proofs.Laws.{ipv4-in-rule, ipv6-in-rule}
 use Rattle.rtr_room.proofs.Laws.Tests.{first-of, second-of}
 use Rattle.rtr_listing.specs.Listing.{text}
-use Rattle.rtr_listed.specs.Listed.{Place, named, numberIn, recordOf, wordAt, wordsIn, addressIn, widest, nextRecord}
+use Rattle.rtr_listed.specs.Listed.{Due, named, numberIn, recordOf, wordAt, wordsIn, addressIn, widest, nextRecord}
 use Rattle.rtr_listed.specs.Private.{linesAt, Near, Took, NumberTook, WordsTook, narrowed, RecordTook}
 use Rattle.rtr_listed.specs.declared.Cursor.{Cursor}
 use Rattle.rtr_listed.specs.declared.NumberRead.{NumberRead}
@@ -84,11 +84,11 @@ module _ (s : List ℕ) (c : Cursor) (t : List Record) (family : NumberRead) (ad
       let near : Near s 1 (longest .next) next = subst (λ (x : Cursor). Near s 1 (longest .next) x) (sym at) (last .1 .1) in
       record {
         stands = λ limit h.
-            took-stands (named (text "family=") (numberIn (λ k. eqb k 4 || eqb k 6))) (Place.addressDue h t) limit (Place.familyDue h t) (λ b. refl) (λ k. refl) s c f (family .next) (tf .0)
-            ∙ took-stands (named (text "address=") (addressIn f)) (Place.lengthDue h t f) limit (Place.addressDue h t f) (λ b. refl) (λ k. refl) s (family .next) w (address .next) (ta .0)
-            ∙ took-stands (named (text "length=") (numberIn (λ k. leb k 255))) (Place.maxDue h t f w) limit (Place.lengthDue h t f w) (λ b. refl) (λ k. refl) s (address .next) l (shortest .next) (tl .0)
-            ∙ took-stands (named (text "max=") (numberIn (λ k. leb k 255 && (leb l k && leb k (widest f))))) (Place.asnDue h t f w l) limit (Place.maxDue h t f w l) (λ b. refl) (λ k. refl) s (shortest .next) m (longest .next) (tm .0)
-            ∙ took-stands (named (text "asn=") (numberIn above)) (λ k. nextRecord h (t ++ entry k ∷ [])) limit (Place.asnDue h t f w l m) (λ b. refl) (λ k. refl) s (longest .next) n next tn′;
+            took-stands (named (text "family=") (numberIn (λ k. eqb k 4 || eqb k 6))) (Due.addressDue h t) limit (Due.familyDue h t) (λ b. refl) (λ k. refl) s c f (family .next) (tf .0)
+            ∙ took-stands (named (text "address=") (addressIn f)) (Due.lengthDue h t f) limit (Due.addressDue h t f) (λ b. refl) (λ k. refl) s (family .next) w (address .next) (ta .0)
+            ∙ took-stands (named (text "length=") (numberIn (λ k. leb k 255))) (Due.maxDue h t f w) limit (Due.lengthDue h t f w) (λ b. refl) (λ k. refl) s (address .next) l (shortest .next) (tl .0)
+            ∙ took-stands (named (text "max=") (numberIn (λ k. leb k 255 && (leb l k && leb k (widest f))))) (Due.asnDue h t f w l) limit (Due.maxDue h t f w l) (λ b. refl) (λ k. refl) s (shortest .next) m (longest .next) (tm .0)
+            ∙ took-stands (named (text "asn=") (numberIn above)) (λ k. nextRecord h (t ++ entry k ∷ [])) limit (Due.asnDue h t f w l m) (λ b. refl) (λ k. refl) s (longest .next) n next tn′;
         ordered = λ on. second-of (leb n 4294967295) _ (gives-allowed (text "asn=") above (linesAt s (longest .next)) n (took-fits (named (text "asn=") (numberIn above)) s (longest .next) n next tn′ on .1));
         ruled = λ on.
             let at-max = took-fits (named (text "asn=") (numberIn above)) s (longest .next) n next tn′ on .0 in

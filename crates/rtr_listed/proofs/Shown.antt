@@ -18,9 +18,9 @@ use Rattle.rtr_listing.specs.Listing.{Field, text, digits, decimal, countDigits
 use Rattle.rtr_listing.specs.Digits.{valueOf, hexOf}
 use Rattle.rtr_listing.specs.declared.Head.{Head}
 use Rattle.rtr_listing.proofs.Laws.{line-is, head-lines-are, no-table-line, table-lines-are, field-lines-next, field-lines-none, record-lines-are, all-none, all-first, decimal-is-number, count-is-number, count-length, digits-are-decimal, digits-length, hex-is-number, four-address, other-address, four-length, other-length, address-lower-case}
-use Rattle.rtr_listed.specs.Listed.{Fit, Place, Listed, linesOf, fitting, leading, sameText, named, numberIn, countWidths, countIn, recordOf, wordAt, addressIn, nextRecord, mayStop, withoutTable, widest, onLine, orMisfit, readFrom, listingText}
+use Rattle.rtr_listed.specs.Listed.{Fit, Due, Listed, linesOf, fitting, leading, sameText, named, numberIn, countWidths, countIn, recordOf, wordAt, addressIn, nextRecord, mayStop, withoutTable, widest, onLine, orMisfit, readFrom, listingText}
 use Rattle.rtr_listed.specs.Listed.Fit.{fits}
-use Rattle.rtr_listed.specs.Listed.Place.{stopDue, secondDue, numbersDue, familyDue, addressDue, lengthDue, maxDue, asnDue, endDue}
+use Rattle.rtr_listed.specs.Listed.Due.{stopDue, secondDue, numbersDue, familyDue, addressDue, lengthDue, maxDue, asnDue, endDue}
 use Rattle.rtr_listed.specs.Listed.Read.{listed}
 use Rattle.rtr_listed.specs.Fits.{InfoFits, WordsFit, AllFit, ListingFits}
 use Rattle.rtr_listed.specs.Fits.AllFit.{one}
@@ -34,22 +34,22 @@ use Rattle.rtr_listed.proofs.Feeds.{noFeed, no-feed-append, decimal-no-
 use Rattle.rtr_listed.proofs.Written.{Within, ended}
 
 -- a text is read from a place on, whatever the number of its first line
-abbrev pub Reads : ℕ → Place → List ℕ → Listed → Type 0
+abbrev pub Reads : ℕ → Due → List ℕ → Listed → Type 0
 Reads limit p s v = (n : ℕ) → readFrom countWidths limit p n (linesOf s) ≡ listed v
 
 -- ---- a line
 
-line-reads : (limit : ℕ) (p next : Place) (b rest : List ℕ) (v : Listed) → noFeed b ≡ true → onLine countWidths limit p b ≡ fits next
+line-reads : (limit : ℕ) (p next : Due) (b rest : List ℕ) (v : Listed) → noFeed b ≡ true → onLine countWidths limit p b ≡ fits next
     → Reads limit next rest v → Reads limit p (ended b ++ rest) v
 unfolding readFrom
 line-reads limit p next b rest v plain e r n =
     ap (λ (x : List ℕ). readFrom countWidths limit p n (linesOf x)) (append-snoc b 10 rest)
     ∙ ap (readFrom countWidths limit p n) (line-first b rest plain)
-    ∙ ap (λ (x : Fit Place). orMisfit n x (λ q. readFrom countWidths limit q (suc n) (linesOf rest))) e
+    ∙ ap (λ (x : Fit Due). orMisfit n x (λ q. readFrom countWidths limit q (suc n) (linesOf rest))) e
     ∙ r (suc n)
 
 -- of a name and a value
-module _ {A : Type 0} (limit : ℕ) (p : Place) (name : List ℕ) (reads : List ℕ → Fit A) (next : A → Place) where
+module _ {A : Type 0} (limit : ℕ) (p : Due) (name : List ℕ) (reads : List ℕ → Fit A) (next : A → Due) where
   value-reads : ((b : List ℕ) → onLine countWidths limit p b ≡ leading next (named name reads b)) → noFeed name ≡ true
       → (value : List ℕ) (a : A) (rest : List ℕ) (v : Listed) → noFeed value ≡ true → reads value ≡ fits a → Reads limit (next a) rest v
       → Reads limit p (lineOf name value ++ rest) v
@@ -65,7 +65,7 @@ number-shown q n low may =
     let is : valueOf (decimal n) 0 ≡ n = decimal-is-number n (omega arith) in
     ap (λ (k : ℕ). fitting (sameText (decimal n) (decimal k) && q k) k) is ∙ (λ i. fitting (same-refl (decimal n) i && may i) n)
 
-module _ (limit : ℕ) (p : Place) (name : List ℕ) (q : ℕ → Bool) (next : ℕ → Place) where
+module _ (limit : ℕ) (p : Due) (name : List ℕ) (q : ℕ → Bool) (next : ℕ → Due) where
   number-reads : ((b : List ℕ) → onLine countWidths limit p b ≡ leading next (named name (numberIn q) b)) → noFeed name ≡ true
       → (n : ℕ) (rest : List ℕ) (v : Listed) → n ≤ 4294967295 → q n ≡ true → Reads limit (next n) rest v → Reads limit p (lineOf name (decimal n) ++ rest) v
   number-reads is plain n rest v low may r =

@@ -17,10 +17,10 @@ use Rattle.rtr_listing.specs.Listing.{Field, text, digits, decimal, countDigits
 use Rattle.rtr_listing.specs.Digits.{areHex}
 use Rattle.rtr_listing.specs.declared.Head.{Head}
 use Rattle.rtr_listing.proofs.Laws.{line-is, head-lines-are, no-table-line, table-lines-are, field-lines-next, field-lines-none, record-lines-are, all-none, all-first, all-append, four-address, other-address, four-length, other-length, address-lower-case, hex-below}
-use Rattle.rtr_listed.specs.Listed.{Fit, Place, leading, sameText, named, numberIn, countWidths, countIn, recordOf, wordAt, wordsIn, addressIn, nextRecord, mayStop, tableOf, withoutTable, onNumbers, widest, onLine}
+use Rattle.rtr_listed.specs.Listed.{Fit, Due, leading, sameText, named, numberIn, countWidths, countIn, recordOf, wordAt, wordsIn, addressIn, nextRecord, mayStop, tableFrom, withoutTable, onNumbers, widest, onLine}
 use Rattle.rtr_listed.specs.Listed.Fit.{fits, misfits}
-use Rattle.rtr_listed.specs.Listed.Place.{stopDue, secondDue, numbersDue, familyDue, addressDue, lengthDue, maxDue, asnDue, endDue}
-use Rattle.rtr_listed.specs.Fits.{TableFits, WordsFit, AllFit}
+use Rattle.rtr_listed.specs.Listed.Due.{stopDue, secondDue, numbersDue, familyDue, addressDue, lengthDue, maxDue, asnDue, endDue}
+use Rattle.rtr_listed.specs.Fits.{TableNumbersFit, WordsFit, AllFit}
 use Rattle.rtr_listed.specs.Fits.AllFit.{none, one}
 use Rattle.rtr_listed.specs.declared.Words.{Words}
 use Rattle.rtr_listed.proofs.Texts.{same-equal, named-fits}
@@ -51,7 +51,7 @@ lengthSo f w l = addressSo f w ++ line "length=" (decimal l)
 abbrev pub maxSo : ℕ → Words → ℕ → ℕ → List ℕ
 maxSo f w l m = lengthSo f w l ++ line "max=" (decimal m)
 
-abbrev pub written : Place → List ℕ
+abbrev pub written : Due → List ℕ
 written stopDue = []
 written (secondDue n) = line "stopped=" (decimal n)
 written (numbersDue n ns fs) = line "stopped=" (decimal n) ++ fieldLines [] tableFields ns
@@ -74,7 +74,7 @@ Within (f ∷ fs) (n ∷ ns) = (n ≤ f .most) × Within fs ns
 -- without a table the count is 0
 abbrev pub CountFits : LiveTable → ℕ → Type 0
 CountFits LiveTable.NoTable count = count ≡ 0
-CountFits (LiveTable.Known t) count = TableFits t
+CountFits (LiveTable.Known t) count = TableNumbersFit t
 
 pub record HeadFits (limit : ℕ) (h : Head) : Type 0 where
   pub stopped : mayStop (h .stopped) ≡ true
@@ -107,7 +107,7 @@ AtLength limit h t f w = AtAddress limit h t f × AreWords f w
 abbrev pub AtMax : ℕ → Head → List Record → ℕ → Words → ℕ → Type 0
 AtMax limit h t f w l = AtLength limit h t f w × (l ≤ 255)
 
-abbrev pub Good : ℕ → Place → Type 0
+abbrev pub Good : ℕ → Due → Type 0
 Good limit stopDue = _≡_ {A = ℕ} 0 0
 Good limit (secondDue n) = mayStop n ≡ true
 Good limit (numbersDue n ns fs) = (mayStop n ≡ true) × ((done : List Field) × (tableFields ≡ done ++ fs) × Within done ns)
@@ -119,7 +119,7 @@ Good limit (asnDue h t f w l m) = AtMax limit h t f w l × ((m ≤ 255) × (leb 
 Good limit (endDue h t) = Behind limit h t × (length t ≡ h .count)
 
 -- where a line leads: its text is behind, and as much is known
-abbrev pub Leads : ℕ → List ℕ → Place → Type 0
+abbrev pub Leads : ℕ → List ℕ → Due → Type 0
 Leads limit s p = (written p ≡ s) × Good limit p
 
 -- ---- a line by its kind
@@ -218,7 +218,7 @@ within-behind (g ∷ done) f (m ∷ ns) n w h = (w .0, within-behind done f ns n
 
 -- five of them are a table
 table-of : (ns : List ℕ) (count : ℕ) → Within tableFields ns
-    → CountFits (tableOf ns) count × (tableLines (tableOf ns) count ≡ fieldLines [] tableFields ns ++ line "count=" (digits 10 countDigits count))
+    → CountFits (tableFrom ns) count × (tableLines (tableFrom ns) count ≡ fieldLines [] tableFields ns ++ line "count=" (digits 10 countDigits count))
 table-of [] count w = absurd w
 table-of (a ∷ []) count w = absurd (w .1)
 table-of (a ∷ b ∷ []) count w = absurd (w .1 .1)
@@ -286,7 +286,7 @@ next-leads limit h t g few = go (ltb (length t) (h .count)) refl
     go true c = (refl, (g, ltb-true (length t) (h .count) c))
     go false c = (refl, (g, omega (arith, ltb-false (length t) (h .count) c)))
 
-module _ (limit : ℕ) (b : List ℕ) (p : Place) where
+module _ (limit : ℕ) (b : List ℕ) (p : Due) where
   number-leads : (n : ℕ) (ns : List ℕ) (f : Field) (fs : List Field) → Good limit (numbersDue n ns (f ∷ fs))
       → onNumbers countWidths limit n ns (f ∷ fs) b ≡ fits p
       → Leads limit (written (numbersDue n ns (f ∷ fs)) ++ ended b) p
@@ -307,10 +307,10 @@ module _ (limit : ℕ) (b : List ℕ) (p : Place) where
       → Leads limit (written (numbersDue n ns []) ++ ended b) p
   count-leads n ns g e =
       let k =
-      named-line (λ c. nextRecord (record { stopped = n; table = tableOf ns; count = c }) []) (text "count=") (countIn countWidths limit)
+      named-line (λ c. nextRecord (record { stopped = n; table = tableFrom ns; count = c }) []) (text "count=") (countIn countWidths limit)
       (digits 10 countDigits) b p
       (λ s c f. count-fits limit s c f .0) e in
-      let h : Head = record { stopped = n; table = tableOf ns; count = k .0 } in
+      let h : Head = record { stopped = n; table = tableFrom ns; count = k .0 } in
       let low = count-fits limit (k .1) (k .0) (k .3) in
       let all : tableFields ≡ g .1 .0 = g .1 .1 ∙ append-nil (g .1 .0) in
       let t = table-of ns (k .0) (subst (λ (x : List Field). Within x ns) (sym all) (g .1 .2)) in
@@ -373,7 +373,7 @@ module _ (limit : ℕ) (b : List ℕ) (p : Place) where
       ∙ so-next (front h t) (maxSo f w l m) _ b (k .1) in
       subst (Leads limit (front h t ++ maxSo f w l m ++ ended b)) (sym (k .3)) (next .0 ∙ lines, next .1)
 
-  pub leads : (from : Place) → Good limit from → onLine countWidths limit from b ≡ fits p → Leads limit (written from ++ ended b) p
+  pub leads : (from : Due) → Good limit from → onLine countWidths limit from b ≡ fits p → Leads limit (written from ++ ended b) p
   leads stopDue g e =
       let k = number-line secondDue (text "stopped=") mayStop b p e in
       subst (Leads limit (ended b)) (sym (k .3)) (sym (k .1), k .2)

@@ -13,7 +13,7 @@ use Rattle.rtr_receiver.specs.declared.Table.{Table}
 use Rattle.rtr_listed.specs.Listed.{Listed, mayStop}
 
 -- the numbers of a table: a session has 16 bits, the others 32
-pub record TableFits (t : Table) : Type 0 where
+pub record TableNumbersFit (t : Table) : Type 0 where
   pub session : t .session ≤ 65535
   pub serial : t .serial ≤ 4294967295
   pub refresh : t .refresh ≤ 4294967295
@@ -23,7 +23,7 @@ pub record TableFits (t : Table) : Type 0 where
 -- without a table there are no records
 abbrev pub InfoFits : LiveTable → List Record → Type 0
 InfoFits LiveTable.NoTable records = records ≡ []
-InfoFits (LiveTable.Known t) records = TableFits t
+InfoFits (LiveTable.Known t) records = TableNumbersFit t
 
 -- the address and the AS number of a record are of 32 bits
 pub record WordsFit (r : Record) : Type 0 where
@@ -49,5 +49,5 @@ pub record ListingFits (limit : ℕ) (v : Listed) : Type 0 where
 
 -- the numbers in memory are of their types: the session record's of 16 and 32 bits, the live room's of 32
 pub record NumbersFit (m : Memory) : Type 0 where
-  pub table : (t : Table) → m .session .table ≡ LiveTable.Known t → TableFits t
+  pub table : (t : Table) → m .session .table ≡ LiveTable.Known t → TableNumbersFit t
   pub words : AllFit (contents (m .session .live) (m .live))

@@ -1,4 +1,4 @@
--- A listing read back, line by line: document 02, request Four, of document 01's "The listing". `linesOf` cuts a text into lines; a `Place` is what is due next, with what was read before
+-- A listing read back, line by line: document 02, request Four, of document 01's "The listing". `linesOf` cuts a text into lines; a `Due` says what is due next, with what was read before
 -- it; `onLine` says, place by place, what a line has to be there; `readFrom` takes the lines in order and counts them. A number's line has to be the very text that a listing writes for that
 -- number, so signs, blanks and leading zeros need no rule. What is read is a listing, and every listing of values that fit is read: proofs/Laws.antt, `reads-exactly`.
 use Prim.Native.Nat.{ℕ, suc}
@@ -24,14 +24,14 @@ pub record Line : Type 0 where
   pub ended : Bool
 
 -- one byte more before the first line
-abbrev pub begun : ℕ → List Line → List Line
-begun b [] = record { bytes = b ∷ []; ended = false } ∷ []
-begun b (l ∷ ls) = record { bytes = b ∷ l .bytes; ended = l .ended } ∷ ls
+abbrev pub inFront : ℕ → List Line → List Line
+inFront b [] = record { bytes = b ∷ []; ended = false } ∷ []
+inFront b (l ∷ ls) = record { bytes = b ∷ l .bytes; ended = l .ended } ∷ ls
 
 -- a line is the bytes up to a line feed, which ends it; bytes behind the last line feed are a line without an end
 unfoldable pub linesOf : List ℕ → List Line
 linesOf [] = []
-linesOf (b ∷ s) = cond (eqb b 10) (record { bytes = []; ended = true } ∷ linesOf s) (begun b (linesOf s))
+linesOf (b ∷ s) = cond (eqb b 10) (record { bytes = []; ended = true } ∷ linesOf s) (inFront b (linesOf s))
 
 -- how many line feeds a text has
 unfoldable pub feeds : List ℕ → ℕ
@@ -111,19 +111,19 @@ addressIn family s = fitting (sameText s (addressOf (recordOf family (wordsIn fa
 
 -- what is due, with what was read before it: the first line; `count=none` or the table's first number, behind the stop; the table's numbers, those read and the fields to come, and then the
 -- count; the five lines of a record, behind the head, the records before it and its own lines; the end
-pub data Place : Type 0 where
-  stopDue : Place
-  secondDue : ℕ → Place
-  numbersDue : ℕ → List ℕ → List Field → Place
-  familyDue : Head → List Record → Place
-  addressDue : Head → List Record → ℕ → Place
-  lengthDue : Head → List Record → ℕ → Words → Place
-  maxDue : Head → List Record → ℕ → Words → ℕ → Place
-  asnDue : Head → List Record → ℕ → Words → ℕ → ℕ → Place
-  endDue : Head → List Record → Place
+pub data Due : Type 0 where
+  stopDue : Due
+  secondDue : ℕ → Due
+  numbersDue : ℕ → List ℕ → List Field → Due
+  familyDue : Head → List Record → Due
+  addressDue : Head → List Record → ℕ → Due
+  lengthDue : Head → List Record → ℕ → Words → Due
+  maxDue : Head → List Record → ℕ → Words → ℕ → Due
+  asnDue : Head → List Record → ℕ → Words → ℕ → ℕ → Due
+  endDue : Head → List Record → Due
 
 -- as many records as the head counts, and then the end
-abbrev pub nextRecord : Head → List Record → Place
+abbrev pub nextRecord : Head → List Record → Due
 nextRecord head t = cond (ltb (length t) (head .count)) (familyDue head t) (endDue head t)
 
 -- "stopped 0 or a stop's number"
@@ -131,8 +131,8 @@ abbrev pub mayStop : ℕ → Bool
 mayStop n = eqb n 0 || isStop n
 
 -- the table that its five numbers make
-abbrev pub tableOf : List ℕ → LiveTable
-tableOf ns =
+abbrev pub tableFrom : List ℕ → LiveTable
+tableFrom ns =
     LiveTable.Known (record { session = getD ns 0 0; serial = getD ns 1 0; refresh = getD ns 2 0; retry = getD ns 3 0; expire = getD ns 4 0 })
 
 -- "`count=none` meaning no records"
@@ -140,9 +140,9 @@ abbrev pub withoutTable : ℕ → Head
 withoutTable stopped = record { stopped = stopped; table = LiveTable.NoTable; count = 0 }
 
 -- one of the table's numbers, or behind the last the count
-abbrev pub onNumbers : List Width → ℕ → ℕ → List ℕ → List Field → List ℕ → Fit Place
+abbrev pub onNumbers : List Width → ℕ → ℕ → List ℕ → List Field → List ℕ → Fit Due
 onNumbers widths limit stopped ns [] s =
-    leading (λ count. nextRecord (record { stopped = stopped; table = tableOf ns; count = count }) []) (named (text "count=") (countIn widths limit) s)
+    leading (λ count. nextRecord (record { stopped = stopped; table = tableFrom ns; count = count }) []) (named (text "count=") (countIn widths limit) s)
 onNumbers widths limit stopped ns (f ∷ fs) s = leading (λ n. numbersDue stopped (ns ++ n ∷ []) fs) (named (f .name) (numberIn (λ n. leb n (f .most))) s)
 
 -- the longest prefix of a family
@@ -150,7 +150,7 @@ abbrev pub widest : ℕ → ℕ
 widest family = cond (eqb family 4) 32 128
 
 -- what a line leads to at a place: a length or max over 255 is refused at its own line, lengths out of rule at `max=`, order at `asn=`
-abbrev pub onLine : List Width → ℕ → Place → List ℕ → Fit Place
+abbrev pub onLine : List Width → ℕ → Due → List ℕ → Fit Due
 onLine widths limit stopDue s = leading secondDue (named (text "stopped=") (numberIn mayStop) s)
 onLine widths limit (secondDue stopped) s =
     cond (sameText s (text "count=none")) (fits (endDue (withoutTable stopped) [])) (onNumbers widths limit stopped [] tableFields s)
@@ -179,7 +179,7 @@ pub data Read : Type 0 where
   misfit : ℕ → Read
 
 -- no line is left: a listing is read where it is at its end, else a line is missing
-abbrev pub atEnd : Place → ℕ → Read
+abbrev pub atEnd : Due → ℕ → Read
 atEnd (endDue head t) n = listed (record { stopped = head .stopped; table = head .table; records = t })
 atEnd stopDue n = misfit n
 atEnd (secondDue stopped) n = misfit n
@@ -191,16 +191,16 @@ atEnd (maxDue head t f w l) n = misfit n
 atEnd (asnDue head t f w l m) n = misfit n
 
 -- a line without an end fits nowhere
-abbrev pub fitLine : List Width → ℕ → Place → Line → Fit Place
+abbrev pub fitLine : List Width → ℕ → Due → Line → Fit Due
 fitLine widths limit place l = cond (l .ended) (onLine widths limit place (l .bytes)) misfits
 
 -- a line that fits leads on
-abbrev pub orMisfit : ℕ → Fit Place → (Place → Read) → Read
+abbrev pub orMisfit : ℕ → Fit Due → (Due → Read) → Read
 orMisfit n (fits place) rest = rest place
 orMisfit n misfits rest = misfit n
 
 -- the lines from a place on, the first of them with number n
-unfoldable pub readFrom : List Width → ℕ → Place → ℕ → List Line → Read
+unfoldable pub readFrom : List Width → ℕ → Due → ℕ → List Line → Read
 readFrom widths limit place n [] = atEnd place n
 readFrom widths limit place n (l ∷ ls) = orMisfit n (fitLine widths limit place l) (λ next. readFrom widths limit next (suc n) ls)
 
@@ -217,5 +217,5 @@ unfoldable pub listingText : Listed → List ℕ
 listingText v = headLines (record { stopped = v .stopped; table = v .table; count = length (v .records) }) ++ allLines (v .records)
 
 -- what a session and its live table say
-abbrev pub saidBy : Session → List Record → Listed
-saidBy s t = record { stopped = stoppedAs (s .phase); table = s .table; records = t }
+abbrev pub listedBy : Session → List Record → Listed
+listedBy s t = record { stopped = stoppedAs (s .phase); table = s .table; records = t }

@@ -10,7 +10,7 @@ use Rattle.rtr_room.specs.Table.{isTable, inRule, ordered}
 use Rattle.rtr_room.specs.declared.Record.{Record}
 use Rattle.rtr_listing.specs.declared.Head.{Head}
 use Rattle.rtr_listing.specs.Listing.{text, tableFields, tableNumbers}
-use Rattle.rtr_listed.specs.Listed.{Line, Fit, Place, Read, linesOf, fitting, sameText, countWidths, readFrom, readListing, nextRecord}
+use Rattle.rtr_listed.specs.Listed.{Line, Fit, Due, Read, linesOf, fitting, sameText, countWidths, readFrom, readListing, nextRecord}
 use Rattle.rtr_listed.specs.Listed.Fit.{fits, misfits}
 use Rattle.rtr_listed.specs.Listed.Read.{misfit}
 use Rattle.rtr_listed.specs.declared.Cursor.{Cursor}
@@ -58,7 +58,7 @@ abbrev pub linesAt : List ℕ → Cursor → List Line
 linesAt s c = linesOf (drop (c .at) s)
 
 -- what reading comes to from a place on
-unfoldable pub readOn : ℕ → List ℕ → Place → Cursor → Read
+unfoldable pub readOn : ℕ → List ℕ → Due → Cursor → Read
 readOn limit s place c = cond (c .fits) (readFrom countWidths limit place (c .line) (linesAt s c)) (misfit (c .line))
 
 -- the line there does not fit
@@ -99,7 +99,7 @@ NoneTook s c next = Took {A = ℕ} (λ bytes. fitting (sameText bytes (text "cou
 -- the lines of a table's numbers: what is read from the first on is what is read from behind the last
 abbrev pub TableTook : List ℕ → Cursor → TableRead → Type 0
 TableTook s c r =
-    ((limit stopped : ℕ) → readOn limit s (Place.numbersDue stopped [] tableFields) c ≡ readOn limit s (Place.numbersDue stopped (tableNumbers (r .table)) []) (r .next))
+    ((limit stopped : ℕ) → readOn limit s (Due.numbersDue stopped [] tableFields) c ≡ readOn limit s (Due.numbersDue stopped (tableNumbers (r .table)) []) (r .next))
     × Near s 5 c (r .next)
 
 -- the lines of a head: a whole text is read as from behind them
@@ -111,7 +111,7 @@ pub record HeadTook (limit : ℕ) (s : List ℕ) (r : HeadRead) : Type 0 where
 
 -- the lines of a record behind others
 pub record RecordTook (s : List ℕ) (c : Cursor) (t : List Record) (r : RecordRead) : Type 0 where
-  pub stands : (limit : ℕ) (h : Head) → readOn limit s (Place.familyDue h t) c ≡ readOn limit s (nextRecord h (t ++ r .entry ∷ [])) (r .next)
+  pub stands : (limit : ℕ) (h : Head) → readOn limit s (Due.familyDue h t) c ≡ readOn limit s (nextRecord h (t ++ r .entry ∷ [])) (r .next)
   pub ordered : r .next .fits ≡ true → ordered (t ++ r .entry ∷ []) ≡ true
   pub ruled : r .next .fits ≡ true → inRule (r .entry) ≡ true
   pub near : Near s 5 c (r .next)
@@ -138,7 +138,7 @@ ValueIs s c name Value.Nowhere = c .fits ≡ true → (l : Line) (ls : List Line
 
 -- the records were read into the room, or a line does not fit
 pub data AllRead (limit : ℕ) (s : List ℕ) (h : Head) (c : Cursor) (left : List ℕ) (next : Cursor) : Type 0 where
-  all : (t : List Record) → isTable t ≡ true → length t ≡ h .count → left ≡ room limit t → readOn limit s (nextRecord h []) c ≡ readOn limit s (Place.endDue h t) next → AllRead limit s h c left next
+  all : (t : List Record) → isTable t ≡ true → length t ≡ h .count → left ≡ room limit t → readOn limit s (nextRecord h []) c ≡ readOn limit s (Due.endDue h t) next → AllRead limit s h c left next
   some : next .fits ≡ false → readOn limit s (nextRecord h []) c ≡ misfit (next .line) → AllRead limit s h c left next
 
 -- so many records, behind any head that counts as many

@@ -43,14 +43,14 @@ listedSaid (ListedAnswer.Listed head) = says head
 listedSaid (ListedAnswer.Refused error) = listedRefusal error
 
 -- the head of what was read
-abbrev pub headOf : Listed → Head
-headOf v = record { stopped = v .stopped; table = v .table; count = length (v .records) }
+abbrev pub listedHead : Listed → Head
+listedHead v = record { stopped = v .stopped; table = v .table; count = length (v .records) }
 
 -- what a text comes to
-abbrev pub readAs : ℕ → Read → ListedLeft
-readAs limit (listed v) = record { answer = says (headOf v); room = room limit (v .records) }
-readAs limit (misfit line) = record { answer = refused 24 (line ∷ []); room = replicate (6 * limit) 0 }
+abbrev pub readLeaves : ℕ → Read → ListedLeft
+readLeaves limit (listed v) = record { answer = says (listedHead v); room = room limit (v .records) }
+readLeaves limit (misfit line) = record { answer = refused 24 (line ∷ []); room = replicate (6 * limit) 0 }
 
 -- reading a text into a lent room
 unfoldable pub listedSays : ℕ → List ℕ → List ℕ → ListedLeft
-listedSays limit s lent = cond (eqb (length lent) (6 * limit)) (readAs limit (readListing limit s)) (record { answer = refused 22 []; room = lent })
+listedSays limit s lent = cond (eqb (length lent) (6 * limit)) (readLeaves limit (readListing limit s)) (record { answer = refused 22 []; room = lent })
