@@ -7,7 +7,7 @@ use native.Mathlib.Omega.{arith}
 use lib.ListN.{length, drop, length-drop, drop-of-length-le}
 use Rattle.rtr_models.specs.declared.RtrPdu.{RtrPdu}
 use Rattle.rtr_codec.specs.Reading.{Reading}
-use Rattle.rtr_codec.specs.Read.{read}
+use Rattle.rtr_codec.specs.Read.{Verdict, read}
 use Rattle.rtr_codec.specs.Read.Verdict.{accepted, refused}
 use Rattle.rtr_codec.specs.Run.{readAt, placeAfter}
 use Rattle.rtr_codec.proofs.Laws.{read-consumes}
@@ -29,3 +29,8 @@ unfolding readAt
 accepted-moves R s at pdu n h e =
     let c = read-consumes R (drop at s) pdu n e in
     (ap (placeAfter at) e, c .1, omega (arith, c .2, length-drop at s))
+
+-- what is read from a place on is what reading at the place gives, and the next place is behind it
+pub accepted-at : (R : Reading) (s : List ℕ) (at : ℕ) (pdu : RtrPdu) (n : ℕ) → read R (drop at s) ≡ accepted pdu n → readAt R s at ≡ record { answer = accepted pdu n; next = at + n }
+unfolding readAt
+accepted-at R s at pdu n e = ap (λ (v : Verdict). record { answer = v; next = placeAfter at v }) e

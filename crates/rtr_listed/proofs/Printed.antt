@@ -14,7 +14,9 @@ use Rattle.rtr_room.specs.Room.{records, isRoom}
 use Rattle.rtr_room.specs.declared.Record.{Record}
 use Rattle.rtr_room.proofs.Laws.{records-none, records-length, rules-size}
 use Rattle.rtr_room.proofs.Laws.Tests.{first-of, second-of}
+use Rattle.rtr_room.specs.Table.{AllFit}
 use Rattle.rtr_receiver.specs.Contents.{contents, areRooms}
+use Rattle.rtr_receiver.specs.Fits.{TableNumbersFit}
 use Rattle.rtr_receiver.specs.History.{hasTable}
 use Rattle.rtr_receiver.specs.Promises.{stoppedBy, stopSaid, stageOf, hasLimit}
 use Rattle.rtr_receiver.specs.Receiver.{isStop}
@@ -31,7 +33,7 @@ use Rattle.rtr_listing.proofs.Laws.{history-is-listed}
 use Rattle.rtr_listing.proofs.Printed.{listed as printed}
 use Rattle.rtr_listed.specs.Listed.{mayStop, readListing, listingText, listedBy}
 use Rattle.rtr_listed.specs.Listed.Read.{listed}
-use Rattle.rtr_listed.specs.Fits.{TableNumbersFit, InfoFits, AllFit, ListingFits, NumbersFit}
+use Rattle.rtr_listed.specs.Fits.{InfoFits, ListingFits, NumbersFit}
 use Rattle.rtr_listed.proofs.Order.{room-is}
 use Rattle.rtr_listed.proofs.Shown.{text-reads}
 

@@ -9,7 +9,8 @@ use borrow.Author.Tests.{leb-true, le-leb, eq-eqb, ne-eqb, lt-ltb, le-ltb}
 use lib.Dec.{leb, ltb, eqb}
 use lib.ListN.{length, take, drop, length-append}
 use lib.Seq.{append-snoc, take-at, drop-at}
-use Rattle.rtr_room.specs.Table.{isTable, allInRule, inRule, ordered, familyOf, prefixOf, maxOf, ipv4Record}
+use Rattle.rtr_room.specs.Table.{isTable, allInRule, inRule, ordered, familyOf, prefixOf, maxOf, ipv4Record, WordsFit, AllFit}
+use Rattle.rtr_room.specs.Table.AllFit.{one}
 use Rattle.rtr_room.specs.declared.Record.{Record}
 use Rattle.rtr_room.proofs.Laws.{kind-is, in-rule-four, in-rule-family, in-rule-lengths, ipv4-in-rule, ordered-front, all-in-rule-append, all-in-rule-one}
 use Rattle.rtr_room.proofs.Laws.Tests.{first-of, second-of, both}
@@ -22,8 +23,7 @@ use Rattle.rtr_listed.specs.Listed.{Fit, Due, Listed, linesOf, fitting, 
 use Rattle.rtr_listed.specs.Listed.Fit.{fits}
 use Rattle.rtr_listed.specs.Listed.Due.{stopDue, secondDue, numbersDue, familyDue, addressDue, lengthDue, maxDue, asnDue, endDue}
 use Rattle.rtr_listed.specs.Listed.Read.{listed}
-use Rattle.rtr_listed.specs.Fits.{InfoFits, WordsFit, AllFit, ListingFits}
-use Rattle.rtr_listed.specs.Fits.AllFit.{one}
+use Rattle.rtr_listed.specs.Fits.{InfoFits, ListingFits}
 use Rattle.rtr_listed.specs.Private.{lineGives}
 use Rattle.rtr_listed.specs.declared.Words.{Words}
 use Rattle.rtr_listed.proofs.Texts.{same-refl, named-value}

@@ -8,10 +8,12 @@ use borrow.Author.Tests.{leb-true, eqb-true, eqb-false, ltb-true, ltb-false}
 use lib.Dec.{leb, ltb, eqb}
 use lib.ListN.{length, take, drop, length-append, length-drop}
 use lib.Seq.{append-snoc, length-take-le}
-use Rattle.rtr_room.specs.Table.{isTable, familyOf, prefixOf, maxOf, inRule, ordered}
+use Rattle.rtr_room.specs.Table.{isTable, familyOf, prefixOf, maxOf, inRule, ordered, WordsFit, AllFit}
+use Rattle.rtr_room.specs.Table.AllFit.{none, one}
 use Rattle.rtr_room.specs.declared.Record.{Record}
 use Rattle.rtr_room.proofs.Laws.{empty-table, table-last}
 use Rattle.rtr_room.proofs.Laws.Tests.{first-of, second-of}
+use Rattle.rtr_receiver.specs.Fits.{TableNumbersFit}
 use Rattle.rtr_receiver.specs.declared.LiveTable.{LiveTable}
 use Rattle.rtr_listing.specs.Listing.{Field, text, digits, decimal, countDigits, lineOf, line, tableFields, fieldLines, tableLines, headLines, addressOf, recordLines, allLines}
 use Rattle.rtr_listing.specs.Digits.{areHex}
@@ -20,8 +22,6 @@ use Rattle.rtr_listing.proofs.Laws.{line-is, head-lines-are, no-table-line, tab
 use Rattle.rtr_listed.specs.Listed.{Fit, Due, leading, sameText, named, numberIn, countWidths, countIn, recordOf, wordAt, wordsIn, addressIn, nextRecord, mayStop, tableFrom, withoutTable, onNumbers, widest, onLine}
 use Rattle.rtr_listed.specs.Listed.Fit.{fits, misfits}
 use Rattle.rtr_listed.specs.Listed.Due.{stopDue, secondDue, numbersDue, familyDue, addressDue, lengthDue, maxDue, asnDue, endDue}
-use Rattle.rtr_listed.specs.Fits.{TableNumbersFit, WordsFit, AllFit}
-use Rattle.rtr_listed.specs.Fits.AllFit.{none, one}
 use Rattle.rtr_listed.specs.declared.Words.{Words}
 use Rattle.rtr_listed.proofs.Texts.{same-equal, named-fits}
 use Rattle.rtr_listed.proofs.Numbers.{fitting-fits, number-fits, count-fits}

@@ -1,42 +1,22 @@
 -- Which values a listing can have, for `reads-exactly`, and which numbers lie in memory, for `run-reads-back`: document 02, request Four.
 use Prim.Native.Nat.{ℕ, _≤_}
 use mathlib.Core.Bool.{true}
-use mathlib.Core.List.{List, [], _∷_}
+use mathlib.Core.List.{List, []}
 use mathlib.Core.Path.{_≡_}
 use lib.ListN.{length}
-use Rattle.rtr_room.specs.Table.{isTable}
+use Rattle.rtr_room.specs.Table.{isTable, AllFit}
 use Rattle.rtr_room.specs.declared.Record.{Record}
 use Rattle.rtr_receiver.specs.Contents.{contents}
+use Rattle.rtr_receiver.specs.Fits.{TableNumbersFit}
 use Rattle.rtr_receiver.specs.Runs.{Memory}
 use Rattle.rtr_receiver.specs.declared.LiveTable.{LiveTable}
 use Rattle.rtr_receiver.specs.declared.Table.{Table}
 use Rattle.rtr_listed.specs.Listed.{Listed, mayStop}
 
--- the numbers of a table: a session has 16 bits, the others 32
-pub record TableNumbersFit (t : Table) : Type 0 where
-  pub session : t .session ≤ 65535
-  pub serial : t .serial ≤ 4294967295
-  pub refresh : t .refresh ≤ 4294967295
-  pub retry : t .retry ≤ 4294967295
-  pub expire : t .expire ≤ 4294967295
-
 -- without a table there are no records
 abbrev pub InfoFits : LiveTable → List Record → Type 0
 InfoFits LiveTable.NoTable records = records ≡ []
 InfoFits (LiveTable.Known t) records = TableNumbersFit t
-
--- the address and the AS number of a record are of 32 bits
-pub record WordsFit (r : Record) : Type 0 where
-  pub w0 : r .w0 ≤ 4294967295
-  pub w1 : r .w1 ≤ 4294967295
-  pub w2 : r .w2 ≤ 4294967295
-  pub w3 : r .w3 ≤ 4294967295
-  pub asn : r .asn ≤ 4294967295
-
--- so are those of each
-pub data AllFit : List Record → Type 0 where
-  none : AllFit []
-  one : {r : Record} {t : List Record} → WordsFit r → AllFit t → AllFit (r ∷ t)
 
 -- the values fit: a stop that may be, a table's numbers or no record, a table within the limit and within the highest count that the width takes
 pub record ListingFits (limit : ℕ) (v : Listed) : Type 0 where

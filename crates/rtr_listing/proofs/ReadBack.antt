@@ -1,14 +1,14 @@
 -- Digits read back: what stands for a number is the text that is written for it, where it has the digits for that. Each byte more is the number so far times the base, plus the
 -- digit (`digits-push`); so a text of digits is the digits of its own value. Without a leading zero it has as many places as that value needs. Assumes nothing.
 use Prim.Native.Nat.{ℕ, zero, suc, _+_, _-_, _*_, _^_, _≤_, _<_, _/_, _%_}
-use mathlib.Core.Bool.{Bool, true, false, cond, not, _&&_, _||_, false≢true}
+use mathlib.Core.Bool.{Bool, true, false, not, _&&_, _||_, false≢true}
 use mathlib.Core.List.{List, [], _∷_, _++_, append-assoc, append-nil}
 use mathlib.Core.Logic.{_↔_}
 use mathlib.Core.Path.{_≡_, refl, sym, ap, _∙_}
 use native.Mathlib.Nat.{pow-suc, pow-zero, mul-assoc, mul-comm, mul-le-mul-right, add-zero, zero-add}
 use native.Mathlib.Omega.{arith}
 use borrow.Author.Tests.{lt-ltb, le-ltb, leb-true, le-leb, leb-false, ne-eqb, eqb-false}
-use lib.Dec.{ltb, leb, eqb}
+use lib.Dec.{leb, eqb}
 use lib.ListN.{length, getD}
 use Rattle.rtr_room.proofs.Laws.Tests.{first-of, second-of, both}
 use Rattle.rtr_listing.specs.Listing.{glyph, digits, places, decimal}

@@ -1,9 +1,9 @@
--- Small histories with their updates, places and tables computed, for the reader of specs/History.antt; the bytes are those of document 01's listing. First: the bytes of a
--- PDU come to that PDU, and without the last of them to nothing. Assumes nothing.
-use Prim.Native.Nat.{ℕ, _≤_, _<_}
+-- Small histories with their updates, places and tables computed, for the reader of specs/History.antt; the bytes are those of document 01's listing.
+-- Assumes nothing.
+use Prim.Native.Nat.{ℕ, _≤_}
 use mathlib.Core.Bool.{true, false}
-use mathlib.Core.List.{List, [], _∷_, _++_, append-assoc}
-use mathlib.Core.Path.{_≡_, refl, sym, ap, _∙_, subst}
+use mathlib.Core.List.{List, [], _∷_, _++_}
+use mathlib.Core.Path.{_≡_, refl, ap, _∙_}
 use native.Mathlib.Omega.{arith}
 use lib.ListN.{length, take}
 use Rattle.rtr_models.specs.declared.RtrPdu.{RtrPdu}
@@ -12,53 +12,17 @@ use Rattle.rtr_models.specs.declared.Interval.the-variants.{Absent}
 use Rattle.rtr_codec.specs.Reading.{inUse}
 use Rattle.rtr_codec.specs.Read.{Verdict, read}
 use Rattle.rtr_codec.proofs.Samples.{responseBytes, prefixBytes, endBytes, responsePdu, prefixPdu, endPdu, response-read, announced-read, withdrawn-read, end-read, later-end-read, other-end-read}
-use Rattle.rtr_stream.specs.Stream.{Heard, longest}
-use Rattle.rtr_stream.proofs.Laws.{pdu-is-heard, front-waits}
 use Rattle.rtr_room.specs.Table.{Change, ipv4Record, leave}
 use Rattle.rtr_room.specs.declared.Record.{Record}
 use Rattle.rtr_room.proofs.Laws.{enter-first, leave-first, leave-empty}
-use Rattle.rtr_receiver.specs.History.{Event, Update, Live, Item, Place, noTable, kept, withAll, withUpdates, tableOf, itemsBy, items, takenIn, Outcome, after, outcome, finished}
+use Rattle.rtr_receiver.specs.History.{Event, Update, Live, Item, Place, noTable, kept, withAll, withUpdates, tableOf, items, takenIn, Outcome, after, outcome, finished}
 use Rattle.rtr_receiver.specs.Receiver.{Notified, notified}
 use Rattle.rtr_receiver.specs.Runs.{bytes}
 use Rattle.rtr_receiver.specs.declared.LoadKind.{LoadKind}
 use Rattle.rtr_receiver.specs.declared.Table.{Table}
 use Rattle.rtr_receiver.specs.declared.LiveTable.{LiveTable}
 use Rattle.rtr_receiver.specs.declared.Note.{Note}
-
-module _ (H : ℕ) where
-  -- these bytes, no more and no fewer, are a PDU that is listened to
-  abbrev Says : List ℕ → RtrPdu → Type 0
-  Says s pdu = (length s ≤ longest) × (length s ≤ H) × (read inUse s ≡ Verdict.accepted pdu (length s))
-
-  -- the bytes of a PDU, of which s are in hand and t are to come, come to it
-  rest-told : (s t : List ℕ) (pdu : RtrPdu) → 0 < length t → Says (s ++ t) pdu → (es : List Event) → items H s (bytes t ++ es) ≡ Item.told pdu ∷ items H [] es
-  unfolding items
-  rest-told s [] pdu more says es = absurd (omega arith)
-  rest-told s (b ∷ []) pdu more says es = ap (λ (h : Heard). itemsBy (s ++ b ∷ []) h (λ held. items H held es)) (pdu-is-heard inUse H (s ++ b ∷ []) pdu (says .0) (says .1) (says .2))
-  rest-told s (b ∷ c ∷ t) pdu more says es =
-      let later : Says ((s ++ b ∷ []) ++ c ∷ t) pdu = subst (λ (x : List ℕ). Says x pdu) (sym (append-assoc s (b ∷ []) (c ∷ t))) says in
-      ap (λ (h : Heard). itemsBy (s ++ b ∷ []) h (λ held. items H held (bytes (c ∷ t) ++ es))) (front-waits inUse H (s ++ b ∷ []) (c ∷ t) pdu (omega arith) (later .0) (later .1) (later .2))
-      ∙ rest-told (s ++ b ∷ []) (c ∷ t) pdu (omega arith) later es
-
-  -- the bytes of a PDU come to it
-  pub told-by : (s : List ℕ) (pdu : RtrPdu) → 0 < length s → Says s pdu → (es : List Event) → items H [] (bytes s ++ es) ≡ Item.told pdu ∷ items H [] es
-  told-by s pdu more says es = rest-told [] s pdu more says es
-
-  -- bytes that are cut off before the PDU's end come to nothing
-  rest-cut : (s t u : List ℕ) (pdu : RtrPdu) → 0 < length u → Says (s ++ (t ++ u)) pdu → items H s (bytes t) ≡ []
-  unfolding items
-  rest-cut s [] u pdu more says = refl
-  rest-cut s (b ∷ t) u pdu more says =
-      let later : Says ((s ++ b ∷ []) ++ (t ++ u)) pdu = subst (λ (x : List ℕ). Says x pdu) (sym (append-assoc s (b ∷ []) (t ++ u))) says in
-      ap (λ (h : Heard). itemsBy (s ++ b ∷ []) h (λ held. items H held (bytes t))) (front-waits inUse H (s ++ b ∷ []) (t ++ u) pdu (longer t u more) (later .0) (later .1) (later .2))
-      ∙ rest-cut (s ++ b ∷ []) t u pdu more later
-    where
-      longer : (t u : List ℕ) → 0 < length u → 0 < length (t ++ u)
-      longer [] u more = more
-      longer (x ∷ t) u more = omega arith
-
-  pub cut-off : (t u : List ℕ) (pdu : RtrPdu) → 0 < length u → Says (t ++ u) pdu → items H [] (bytes t) ≡ []
-  cut-off t u pdu more says = rest-cut [] t u pdu more says
+use Rattle.rtr_receiver.proofs.Whole.{told-by, cut-off}
 
 -- ---- Histories, in version 1, with any record limit of 1 or more and any hold of 24 bytes or more
 
@@ -100,25 +64,25 @@ abbrev emptied : Update
 emptied = record { kind = LoadKind.Change; records = record { announced = false; what = prefix } ∷ []; end = said 8 }
 
 module _ (limit H : ℕ) (some : 1 ≤ limit) (size : 24 ≤ H) where
-  heard : (s : List ℕ) (pdu : RtrPdu) → 0 < length s → length s ≤ 24 → read inUse s ≡ Verdict.accepted pdu (length s) → (es : List Event) → items H [] (bytes s ++ es) ≡ Item.told pdu ∷ items H [] es
-  heard s pdu more few e es = told-by H s pdu more (omega arith, omega arith, e) es
+  heard : (s : List ℕ) (pdu : RtrPdu) → length s ≤ 24 → read inUse s ≡ Verdict.accepted pdu (length s) → (es : List Event) → items H [] (bytes s ++ es) ≡ Item.told pdu ∷ items H [] es
+  heard s pdu few e es = told-by H s pdu (record { most = omega arith; fits = omega arith; reads = e }) es
 
   -- ---- what the bytes come to
 
   response-items : (es : List Event) → items H [] (response es) ≡ Item.told responsePdu ∷ items H [] es
-  response-items es = heard responseBytes responsePdu (omega arith) (omega arith) response-read es
+  response-items es = heard responseBytes responsePdu (omega arith) response-read es
 
   announced-items : (es : List Event) → items H [] (announced es) ≡ Item.told (prefixPdu 1) ∷ items H [] es
-  announced-items es = heard (prefixBytes 1) (prefixPdu 1) (omega arith) (omega arith) announced-read es
+  announced-items es = heard (prefixBytes 1) (prefixPdu 1) (omega arith) announced-read es
 
   withdrawn-items : (es : List Event) → items H [] (withdrawn es) ≡ Item.told (prefixPdu 0) ∷ items H [] es
-  withdrawn-items es = heard (prefixBytes 0) (prefixPdu 0) (omega arith) (omega arith) withdrawn-read es
+  withdrawn-items es = heard (prefixBytes 0) (prefixPdu 0) (omega arith) withdrawn-read es
 
   ended-items : (es : List Event) → items H [] (ended 7 es) ≡ Item.told (endPdu 4660 7) ∷ items H [] es
-  ended-items es = heard (endBytes 0x12 0x34 7) (endPdu 4660 7) (omega arith) (omega arith) end-read es
+  ended-items es = heard (endBytes 0x12 0x34 7) (endPdu 4660 7) (omega arith) end-read es
 
   later-ended-items : (es : List Event) → items H [] (ended 8 es) ≡ Item.told (endPdu 4660 8) ∷ items H [] es
-  later-ended-items es = heard (endBytes 0x12 0x34 8) (endPdu 4660 8) (omega arith) (omega arith) later-end-read es
+  later-ended-items es = heard (endBytes 0x12 0x34 8) (endPdu 4660 8) (omega arith) later-end-read es
 
   -- ---- a load so far, with what is still to come
 
@@ -168,14 +132,14 @@ module _ (limit H : ℕ) (some : 1 ≤ limit) (size : 24 ≤ H) where
   unfolding outcome
   listing-cut =
       began (bytes (take 23 (endBytes 0x12 0x34 7)))
-      ∙ ap told (cut-off H (take 23 (endBytes 0x12 0x34 7)) (0x20 ∷ []) (endPdu 4660 7) (omega arith) (omega arith, omega arith, end-read))
+      ∙ ap told (cut-off H (take 23 (endBytes 0x12 0x34 7)) (0x20 ∷ []) (endPdu 4660 7) (omega arith) (record { most = omega arith; fits = omega arith; reads = end-read }))
 
   -- 3. with another session in its End of Data: none either, and the connection is lost by 15
   pub other-session : comes (fullAsk (response (announced (bytes (endBytes 0x12 0x35 7) ++ [])))) ≡ record { updates = []; place = Place.lost 15 [] }
   unfolding items outcome
   other-session =
       began (bytes (endBytes 0x12 0x35 7) ++ [])
-      ∙ ap told (heard (endBytes 0x12 0x35 7) (endPdu 4661 7) (omega arith) (omega arith) other-end-read [])
+      ∙ ap told (heard (endBytes 0x12 0x35 7) (endPdu 4661 7) (omega arith) other-end-read [])
 
   -- ---- a change after it
 

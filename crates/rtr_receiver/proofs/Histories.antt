@@ -35,7 +35,7 @@ abbrev pub liveOf : Receiver → Live
 liveOf r = record { info = r .table; records = r .live }
 
 -- one record more
-with-one-more : (limit : ℕ) (cs : List Changed) (t : List Record) (c : Changed) → withAll limit t (cs ++ c ∷ []) ≡ kept (withAll limit t cs) (applied limit (withAll limit t cs) (c .announced) (c .what))
+pub with-one-more : (limit : ℕ) (cs : List Changed) (t : List Record) (c : Changed) → withAll limit t (cs ++ c ∷ []) ≡ kept (withAll limit t cs) (applied limit (withAll limit t cs) (c .announced) (c .what))
 unfolding withAll
 with-one-more limit [] t c = refl
 with-one-more limit (x ∷ cs) t c = with-one-more limit cs (kept t (applied limit t (x .announced) (x .what))) c

@@ -1,13 +1,13 @@
 -- What every PDU keeps, whatever the receiver: its version for life; an empty hold; a stop is by 13 to 19; and the one update that a phase can still give in a feed is given once, since a load begins
 -- by an ask alone. From there what a feed keeps: bytes are taken one by one, a stop takes those up to the one that made it, one update finishes at the most. Assumes nothing.
 use Prim.Native.Nat.{ℕ, suc, _+_, _≤_, _<_}
-use mathlib.Core.Bool.{Bool, true, false, cond, _&&_, _||_, false≢true}
+use mathlib.Core.Bool.{Bool, true, false, cond, false≢true}
 use mathlib.Core.List.{List, [], _∷_, _++_}
 use mathlib.Core.Logic.{_⊎_, inl, inr}
 use mathlib.Core.Path.{_≡_, refl, sym, ap, _∙_, subst}
 use native.Mathlib.Omega.{arith}
 use borrow.Author.Tests.{le-leb}
-use lib.Dec.{eqb, leb}
+use lib.Dec.{eqb}
 use lib.ListN.{length, take}
 use Rattle.rtr_models.specs.Values.{announces, typeOf}
 use Rattle.rtr_models.specs.declared.RtrEndOfData.{RtrEndOfData}

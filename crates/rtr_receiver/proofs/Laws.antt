@@ -30,7 +30,7 @@ use Rattle.rtr_receiver.proofs.Feeds.{from, stopped-takes-none}
 use Rattle.rtr_receiver.proofs.Memory.{limit-is, limit-of, standing}
 use Rattle.rtr_receiver.proofs.Steps.{shape-of, good-of}
 use Rattle.rtr_receiver.proofs.Kept.{toCome, stopsRightly, Cleared, piece-keeps, Through, through}
-use Rattle.rtr_receiver.proofs.Histories.{piece-follows, onward-by, all-between}
+use Rattle.rtr_receiver.proofs.Histories.{with-one-more, piece-follows, onward-by, all-between}
 use Rattle.rtr_receiver.proofs.Runs.{Stands, after, run-along, in-shape, is-receiver, step-stands, history-snoc}
 
 -- ---- A refused call changes nothing
@@ -261,20 +261,23 @@ limit-of-shape = limit-of
 
 -- ---- Every call keeps receiver shape
 
--- from any memory that has it
-pub keeps-shape : (limit : ℕ) (call : Call) (m m′ : Memory) → isReceiver limit (m .session) (m .live) (m .working) (m .hold) ≡ true → Step limit m call m′ → isReceiver limit (m′ .session) (m′ .live) (m′ .working) (m′ .hold) ≡ true
-keeps-shape limit call m m′ e step =
+-- memory that has it stands for its receiver
+pub stands-in-shape : (limit : ℕ) (m : Memory) → isReceiver limit (m .session) (m .live) (m .working) (m .hold) ≡ true
+    → Stands limit (length (m .hold)) m (receiverOf (m .session) (m .live) (m .working) (m .hold))
+stands-in-shape limit m e =
     let shape = shape-of limit (m .session) (m .live) (m .working) (m .hold) e in
     let stream = stream-has (m .hold) (m .session .held) (shape .stream) in
-    let st : Stands limit (length (m .hold)) m (receiverOf (m .session) (m .live) (m .working) (m .hold)) =
     record {
       known = second-of (eqb (m .session .life .limit) limit) (isLimit limit) (shape .limited);
       size = refl;
       least = stream .0;
       left = standing limit (m .session) (m .live) (m .working) (m .hold) e;
       sound = record { good = good-of limit (m .session) (m .live) (m .working) (m .hold) shape; waits = stream .2 };
-    } in
-    in-shape limit (length (m .hold)) (step-stands limit (length (m .hold)) call m m′ _ st step)
+    }
+
+-- from any memory that has it
+pub keeps-shape : (limit : ℕ) (call : Call) (m m′ : Memory) → isReceiver limit (m .session) (m .live) (m .working) (m .hold) ≡ true → Step limit m call m′ → isReceiver limit (m′ .session) (m′ .live) (m′ .working) (m′ .hold) ≡ true
+keeps-shape limit call m m′ e step = in-shape limit (length (m .hold)) (step-stands limit (length (m .hold)) call m m′ _ (stands-in-shape limit m e) step)
 
 -- so along a run 22 never comes
 pub shape-kept : (limit H : ℕ) (v : RtrProtocolVersion) (calls : List Call) (m : Memory) → Run limit v H calls m → isReceiver limit (m .session) (m .live) (m .working) (m .hold) ≡ true
@@ -399,3 +402,9 @@ pub with-all-next : (limit : ℕ) (t t′ : Contents) (c : Changed) (cs : List C
     → applied limit t (c .announced) (c .what) ≡ Change.changed t′ → withAll limit t (c ∷ cs) ≡ withAll limit t′ cs
 unfolding withAll
 with-all-next limit t t′ c cs e = ap (λ (k : Change). withAll limit (kept t k) cs) e
+
+-- and so does one behind others
+pub with-all-last : (limit : ℕ) (t u u′ : Contents) (cs : List Changed) (c : Changed)
+    → withAll limit t cs ≡ u → applied limit u (c .announced) (c .what) ≡ Change.changed u′ → withAll limit t (cs ++ c ∷ []) ≡ u′
+with-all-last limit t u u′ cs c so-far e =
+    with-one-more limit cs t c ∙ ap (λ (x : Contents). kept x (applied limit x (c .announced) (c .what))) so-far ∙ ap (kept u) e

@@ -1,4 +1,4 @@
--- `Laws`, `Shaped`, `Shape`, `Unique`, `Runs` (demand 3), `Receives` (the whole state), `Stops` (demand 1 on memory), `Updates`, `Coded` and `Examples` are for readers and other crates, and with them `Kept`, of which they say something; the others are the argument.
+-- `Laws`, `Shaped`, `Shape`, `Unique`, `Runs` (demand 3), `Receives` (the whole state), `Stops` (demand 1 on memory), `Updates`, `Coded`, `Whole` (the bytes of one PDU), `Onward` (going on from a run) and `Examples` are for readers and other crates, and with them `Kept`, of which they say something; the others are the argument.
 mod Memory
 pub mod Shape
 mod Calls
@@ -18,5 +18,7 @@ pub mod Coded
 pub mod Receives
 pub mod Stops
 pub mod Updates
+pub mod Whole
+pub mod Onward
 pub mod Examples
 mod Turns

@@ -216,6 +216,15 @@ onPiece limit H f (b ∷ piece) = onPiece limit H (onByte limit H f b) piece
 unfoldable pub feed : ℕ → ℕ → Receiver → List ℕ → Feed
 feed limit H r piece = onPiece limit H (record { receiver = r; taken = 0; updates = 0 }) piece
 
+-- a feed and then another: what they took and finished is added up
+abbrev pub together : Feed → Feed → Feed
+together f g = record { receiver = g .receiver; taken = f .taken + g .taken; updates = f .updates + g .updates }
+
+-- pieces, each fed by a call of its own
+unfoldable pub feedAll : ℕ → ℕ → Receiver → List (List ℕ) → Feed
+feedAll limit H r [] = record { receiver = r; taken = 0; updates = 0 }
+feedAll limit H r (piece ∷ pieces) = together (feed limit H r piece) (feedAll limit H (feed limit H r piece .receiver) pieces)
+
 -- the asks, by phase: a Reset Query from Idle and MustReset leads to AskedFull; a Serial Query, which names the table's session and serial, from Idle to AskedChange. Elsewhere 20; a change
 -- ask in Idle without a table 21
 pub data Query : Type 0 where

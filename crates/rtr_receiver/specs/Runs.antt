@@ -22,6 +22,11 @@ pub data Call : Type 0 where
   ask : LoadKind → List ℕ → Call
   reconnect : Call
 
+-- each piece is fed by a call of its own
+abbrev pub feeds : List (List ℕ) → List Call
+feeds [] = []
+feeds (piece ∷ pieces) = feed piece ∷ feeds pieces
+
 -- the history of calls: bytes, asks with their room, reconnects; the pieces' cuts are forgotten
 abbrev pub bytes : List ℕ → List Event
 bytes [] = []

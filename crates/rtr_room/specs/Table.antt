@@ -1,6 +1,6 @@
 -- Records, their order, and a table as a list of them: document 01, "Stream and receiver" ("A room is .." to "Host bits are kept as sent") and
 -- refusals 16, 17 and 18 of its "Refusal numbers".
-use Prim.Native.Nat.{ℕ, suc, _+_, _*_, _/_, _%_}
+use Prim.Native.Nat.{ℕ, suc, _+_, _*_, _/_, _%_, _≤_}
 use mathlib.Core.Bool.{Bool, true, false, cond, _&&_, _||_}
 use mathlib.Core.List.{List, [], _∷_}
 use lib.ListN.{length}
@@ -42,6 +42,19 @@ unfoldable pub inRule : Record → Bool
 inRule r =
     (eqb (familyOf r) 4 && (lengthsWithin 32 r && (eqb (r .w1) 0 && (eqb (r .w2) 0 && eqb (r .w3) 0))))
     || (eqb (familyOf r) 6 && lengthsWithin 128 r)
+
+-- the address and the AS number of a record are of 32 bits: a room's numbers are
+pub record WordsFit (r : Record) : Type 0 where
+  pub w0 : r .w0 ≤ 4294967295
+  pub w1 : r .w1 ≤ 4294967295
+  pub w2 : r .w2 ≤ 4294967295
+  pub w3 : r .w3 ≤ 4294967295
+  pub asn : r .asn ≤ 4294967295
+
+-- so are those of each
+pub data AllFit : List Record → Type 0 where
+  none : AllFit []
+  one : {r : Record} {t : List Record} → WordsFit r → AllFit t → AllFit (r ∷ t)
 
 -- two records are one where all six numbers are equal
 unfoldable pub same : Record → Record → Bool

@@ -12,14 +12,14 @@ use Rattle.rtr_models.specs.declared.RtrProtocolVersion.{RtrProtocolVersion}
 use Rattle.rtr_models.specs.declared.RtrProtocolVersion.the-variants.{V1}
 use Rattle.rtr_receiver.specs.Contents.{Rooms}
 use Rattle.rtr_receiver.specs.Promises.{Reason, isReceiver, startSaid, startSays, askSaid, fullAskSays, recordLimit}
-use Rattle.rtr_receiver.specs.Runs.{Call, Memory, Step, Run}
+use Rattle.rtr_receiver.specs.Runs.{Call, Memory, Step, Run, feeds}
 use Rattle.rtr_receiver.specs.declared.LoadKind.{LoadKind}
 use Rattle.rtr_receiver.specs.declared.AskedSession.{AskedSession}
 use Rattle.rtr_receiver.specs.declared.Session.{Session}
 use Rattle.rtr_receiver.specs.declared.StartAnswer.{StartAnswer}
 use Rattle.rtr_receiver.proofs.Laws.{start-exactly, shape-kept, next-step}
 use Rattle.rtr_receiver.proofs.Shape.{shape-exactly}
-use Rattle.rtr_table.specs.Feeding.{memory, Turn, Turns, Input, HeardAll, mostTurns, feeds, Ends}
+use Rattle.rtr_table.specs.Feeding.{memory, Turn, Turns, Input, HeardAll, mostTurns, Ends}
 use Rattle.rtr_table.specs.declared.Ended.{Ended}
 use Rattle.rtr_table.specs.declared.HearAnswer.{HearAnswer}
 

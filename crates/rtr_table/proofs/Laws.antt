@@ -19,7 +19,7 @@ use Rattle.rtr_room.proofs.Laws.{records-none, records-next, found-inside}
 use Rattle.rtr_receiver.specs.Promises.{Left, Ending, FeedSays, stopSaid, stoppedBy, stageOf, endingOf, leaves, feedSays, fedSaidBy, recordLimit}
 use Rattle.rtr_receiver.specs.Receiver.{Stage, listens}
 use Rattle.rtr_receiver.specs.Receives.{receives}
-use Rattle.rtr_receiver.specs.Runs.{Call, Memory, Run, historyOf}
+use Rattle.rtr_receiver.specs.Runs.{Call, Memory, Run, feeds, historyOf}
 use Rattle.rtr_receiver.specs.declared.FeedAnswer.{FeedAnswer}
 use Rattle.rtr_receiver.specs.declared.LoadKind.{LoadKind}
 use Rattle.rtr_receiver.specs.declared.Session.{Session}
@@ -29,7 +29,7 @@ use Rattle.rtr_receiver.proofs.Receives.{memory-is, feed-is}
 use Rattle.rtr_listing.specs.Listing.{headLines, headOf, recordLines, listing}
 use Rattle.rtr_listing.proofs.Laws.{listing-of-none, listing-next}
 use Rattle.rtr_listing.proofs.Printed.{printedAfter, listed-is-history}
-use Rattle.rtr_table.specs.Feeding.{memory, goesOn, Turn, Input, mostTurns, feeds, Ends}
+use Rattle.rtr_table.specs.Feeding.{memory, goesOn, Turn, Input, mostTurns, Ends}
 use Rattle.rtr_table.specs.Printing.{Shows, linesOf, linesUpTo, Listed}
 use Rattle.rtr_table.specs.declared.Ended.{Ended}
 use Rattle.rtr_table.specs.declared.HearAnswer.{HearAnswer}

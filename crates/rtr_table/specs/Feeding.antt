@@ -65,11 +65,6 @@ pub data Input (m : Memory) (last : ℕ) (m′ : Memory) : List (List ℕ) → T
 abbrev pub HeardAll : Memory → ℕ → Memory → Type 0
 HeardAll m last m′ = (pieces : List (List ℕ)) × Input m last m′ pieces
 
--- each piece is fed by a call of its own
-abbrev pub feeds : List (List ℕ) → List Call
-feeds [] = []
-feeds (piece ∷ pieces) = Call.feed piece ∷ feeds pieces
-
 -- the whole of it, in version 1: a full ask with this room for its query, and then the input. A start is refused only where the memory is not of
 -- the size
 abbrev pub Ends : HearAnswer → List ℕ → Rooms → Rooms → List ℕ → Type 0

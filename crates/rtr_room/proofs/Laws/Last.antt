@@ -1,12 +1,11 @@
 -- A record behind all of a table: where it is in order there, it is not in, its rank is the table's length, and entering puts it there. So a table can be read from its records one by one.
 -- By induction over the table. Assumes nothing.
-use Prim.Native.Nat.{ℕ, suc, _<_, _≤_}
+use Prim.Native.Nat.{ℕ, suc, _<_}
 use mathlib.Core.Bool.{Bool, true, false, cond, _&&_}
 use mathlib.Core.List.{List, [], _∷_, _++_}
 use mathlib.Core.Path.{_≡_, refl, ap, _∙_}
 use native.Mathlib.Omega.{arith}
 use borrow.Author.Tests.{lt-leb}
-use lib.Dec.{leb}
 use lib.ListN.{length}
 use Rattle.rtr_room.specs.Table.{before, isIn, rank, insert, inRule, above, ordered, allInRule, isTable, enter}
 use Rattle.rtr_room.specs.Table.Change.{changed}
