@@ -3,8 +3,9 @@
  *
  * Every call takes every input and answers; nothing is allocated, and nothing is kept between calls but the memory that you lend. A call's answer is 0 or a refusal's number (below); where several
  * would fit, the first in the order that the call names is given. What is proved of calls one after another (the table is that of the last finished update, however the bytes were cut) is `c-history` of crates/rtr_c: it asks that
- * the same session, rooms and hold are lent each time, the hold with one length, and that nobody else writes them in between. A refused call changes nothing, but for the numbers that it answers with (written, taken, updates, level, end, value, compared, state), which are
- * then 0 unless the call says otherwise, and for the rooms of hingemoss_diff. A stop is no such refusal: it is the receiver's new state.
+ * the same session, rooms and hold are lent each time, the hold with one length, and that nobody else writes them in between. A refused call changes nothing, but for the
+ * numbers that it answers with (written, taken, updates, level, end, value, compared, state, line), which are then 0 unless the call says otherwise, and for the rooms of hingemoss_diff
+ * and hingemoss_read_listing. A stop is no such refusal: it is the receiver's new state.
  *
  * What you owe: a slice is a pointer and a length in elements, one behind the other, and so many elements are there, readable, set to something, and writable where there is no const. A pointer is never NULL (not
  * of an empty slice either) and is aligned to its element. Memory that a call may write overlaps nothing else that is lent to the same call, and until the call returns nobody else (another thread, a signal's
@@ -38,12 +39,16 @@ extern "C" {
 #define HINGEMOSS_ROOM_NUMBERS 6144
 #define HINGEMOSS_SESSION_NUMBERS 24
 #define HINGEMOSS_PDU_NUMBERS 12
+#define HINGEMOSS_HEAD_NUMBERS 8        /* of what a listing says before its records: enum hingemoss_head */
+#define HINGEMOSS_END_NUMBERS 5         /* of what a run's End of Data says: session, serial, refresh, retry, expire */
 #define HINGEMOSS_HOLD_LEAST 8
 #define HINGEMOSS_HOLD_MOST 131086
 #define HINGEMOSS_FULL_QUERY 8          /* bytes of a full ask's query */
 #define HINGEMOSS_CHANGE_QUERY 12       /* and of a change ask's */
 #define HINGEMOSS_LISTING_MOST 131200   /* no listing has more bytes: 128 for the head, 128 for each record */
 #define HINGEMOSS_DIFF_MOST 294976      /* no text of hingemoss_diff has more bytes: 144 for each change of two tables, and 64 */
+#define HINGEMOSS_FULL_RUN_MOST 32800   /* no full run has more bytes: 32 for each record, and 32 */
+#define HINGEMOSS_CHANGE_RUN_MOST 65568 /* no change run has more bytes: 32 for each record of two tables, and 32 */
 
 /* Refusal numbers and, behind the colon, their values in order. */
 enum hingemoss_refusal {
@@ -69,9 +74,9 @@ enum hingemoss_refusal {
     HINGEMOSS_REFUSED_ERROR_REPORT = 19,   /* the cache sent an Error Report: code */
     HINGEMOSS_REFUSED_WRONG_PHASE = 20,    /* an ask in a wrong phase */
     HINGEMOSS_REFUSED_NO_TABLE = 21,       /* a change asked for, or a route asked about, without a table */
-    HINGEMOSS_REFUSED_NOT_A_RECEIVER = 22, /* lent memory is not of receiver shape, or numbers are no session's, no PDU's, not six of a route or not in sixes */
+    HINGEMOSS_REFUSED_NOT_A_RECEIVER = 22, /* lent memory is not of receiver shape, or numbers are no session's, no PDU's, no table's, not six of a route or not in sixes; of a run also the version, of a listing the head's size */
     HINGEMOSS_REFUSED_ROUTE = 23,          /* a route longer than its family allows, of no known family, or with IPv4 spares that are not 0 */
-    HINGEMOSS_REFUSED_LISTING = 24         /* a text that is no listing: line. No call answers it: hingemoss_diff writes it into its text */
+    HINGEMOSS_REFUSED_LISTING = 24         /* a text that is no listing: line. hingemoss_read_listing answers it; hingemoss_diff writes it into its text */
 };
 
 /* A session: the place of each of its HINGEMOSS_SESSION_NUMBERS numbers. */
@@ -144,12 +149,25 @@ enum hingemoss_pdu {
     HINGEMOSS_PDU_TEXT_LENGTH = 7
 };
 
-/* A record: the place of each of its six numbers in a room. */
+/* A record: the place of each of its six numbers in a room. A table's room keeps these rules: records ascend strictly by family, address, prefix length, max, AS number (not by the six numbers
+ * as they stand: the first has the lengths in it); prefix length <= max <= 32, or 128 for IPv6; IPv4 has zeros in its three other address numbers; every number behind the last record is 0. */
 enum hingemoss_record {
     HINGEMOSS_RECORD_KIND = 0,         /* family (4 or 6) * 65536 + prefix length * 256 + max */
     HINGEMOSS_RECORD_ADDRESS = 1,      /* four numbers; IPv4 has its address in the first and zeros behind it */
     HINGEMOSS_RECORD_ASN = 5,
     HINGEMOSS_RECORD_NUMBERS = 6
+};
+
+/* What a listing says before its records: the place of each of its HINGEMOSS_HEAD_NUMBERS numbers. From ID on stand the HINGEMOSS_END_NUMBERS that a run is lent. */
+enum hingemoss_head {
+    HINGEMOSS_HEAD_STOPPED = 0,        /* a stop's refusal number, else 0 */
+    HINGEMOSS_HEAD_TABLE = 1,          /* 1 where there is a table, else 0 and zeros behind it */
+    HINGEMOSS_HEAD_ID = 2,
+    HINGEMOSS_HEAD_SERIAL = 3,
+    HINGEMOSS_HEAD_REFRESH = 4,
+    HINGEMOSS_HEAD_RETRY = 5,
+    HINGEMOSS_HEAD_EXPIRE = 6,
+    HINGEMOSS_HEAD_COUNT = 7           /* records in the room */
 };
 
 /* A route: the place of each of its six numbers. */
@@ -232,6 +250,10 @@ uint8_t hingemoss_notify(const uint64_t *session, size_t session_len, const uint
 /* The stop and the table as lines of text. 22, which asks of the session, the live room and the table alone; 9, written is how many bytes are needed. 0: written is how many bytes. */
 uint8_t hingemoss_listing(const uint64_t *session, size_t session_len, const uint32_t *live, size_t live_len, uint8_t *out, size_t out_len, uint64_t *written);
 
+/* Reads a listing back into a room. In this order: 22, where head is not HINGEMOSS_HEAD_NUMBERS numbers or room not HINGEMOSS_ROOM_NUMBERS, and nothing changes; 24, line is the
+ * first line that does not fit or is missing, from 1 on, the room is all 0, and head stays. 0: room holds the table, head is enum hingemoss_head's. On 0 and 22 line is 0. */
+uint8_t hingemoss_read_listing(const uint8_t *text, size_t text_len, uint32_t *room, size_t room_len, uint64_t *head, size_t head_len, uint64_t *line);
+
 /* What changed from one listing to another, as bin/rtr-diff prints it: withdrawals in the old table's order, then announcements in the new table's, six lines each; nothing where nothing changed. A text
  * that is no listing is told in the output, old text first: refused=24, file=old or file=new, line=N, the first line that does not fit or is missing; the answer is then 0 as well. In this order: 22, where a room is not
  * HINGEMOSS_ROOM_NUMBERS numbers, and nothing changes; 9, written is how many bytes are needed, and the output stays. On 0 and on 9 each room holds its text's table; of a refused text it is all 0, and so is the new
@@ -251,6 +273,19 @@ uint8_t hingemoss_validate(const uint64_t *session, size_t session_len, const ui
  * gets 23; one of length 0 gets the state of a route of length max. */
 uint8_t hingemoss_validate_all(const uint64_t *session, size_t session_len, const uint32_t *live, size_t live_len, const uint32_t *working, size_t working_len,
                                const uint8_t *hold, size_t hold_len, const uint32_t *routes, size_t routes_len, uint8_t *states, size_t states_len, uint64_t *written);
+
+/* ---- Cache: a table is a room of HINGEMOSS_ROOM_NUMBERS numbers and how many records stand in it; it is only read. Fed to a receiver of that version that has asked for it and holds
+ * no bytes, with a hold of 32 bytes or more, a run makes its table live. Before a change run the receiver has to have the first table, under end's session. */
+
+/* All of a table, as a cache answers a Reset Query: Cache Response, a prefix for each record in order, End of Data. end is HINGEMOSS_END_NUMBERS numbers; version 0 does not send the
+ * intervals. In this order: 22, a version other than 0 and 1, not five numbers, one that does not fit 16 bits (the session) or 32, or a table that breaks the rules of enum hingemoss_record; 9, written is how
+ * many bytes are needed, and the output stays. 0: written is how many bytes, and those behind them stay. */
+uint8_t hingemoss_full_run(uint8_t version, const uint64_t *end, size_t end_len, const uint32_t *table, size_t table_len, uint64_t count, uint8_t *out, size_t out_len, uint64_t *written);
+
+/* What changed from the first table to the second, as a cache answers a Serial Query: Cache Response, withdrawals in the first table's order, announcements in the second's, End of Data. Answers are
+ * hingemoss_full_run's, 22 by either table. */
+uint8_t hingemoss_change_run(uint8_t version, const uint64_t *end, size_t end_len, const uint32_t *first, size_t first_len, uint64_t first_count,
+                             const uint32_t *second, size_t second_len, uint64_t second_count, uint8_t *out, size_t out_len, uint64_t *written);
 
 #ifdef __cplusplus
 }

@@ -351,6 +351,31 @@ static void diffs(void)
     EXPECT(old_room[HINGEMOSS_RECORD_ASN] == 64496);
 }
 
+/* The cache's side: document 01's bytes are the full run of its listing, which is also the change run from no records; back again the record is withdrawn. */
+static void runs(void)
+{
+    static uint32_t room[HINGEMOSS_ROOM_NUMBERS], empty[HINGEMOSS_ROOM_NUMBERS];
+    static const uint8_t v0_end[] = { 0, 7, 0x12, 0x34, 0, 0, 0, 12, 0, 0, 0, 7 };
+    uint64_t head[HINGEMOSS_HEAD_NUMBERS] = { 9 }, written, line;
+#define ROOM room, HINGEMOSS_ROOM_NUMBERS
+#define EMPTY empty, HINGEMOSS_ROOM_NUMBERS, 0
+#define TABLE room, HINGEMOSS_ROOM_NUMBERS, head[7]
+#define END head + 2, 5
+    EXPECT(hingemoss_read_listing(TEXT(listing), ROOM, head, 7, &line) == HINGEMOSS_REFUSED_NOT_A_RECEIVER && line == 0 && head[0] == 9 && room[0] == 0);
+    EXPECT(hingemoss_read_listing(TEXT(listing + 1), ROOM, head, 8, &line) == HINGEMOSS_REFUSED_LISTING && line == 1 && head[0] == 9 && room[0] == 0);
+    EXPECT(hingemoss_read_listing(TEXT("stopped=19\ncount=none\n"), ROOM, head, 8, &line) == HINGEMOSS_OK && line == 0 && head[0] == 19 && head[1] == 0 && head[2] == 0 && head[7] == 0);
+    EXPECT(hingemoss_read_listing(TEXT(listing), ROOM, head, 8, &line) == HINGEMOSS_OK && line == 0 && room[HINGEMOSS_RECORD_ASN] == 64496);
+    EXPECT(head[0] == 0 && head[1] == 1 && head[2] == 4660 && head[3] == 7 && head[4] == 3600 && head[5] == 600 && head[6] == 7200 && head[7] == 1);
+    EXPECT(hingemoss_full_run(1, END, TABLE, out, sizeof out, &written) == HINGEMOSS_OK && written == sizeof load && memcmp(out, load, sizeof load) == 0);
+    EXPECT(hingemoss_full_run(1, END, TABLE, out, sizeof load - 1, &written) == HINGEMOSS_REFUSED_OUTPUT_SHORT && written == sizeof load);
+    EXPECT(hingemoss_full_run(0, END, TABLE, out, sizeof out, &written) == HINGEMOSS_OK && written == 40 && memcmp(out + 28, v0_end, sizeof v0_end) == 0);
+    EXPECT(hingemoss_full_run(2, END, TABLE, out, 0, &written) == HINGEMOSS_REFUSED_NOT_A_RECEIVER && written == 0);
+    EXPECT(hingemoss_change_run(1, END, EMPTY, TABLE, out, sizeof out, &written) == HINGEMOSS_OK && written == sizeof load && memcmp(out, load, sizeof load) == 0);
+    EXPECT(hingemoss_change_run(1, END, TABLE, EMPTY, out, sizeof out, &written) == HINGEMOSS_OK && written == sizeof load && out[16] == 0 && memcmp(out + 17, load + 17, sizeof load - 17) == 0);
+    EXPECT(hingemoss_change_run(1, END, TABLE, TABLE, out, 31, &written) == HINGEMOSS_REFUSED_OUTPUT_SHORT && written == 32);
+    EXPECT(hingemoss_change_run(1, END, TABLE, room, HINGEMOSS_ROOM_NUMBERS, 0, out, 31, &written) == HINGEMOSS_REFUSED_NOT_A_RECEIVER && written == 0);
+}
+
 int main(void)
 {
     codec();
@@ -362,6 +387,7 @@ int main(void)
     lists();
     records_for_routes();
     diffs();
+    runs();
     puts(bad ? "calls: not all as expected" : "calls: all as expected");
     return bad;
 }

@@ -32,6 +32,11 @@ static void validate(void) { said = hingemoss_validate(MEMORY, route, HINGEMOSS_
 static void validate_all(void) { said = hingemoss_validate_all(MEMORY, routes, sizeof routes / sizeof routes[0], out, sizeof out, &number); }
 static const char none[] = "stopped=0\ncount=none\n";
 static void diff(void) { said = hingemoss_diff((const uint8_t *)none, sizeof none - 1, out, number, live, HINGEMOSS_ROOM_NUMBERS, working, HINGEMOSS_ROOM_NUMBERS, text, sizeof text, &other); }
+/* the listing is read into the room and the head that the runs are then of */
+static uint64_t head[HINGEMOSS_HEAD_NUMBERS];
+static void read_listing(void) { said = hingemoss_read_listing(out, number, working, HINGEMOSS_ROOM_NUMBERS, head, 8, &other); }
+static void full_run(void) { said = hingemoss_full_run(1, head + 2, 5, working, HINGEMOSS_ROOM_NUMBERS, head[7], text, sizeof text, &other); }
+static void change_run(void) { said = hingemoss_change_run(1, head + 2, 5, live, HINGEMOSS_ROOM_NUMBERS, head[7], working, HINGEMOSS_ROOM_NUMBERS, head[7], text, sizeof text, &other); }
 static void value(void) { number = hingemoss_read_value(nest, 3, 1), said = 0; }
 
 static void run(void) { job(); }
@@ -62,7 +67,7 @@ int main(void)
 {
     static const struct { const char *name; void (*call)(void); } calls[] = { { "start", start }, { "full_ask", full_ask }, { "feed", feed }, { "change_ask", change_ask }, { "notify", notify }, { "reconnect", reconnect },
         { "listing", listing }, { "validate", validate }, { "validate_all", validate_all }, { "walk", walk }, { "read", read_one }, { "encode", encode }, { "read_value", value },
-        { "listing", listing }, { "diff", diff } }; /* the diff is of the listing before it, and takes the rooms */
+        { "listing", listing }, { "read_listing", read_listing }, { "full_run", full_run }, { "change_run", change_run }, { "diff", diff } }; /* all of the listing before them; the diff takes the rooms */
     uint8_t *at = header(answer, 3, 7, 8);
     for (uint32_t i = 0; i < RECORDS; i++) /* far from table order */
         at = put(put(put(header(at, 4, 0, 20), 1u << 24 | 24 << 16 | 24 << 8), (i * 617 % RECORDS) << 8), 64496);

@@ -1,9 +1,11 @@
 -- What each call promises leaves one answer and one content of what is lent to be written; of the hold, up to the held count, or all of it on 22.
 -- `Post` is the contract as Rattle reads it off the source. Assumes nothing.
+use Prim.Native.Nat.{ℕ}
+use mathlib.Core.List.{List}
 use mathlib.Core.Path.{_≡_, sym, ap, _∙_}
 use denote.Ref.{now}
 use Rattle.rtr_base.proofs.Unique.{only-this}
-use Rattle.rtr_c.specs.Calls.{ReadLeft, EncodeLeft, WalkLeft, StartLeft, AskLeft, FeedLeft, ReconnectLeft, NotifyLeft, ValidateLeft, heldOf}
+use Rattle.rtr_c.specs.Calls.{ReadLeft, EncodeLeft, encodeGives, WalkLeft, StartLeft, AskLeft, FeedLeft, ReconnectLeft, NotifyLeft, ReadListingLeft, ValidateLeft, heldOf}
 use Rattle.rtr_c.proofs.hingemoss_read.Reads as read-reads
 use Rattle.rtr_c.proofs.hingemoss_encode.Reads as encode-reads
 use Rattle.rtr_c.proofs.hingemoss_walk.Reads as walk-reads
@@ -17,6 +19,18 @@ use Rattle.rtr_c.proofs.hingemoss_listing.Reads as listing-reads
 use Rattle.rtr_c.proofs.hingemoss_read_value.Reads as read-value-reads
 use Rattle.rtr_c.proofs.hingemoss_validate.Reads as validate-reads
 use Rattle.rtr_c.proofs.hingemoss_validate_all.Reads as validate-all-reads
+use Rattle.rtr_c.proofs.hingemoss_read_listing.Reads as read-listing-reads
+use Rattle.rtr_c.proofs.hingemoss_full_run.Reads as full-run-reads
+use Rattle.rtr_c.proofs.hingemoss_change_run.Reads as change-run-reads
+
+-- an answer, a count and an output, of the calls that leave them
+encoded-once : (left : EncodeLeft) (answer answer′ written written′ : ℕ) (out out′ : List ℕ) → encodeGives answer written out ≡ left → encodeGives answer′ written′ out′ ≡ left
+    → (answer ≡ answer′) × (written ≡ written′) × (out ≡ out′)
+encoded-once left answer answer′ written written′ out out′ p q = (
+  ap (λ (x : EncodeLeft). x .answer) (p ∙ sym q),
+  ap (λ (x : EncodeLeft). x .written) (p ∙ sym q),
+  ap (λ (x : EncodeLeft). x .out) (p ∙ sym q),
+)
 
 pub read-unique : (κs : _) (a : _) (r r′ : _) (s s′ : _) → read-reads.Post κs a r s → read-reads.Post κs a r′ s′
     → (r ≡ r′) × (now (s .1 .0) ≡ now (s′ .1 .0))
@@ -27,11 +41,7 @@ read-unique κs a r r′ s s′ p q = (
 
 pub encode-unique : (κs : _) (a : _) (r r′ : _) (s s′ : _) → encode-reads.Post κs a r s → encode-reads.Post κs a r′ s′
     → (r ≡ r′) × (now (s .1 .1 .1 .0) ≡ now (s′ .1 .1 .1 .0)) × (now (s .1 .1 .0) ≡ now (s′ .1 .1 .0))
-encode-unique κs a r r′ s s′ p q = (
-  ap (λ (x : EncodeLeft). x .answer) (p ∙ sym q),
-  ap (λ (x : EncodeLeft). x .written) (p ∙ sym q),
-  ap (λ (x : EncodeLeft). x .out) (p ∙ sym q),
-)
+encode-unique κs a r r′ s s′ p q = encoded-once _ _ _ _ _ _ _ p q
 
 pub walk-unique : (κs : _) (a : _) (r r′ : _) (s s′ : _) → walk-reads.Post κs a r s → walk-reads.Post κs a r′ s′
     → (r ≡ r′) × (now (s .1 .0) ≡ now (s′ .1 .0)) × (now (s .1 .1 .0) ≡ now (s′ .1 .1 .0)) × (now (s .1 .1 .1 .0) ≡ now (s′ .1 .1 .1 .0))
@@ -99,11 +109,7 @@ read-value-unique κs a r r′ s s′ p q = only-this r r′ _ p q
 
 pub listing-unique : (κs : _) (a : _) (r r′ : _) (s s′ : _) → listing-reads.Post κs a r s → listing-reads.Post κs a r′ s′
     → (r ≡ r′) × (now (s .1 .1 .1 .0) ≡ now (s′ .1 .1 .1 .0)) × (now (s .1 .1 .0) ≡ now (s′ .1 .1 .0))
-listing-unique κs a r r′ s s′ p q = (
-  ap (λ (x : EncodeLeft). x .answer) (p ∙ sym q),
-  ap (λ (x : EncodeLeft). x .written) (p ∙ sym q),
-  ap (λ (x : EncodeLeft). x .out) (p ∙ sym q),
-)
+listing-unique κs a r r′ s s′ p q = encoded-once _ _ _ _ _ _ _ p q
 
 pub validate-unique : (κs : _) (a : _) (r r′ : _) (s s′ : _) → validate-reads.Post κs a r s → validate-reads.Post κs a r′ s′
     → (r ≡ r′) × (now (s .1 .1 .1 .1 .1 .0) ≡ now (s′ .1 .1 .1 .1 .1 .0))
@@ -114,8 +120,21 @@ validate-unique κs a r r′ s s′ p q = (
 
 pub validate-all-unique : (κs : _) (a : _) (r r′ : _) (s s′ : _) → validate-all-reads.Post κs a r s → validate-all-reads.Post κs a r′ s′
     → (r ≡ r′) × (now (s .1 .1 .1 .1 .1 .1 .0) ≡ now (s′ .1 .1 .1 .1 .1 .1 .0)) × (now (s .1 .1 .1 .1 .1 .0) ≡ now (s′ .1 .1 .1 .1 .1 .0))
-validate-all-unique κs a r r′ s s′ p q = (
-  ap (λ (x : EncodeLeft). x .answer) (p ∙ sym q),
-  ap (λ (x : EncodeLeft). x .written) (p ∙ sym q),
-  ap (λ (x : EncodeLeft). x .out) (p ∙ sym q),
+validate-all-unique κs a r r′ s s′ p q = encoded-once _ _ _ _ _ _ _ p q
+
+pub read-listing-call-unique : (κs : _) (a : _) (r r′ : _) (s s′ : _) → read-listing-reads.Post κs a r s → read-listing-reads.Post κs a r′ s′
+    → (r ≡ r′) × (now (s .1 .0) ≡ now (s′ .1 .0)) × (now (s .1 .1 .0) ≡ now (s′ .1 .1 .0)) × (now (s .1 .1 .1 .0) ≡ now (s′ .1 .1 .1 .0))
+read-listing-call-unique κs a r r′ s s′ p q = (
+  ap (λ (x : ReadListingLeft). x .answer) (p ∙ sym q),
+  ap (λ (x : ReadListingLeft). x .room) (p ∙ sym q),
+  ap (λ (x : ReadListingLeft). x .head) (p ∙ sym q),
+  ap (λ (x : ReadListingLeft). x .line) (p ∙ sym q),
 )
+
+pub full-run-call-unique : (κs : _) (a : _) (r r′ : _) (s s′ : _) → full-run-reads.Post κs a r s → full-run-reads.Post κs a r′ s′
+    → (r ≡ r′) × (now (s .1 .1 .1 .1 .1 .0) ≡ now (s′ .1 .1 .1 .1 .1 .0)) × (now (s .1 .1 .1 .1 .0) ≡ now (s′ .1 .1 .1 .1 .0))
+full-run-call-unique κs a r r′ s s′ p q = encoded-once _ _ _ _ _ _ _ (p .0) (q .0)
+
+pub change-run-call-unique : (κs : _) (a : _) (r r′ : _) (s s′ : _) → change-run-reads.Post κs a r s → change-run-reads.Post κs a r′ s′
+    → (r ≡ r′) × (now (s .1 .1 .1 .1 .1 .1 .1 .0) ≡ now (s′ .1 .1 .1 .1 .1 .1 .1 .0)) × (now (s .1 .1 .1 .1 .1 .1 .0) ≡ now (s′ .1 .1 .1 .1 .1 .1 .0))
+change-run-call-unique κs a r r′ s s′ p q = encoded-once _ _ _ _ _ _ _ (p .0) (q .0)

@@ -1,23 +1,32 @@
--- Read, encode, listing, diff, validate and validate_all by their answer: for each number that the call returns, when it does so and what it leaves. proofs/Answers.antt (of
--- validate_all proofs/PeerAnswers.antt, of diff proofs/DiffAnswers.antt) has that each call is one of these, whatever it is lent.
+-- Read, encode, listing, read_listing, diff, the runs, validate and validate_all by their answer: for each number that the call returns, when it does so and what it leaves. proofs/Answers.antt (of
+-- validate_all proofs/PeerAnswers.antt, of diff proofs/DiffAnswers.antt, of read_listing and the runs proofs/RunAnswers.antt) has that each call is one of these, whatever it is lent.
 use Prim.Native.Nat.{ℕ, _*_, _%_, _≤_, _<_}
 use mathlib.Core.Bool.{true, false}
-use mathlib.Core.List.{List, _++_}
+use mathlib.Core.List.{List, [], _++_}
 use mathlib.Core.Path.{_≡_}
-use lib.ListN.{length, drop}
+use lib.ListN.{length, drop, replicate}
+use Rattle.rtr_models.specs.Codes.{versionFound}
+use Rattle.rtr_models.specs.declared.RtrProtocolVersion.{RtrProtocolVersion}
+use Rattle.rtr_models.specs.declared.VersionFound.{VersionFound}
 use Rattle.rtr_models.specs.declared.RtrPdu.{RtrPdu}
 use Rattle.rtr_codec.specs.Reading.{inUse}
 use Rattle.rtr_codec.specs.Read.{Verdict, read}
 use Rattle.rtr_encode.specs.Encode.{encodedLength, encoding, placesInside, textIn}
+use Rattle.rtr_room.specs.Table.{isTable}
+use Rattle.rtr_room.specs.Room as rooms
+use Rattle.rtr_room.specs.declared.Record.{Record}
 use Rattle.rtr_listing.specs.Listing as lines
 use Rattle.rtr_listing.specs.Promises.{ListReason}
 use Rattle.rtr_receiver.specs.Contents.{contents}
 use Rattle.rtr_receiver.specs.History.{hasTable}
 use Rattle.rtr_receiver.specs.Promises.{Reason, recordLimit}
+use Rattle.rtr_receiver.specs.declared.LoadKind.{LoadKind}
+use Rattle.rtr_receiver.specs.declared.Table.{Table}
 use Rattle.rtr_receiver.specs.declared.LiveTable.{LiveTable}
 use Rattle.rtr_receiver.specs.declared.Session.{Session}
-use Rattle.rtr_numbers.specs.Back.{sessionOf}
+use Rattle.rtr_numbers.specs.Back.{sessionOf, tableFound}
 use Rattle.rtr_numbers.specs.declared.SessionFound.{SessionFound}
+use Rattle.rtr_numbers.specs.declared.TableFound.{TableFound}
 use Rattle.rtr_pdu_numbers.specs.Numbers.{pduNumbers}
 use Rattle.rtr_pdu_numbers.specs.Back.{pduOf}
 use Rattle.rtr_pdu_numbers.specs.declared.PduFound.{PduFound}
@@ -28,10 +37,11 @@ use Rattle.rtr_origin.specs.Peer.{statesOf, routeCount}
 use Rattle.rtr_origin.specs.declared.Route.{Route}
 use Rattle.rtr_origin.specs.declared.RouteFound.{RouteFound}
 use Rattle.rtr_origin.specs.declared.RouteState.{RouteState}
-use Rattle.rtr_listed.specs.Listed.{readListing}
-use Rattle.rtr_listed.specs.Promises.{readLeaves}
+use Rattle.rtr_listed.specs.Listed.{Listed, Read, readListing}
+use Rattle.rtr_listed.specs.Promises.{listedHead, readLeaves}
 use Rattle.rtr_diffs.specs.Diffs.{newRoomBy, diffText}
-use Rattle.rtr_c.specs.Calls.{ReadLeft, readGives, EncodeLeft, encodeGives, DiffCLeft, diffGives, ValidateLeft, validateGives}
+use Rattle.rtr_cache.specs.Cache.{runBytes}
+use Rattle.rtr_c.specs.Calls.{ReadLeft, readGives, EncodeLeft, encodeGives, ReadListingLeft, readListingGives, headSize, headNumbers, DiffCLeft, diffGives, ValidateLeft, validateGives}
 
 -- read: 9 where not 12 numbers are lent; 0 and the PDU's numbers; or the read's refusal, 1 to 8, and the numbers as they were
 pub data ReadAnswers (bytes numbers : List ℕ) : ReadLeft → Type 0 where
@@ -196,3 +206,63 @@ pub data DiffAnswers (old new oldRoom newRoom out : List ℕ) : DiffCLeft → Ty
       DiffAnswers old new oldRoom newRoom out
       (diffGives 0 (length (diffText recordLimit old new)) (readLeaves recordLimit (readListing recordLimit old) .room) (newRoomBy recordLimit (readListing recordLimit old) (readListing recordLimit new))
       (diffText recordLimit old new ++ drop (length (diffText recordLimit old new)) out))
+
+-- read_listing: 22 where the head or the room has not its size, and nothing changes; 24 and the line that does not fit or is missing, the room all zeros, the head as it was; or 0, the room of the
+-- listing's table, and what the listing says before its records
+pub data ReadListingAnswers (text room head : List ℕ) : ReadListingLeft → Type 0 where
+  notHead : (length head ≡ headSize → ⊥) → ReadListingAnswers text room head (readListingGives 22 room head 0)
+  offSize : (length room ≡ 6 * recordLimit → ⊥) → ReadListingAnswers text room head (readListingGives 22 room head 0)
+  unlisted : (line : ℕ) →
+      length head ≡ headSize →
+      length room ≡ 6 * recordLimit →
+      readListing recordLimit text ≡ Read.misfit line →
+      ReadListingAnswers text room head (readListingGives 24 (replicate (6 * recordLimit) 0) head line)
+  whole : (v : Listed) →
+      length head ≡ headSize →
+      length room ≡ 6 * recordLimit →
+      readListing recordLimit text ≡ Read.listed v →
+      ReadListingAnswers text room head (readListingGives 0 (rooms.room recordLimit (v .records)) (headNumbers (listedHead v)) 0)
+
+-- a version that is known, and five numbers that are a table's
+pub record RunAsked (version : ℕ) (end : List ℕ) (v : RtrProtocolVersion) (t : Table) : Type 0 where
+  pub spoken-is : versionFound version ≡ VersionFound.Known v
+  pub numbers-are : tableFound end ≡ TableFound.Known t
+
+-- these numbers are a room of this table, which has so many records
+pub record Lends (numbers : List ℕ) (count : ℕ) (t : List Record) : Type 0 where
+  pub within : count ≤ recordLimit
+  pub table : isTable t ≡ true
+  pub counted : length t ≡ count
+  pub lent : numbers ≡ rooms.room recordLimit t
+
+-- a run of a kind, where two tables are lent in some way: 22 where the version is neither 0 nor 1, the five numbers are no table's, or no tables are lent so; 9 and the bytes needed; or 0, the bytes
+-- written and the run, with the bytes behind it as they were
+pub data RunAnswers (kind : LoadKind) (Lent : List Record → List Record → Type 0) (version : ℕ) (end out : List ℕ) : EncodeLeft → Type 0 where
+  unversioned : versionFound version ≡ VersionFound.Unknown → RunAnswers kind Lent version end out (encodeGives 22 0 out)
+  unnumbered : tableFound end ≡ TableFound.Unknown → RunAnswers kind Lent version end out (encodeGives 22 0 out)
+  unlent : ((first second : List Record) → Lent first second → ⊥) → RunAnswers kind Lent version end out (encodeGives 22 0 out)
+  short : (v : RtrProtocolVersion) (t : Table) (first second : List Record) →
+      RunAsked version end v t →
+      Lent first second →
+      length out < length (runBytes kind v t first second) →
+      RunAnswers kind Lent version end out (encodeGives 9 (length (runBytes kind v t first second)) out)
+  whole : (v : RtrProtocolVersion) (t : Table) (first second : List Record) →
+      RunAsked version end v t →
+      Lent first second →
+      length (runBytes kind v t first second) ≤ length out →
+      RunAnswers kind Lent version end out
+      (encodeGives 0 (length (runBytes kind v t first second)) (runBytes kind v t first second ++ drop (length (runBytes kind v t first second)) out))
+
+-- full_run: one table is lent, and the run is from nothing to it
+abbrev pub LendsOne : List ℕ → ℕ → List Record → List Record → Type 0
+LendsOne table count first second = (first ≡ []) × Lends table count second
+
+abbrev pub FullRunAnswers : ℕ → List ℕ → List ℕ → ℕ → List ℕ → EncodeLeft → Type 0
+FullRunAnswers version end table count out = RunAnswers LoadKind.Full (LendsOne table count) version end out
+
+-- change_run: both tables are lent
+abbrev pub LendsTwo : List ℕ → ℕ → List ℕ → ℕ → List Record → List Record → Type 0
+LendsTwo numbers count numbers′ count′ first second = Lends numbers count first × Lends numbers′ count′ second
+
+abbrev pub ChangeRunAnswers : ℕ → List ℕ → List ℕ → ℕ → List ℕ → ℕ → List ℕ → EncodeLeft → Type 0
+ChangeRunAnswers version end first firstCount second secondCount out = RunAnswers LoadKind.Change (LendsTwo first firstCount second secondCount) version end out

@@ -2,27 +2,33 @@
 -- of the limit that the session holds. Numbers that are no session's and no PDU's are refused by 22. A route is its six (rtr_origin).
 use Prim.Native.Nat.{ℕ}
 use mathlib.Core.Bool.{Bool, true, false, cond}
-use mathlib.Core.List.{List}
+use mathlib.Core.List.{List, [], _∷_, _++_}
 use lib.Dec.{eqb}
 use lib.ListN.{length, getD, take}
 use Rattle.rtr_models.specs.Codes.{typeNumber, versionFound}
+use Rattle.rtr_models.specs.declared.RtrProtocolVersion.{RtrProtocolVersion}
 use Rattle.rtr_models.specs.declared.VersionFound.{VersionFound}
 use Rattle.rtr_codec.specs.Reading.{inUse}
 use Rattle.rtr_codec.specs.Read.{Verdict, read}
 use Rattle.rtr_encode.specs.Encode.{Writing, Encoded, encode}
 use Rattle.rtr_encode.specs.Answers.{numberOf}
 use Rattle.rtr_listing.specs.Promises.{listingSays}
+use Rattle.rtr_listing.specs.declared.Head.{Head}
+use Rattle.rtr_listed.specs.Promises.{ListedSays, ListedLeft, listedSays}
 use Rattle.rtr_diffs.specs.Diffs.{DiffLeft, diffSays}
+use Rattle.rtr_cache.specs.Cache.{fullRunSays, changeRunSays}
 use Rattle.rtr_walk.specs.Walk.{End, WalkVerdict, walk}
 use Rattle.rtr_receiver.specs.Receiver.{Notified}
 use Rattle.rtr_receiver.specs.History.{hasTable}
 use Rattle.rtr_receiver.specs.Promises.{Ending, FeedSays, StartSays, AskSays, ReconnectSays, NotifySays, isReceiver, feedSays, startSays, fullAskSays, changeAskSays, reconnectSays, notifySays, recordLimit}
+use Rattle.rtr_receiver.specs.declared.Table.{Table}
 use Rattle.rtr_receiver.specs.declared.Session.{Session}
-use Rattle.rtr_numbers.specs.Numbers.{leftNumbers, sessionSize}
+use Rattle.rtr_numbers.specs.Numbers.{tableNumber, tableOr, tableNumbersOf, leftNumbers, sessionSize}
 use Rattle.rtr_pdu_numbers.specs.Numbers.{pduNumbers}
-use Rattle.rtr_numbers.specs.Back.{sessionOf}
+use Rattle.rtr_numbers.specs.Back.{sessionOf, tableFound}
 use Rattle.rtr_pdu_numbers.specs.Back.{pduOf}
 use Rattle.rtr_numbers.specs.declared.SessionFound.{SessionFound}
+use Rattle.rtr_numbers.specs.declared.TableFound.{TableFound}
 use Rattle.rtr_pdu_numbers.specs.declared.PduFound.{PduFound}
 use Rattle.rtr_origin.specs.Origin.{stateNumber}
 use Rattle.rtr_origin.specs.Promises.{RouteSays, validateSays}
@@ -300,6 +306,38 @@ listingFound SessionFound.Unknown live out = encodeGives 22 0 out
 unfoldable pub listingC : List ℕ → List ℕ → List ℕ → EncodeLeft
 listingC session live out = listingFound (sessionOf session) live out
 
+-- ---- read_listing: 0 and what the listing says before its records; 22; or 24 and the line. The room and the numbers of the head, which stay on 22; on 24 the room is all zeros
+pub record ReadListingLeft : Type 0 where
+  pub answer : ℕ
+  pub room : List ℕ
+  pub head : List ℕ
+  pub line : ℕ
+
+-- what the answer and the memory that it leaves say
+abbrev pub readListingGives : ℕ → List ℕ → List ℕ → ℕ → ReadListingLeft
+readListingGives answer room head line = record { answer = answer; room = room; head = head; line = line }
+
+-- how many numbers a head is
+abbrev pub headSize : ℕ
+headSize = 8
+
+-- the stop's number, 0 without one; whether there is a table, and what it says, zeros without one; how many records
+abbrev pub headNumbers : Head → List ℕ
+headNumbers head = head .stopped ∷ tableNumber (head .table) ∷ (tableNumbersOf (tableOr (head .table)) ++ head .count ∷ [])
+
+-- what a reading says; of a refusal the line is its value, which only 24 has
+abbrev pub readListingSaid : ListedSays → List ℕ → List ℕ → ReadListingLeft
+readListingSaid (ListedSays.says said) room head = readListingGives 0 room (headNumbers said) 0
+readListingSaid (ListedSays.refused number values) room head = readListingGives number room head (getD values 0 0)
+
+-- what a reading says and leaves
+abbrev pub readListingLeft : ListedLeft → List ℕ → ReadListingLeft
+readListingLeft left head = readListingSaid (left .answer) (left .room) head
+
+-- the promise of `hingemoss_read_listing`
+unfoldable pub readListingC : List ℕ → List ℕ → List ℕ → ReadListingLeft
+readListingC text room head = cond (eqb (length head) headSize) (readListingLeft (listedSays recordLimit text room) head) (readListingGives 22 room head 0)
+
 -- ---- diff: 0 (a refused file is told in the text), 22 or 9; the bytes written, or needed (9), or 0; the output; and both rooms
 pub record DiffCLeft : Type 0 where
   pub encoded : EncodeLeft
@@ -354,3 +392,20 @@ validateAllFound SessionFound.Unknown live working hold routes states = encodeGi
 -- the promise of `hingemoss_validate_all`
 unfoldable pub validateAllC : List ℕ → List ℕ → List ℕ → List ℕ → List ℕ → List ℕ → EncodeLeft
 validateAllC session live working hold routes states = validateAllFound (sessionOf session) live working hold routes states
+
+-- ---- the runs: 0, 22 (also where the version or the five numbers are none's) or 9; the bytes written, or needed (9), or 0; and the output
+
+-- a run of a version and a table's numbers that were found
+abbrev pub runFound : (RtrProtocolVersion → Table → Encoded) → VersionFound → TableFound → List ℕ → EncodeLeft
+runFound run (VersionFound.Known version) (TableFound.Known end) out = encodeLeft (run version end)
+runFound run (VersionFound.Known version) TableFound.Unknown out = encodeGives 22 0 out
+runFound run VersionFound.Unknown end out = encodeGives 22 0 out
+
+-- the promise of `hingemoss_full_run`
+unfoldable pub fullRunC : ℕ → List ℕ → List ℕ → ℕ → List ℕ → EncodeLeft
+fullRunC version end table count out = runFound (λ v t. fullRunSays v t table count out) (versionFound version) (tableFound end) out
+
+-- the promise of `hingemoss_change_run`
+unfoldable pub changeRunC : ℕ → List ℕ → List ℕ → ℕ → List ℕ → ℕ → List ℕ → EncodeLeft
+changeRunC version end first firstCount second secondCount out =
+    runFound (λ v t. changeRunSays v t first firstCount second secondCount out) (versionFound version) (tableFound end) out

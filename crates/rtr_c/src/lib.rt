@@ -1,12 +1,18 @@
 // The static library for hosts: numbers and slices only, C ABI (include/hingemoss.h). A slice is a pointer and a length. Each call is a
 // thin one over the crates below; every input has its answer, and a refused call changes nothing but the numbers that it answers with.
+use rtr_cache::RunAnswer;
+use rtr_cache::RunError;
 use rtr_codec::ReadAnswer;
 use rtr_encode::EncodeAnswer;
 use rtr_encode::EncodeError;
+use rtr_listed::ListedAnswer;
+use rtr_listed::ListedError;
+use rtr_listing::Head;
 use rtr_listing::ListAnswer;
 use rtr_listing::ListError;
 use rtr_models::*;
 use rtr_numbers::SessionFound;
+use rtr_numbers::TableFound;
 use rtr_origin::PeerAnswer;
 use rtr_origin::PeerError;
 use rtr_origin::Route;
@@ -28,6 +34,9 @@ ghost use Rattle.rtr_codec.specs.Read.{read};
 ghost use Rattle.rtr_codec.specs.Reading.{inUse};
 ghost use Rattle.rtr_encode.specs.Answers.{writing, numberOf};
 ghost use Rattle.rtr_listing.specs.Promises.{listSaid};
+ghost use Rattle.rtr_listed.specs.Promises.{lineIn};
+ghost use Rattle.rtr_cache.specs.Cache.{runWriting};
+ghost use Rattle.rtr_cache.specs.Serves.{RoomFits};
 ghost use Rattle.rtr_receiver.specs.Promises.{askWriting, reconnectNumber};
 ghost use Rattle.rtr_receiver.specs.Runs.{Call};
 ghost use Rattle.rtr_receiver.specs.declared.LoadKind.{LoadKind};
@@ -35,8 +44,12 @@ ghost use Rattle.rtr_numbers.specs.Numbers.{valueOf};
 ghost use Rattle.rtr_origin.specs.Peer.{peerSaid};
 ghost use Rattle.rtr_walk.specs.Walk.{endSaid};
 ghost use Rattle.rtr_c.specs.Calls.{isSession, amountOf, endNumber, endValue, readGives, readC, encodeGives, encodeC, walkGives, walkC, startGives, startC, askGives, fullAskC, changeAskC, feedGives, feedC, reconnectGives, reconnectC, notifyGives, notifyC, listingC, diffGives, diffC, validateGives, validateC, validateAllC};
+ghost use Rattle.rtr_c.specs.Calls.{headNumbers, readListingGives, readListingC, fullRunC, changeRunC};
 ghost use Rattle.rtr_c.specs.Private.{feedNumber, notifyNumber, notifyCompared, validateNumber, validateState, askedRoute};
 ghost use Rattle.rtr_c.specs.Runs.{memory, LeadsOn, Begins};
+
+// How many numbers a listing's head is.
+const HEAD_NUMBERS: usize = 8;
 
 // ---- Numbers of answers
 
@@ -83,6 +96,55 @@ fn list_amount(answer: ListAnswer) -> u64
             ListError::OutputShort { needed } => needed as u64,
         },
     }
+}
+
+fn run_number(answer: RunAnswer) -> u8
+    ensures { λ r. ⌜ r ≡ numberOf (runWriting answer) ⌝ }
+{
+    match answer {
+        RunAnswer::Written(_) => 0,
+        RunAnswer::Refused(error) => error.number(),
+    }
+}
+
+fn run_amount(answer: RunAnswer) -> u64
+    ensures { λ r. ⌜ r ≡ amountOf (runWriting answer) ⌝ }
+{
+    match answer {
+        RunAnswer::Written(n) => n as u64,
+        RunAnswer::Refused(error) => match error {
+            RunError::NotARoom => 0,
+            RunError::OutputShort { needed } => needed as u64,
+        },
+    }
+}
+
+// The line that does not fit or is missing; a room of another size is no line's.
+fn line_number(error: ListedError) -> u64
+    ensures { λ r. ⌜ r ≡ lineIn error ⌝ }
+{
+    match error {
+        ListedError::NotARoom => 0,
+        ListedError::Line(n) => n as u64,
+    }
+}
+
+// What a listing says before its records.
+fn head_numbers(head: Head) -> [u64; HEAD_NUMBERS]
+    ensures { λ r. ⌜ r ≡ headNumbers head ⌝ }
+{
+    let table = head.table;
+    let t = rtr_numbers::table_or(table);
+    [
+        head.stopped as u64,
+        rtr_numbers::table_number(table),
+        t.session as u64,
+        t.serial as u64,
+        t.refresh as u64,
+        t.retry as u64,
+        t.expire as u64,
+        head.count as u64,
+    ]
 }
 
 fn end_number(end: WalkEnd) -> u64
@@ -502,6 +564,34 @@ pub extern "C" fn hingemoss_listing(
     }
 }
 
+// A listing read back: 0, its table in the room and what it says before its records; 22; or 24 and the line that does not fit or is missing.
+#[no_mangle]
+pub extern "C" fn hingemoss_read_listing(
+    text: &[u8],
+    room: &mut [u32],
+    head: &mut [u64],
+    line: &mut u64,
+) -> u8
+    ensures { λ r. ⌜ readListingGives r (now (room .exit)) (now (head .exit)) (now (line .exit)) ≡ readListingC (now (text .entry)) (now (room .entry)) (now (head .entry)) ⌝ }
+{
+    *line = 0;
+    if head.len() != HEAD_NUMBERS {
+        return 22;
+    }
+    let answer = rtr_listed::read_listing(text, room);
+    match answer {
+        ListedAnswer::Listed(said) => {
+            let numbers = head_numbers(said);
+            rtr_numbers::put_numbers(head, &numbers);
+            0
+        }
+        ListedAnswer::Refused(error) => {
+            *line = line_number(error);
+            error.number()
+        }
+    }
+}
+
 // What changed from one listing to another, as rtr-diff prints it: 0 and the text, which tells a refused file too; or 22 or 9.
 #[no_mangle]
 pub extern "C" fn hingemoss_diff(
@@ -574,5 +664,80 @@ pub extern "C" fn hingemoss_validate_all(
             *written = 0;
             22
         }
+    }
+}
+
+// ---- Cache. By its second promise a call was lent numbers of 32 bits, as every host's are: what a receiver makes of the run rests on it (rtr_cache, specs/Serves.antt).
+
+// All of a table, as a cache answers a Reset Query: 0 and the bytes written, or the refusal.
+#[no_mangle]
+pub extern "C" fn hingemoss_full_run(
+    version: u8,
+    end: &[u64],
+    table: &[u32],
+    count: u64,
+    out: &mut [u8],
+    written: &mut u64,
+) -> u8
+    ensures { λ r. ⌜ encodeGives r (now (written .exit)) (now (out .exit)) ≡ fullRunC version (now (end .entry)) (now (table .entry)) count (now (out .entry)) ⌝ }
+    ensures { λ r. ⌜ RoomFits (now (table .entry)) ⌝ }
+{
+    *written = 0;
+    let found = RtrProtocolVersion::from_u8(version);
+    match found {
+        VersionFound::Known(v) => {
+            let numbers = rtr_numbers::table_of(end);
+            match numbers {
+                TableFound::Known(t) => {
+                    let answer = rtr_cache::full_run(v, t, table, count as usize, out);
+                    *written = run_amount(answer);
+                    run_number(answer)
+                }
+                TableFound::Unknown => 22,
+            }
+        }
+        VersionFound::Unknown => 22,
+    }
+}
+
+// What changed from the first table to the second, as a cache answers a Serial Query: 0 and the bytes written, or the refusal.
+#[no_mangle]
+pub extern "C" fn hingemoss_change_run(
+    version: u8,
+    end: &[u64],
+    first: &[u32],
+    first_count: u64,
+    second: &[u32],
+    second_count: u64,
+    out: &mut [u8],
+    written: &mut u64,
+) -> u8
+    ensures { λ r. ⌜ encodeGives r (now (written .exit)) (now (out .exit))
+        ≡ changeRunC version (now (end .entry)) (now (first .entry)) «first_count» (now (second .entry)) «second_count» (now (out .entry)) ⌝ }
+    ensures { λ r. ⌜ RoomFits (now (first .entry)) × RoomFits (now (second .entry)) ⌝ }
+{
+    *written = 0;
+    let found = RtrProtocolVersion::from_u8(version);
+    match found {
+        VersionFound::Known(v) => {
+            let numbers = rtr_numbers::table_of(end);
+            match numbers {
+                TableFound::Known(t) => {
+                    let answer = rtr_cache::change_run(
+                        v,
+                        t,
+                        first,
+                        first_count as usize,
+                        second,
+                        second_count as usize,
+                        out,
+                    );
+                    *written = run_amount(answer);
+                    run_number(answer)
+                }
+                TableFound::Unknown => 22,
+            }
+        }
+        VersionFound::Unknown => 22,
     }
 }

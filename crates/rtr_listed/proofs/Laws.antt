@@ -1,6 +1,6 @@
 -- What reading a listing back comes to, over any record limit: `reads-exactly` leaves no text to argue about, and others say which line is named where
 -- a text is refused. The argument is in the files beside this one. Assumes nothing.
-use Prim.Native.Nat.{ℕ, suc, _≤_, _<_}
+use Prim.Native.Nat.{ℕ, suc, _*_, _≤_, _<_}
 use mathlib.Core.Bool.{Bool, true, false}
 use mathlib.Core.List.{List, [], _∷_, _++_}
 use mathlib.Core.Logic.{_↔_, _⊎_}
@@ -17,6 +17,8 @@ use Rattle.rtr_listing.proofs.Printed.{listed as listedIn}
 use Rattle.rtr_listed.specs.Listed.{Listed, linesOf, feeds, mayStop, readFrom, readListing, listingText, listedBy}
 use Rattle.rtr_listed.specs.Listed.Read.{listed, misfit}
 use Rattle.rtr_listed.specs.Fits.{ListingFits, NumbersFit}
+use Rattle.rtr_listed.specs.Promises.{refused, readLeaves, listedSays}
+use Rattle.rtr_listed.proofs.Whole as whole
 use Rattle.rtr_listed.proofs.Numbers as numbers
 use Rattle.rtr_listed.proofs.Shown as shown
 use Rattle.rtr_listed.proofs.ReadBack as back
@@ -28,6 +30,14 @@ use Rattle.rtr_listed.proofs.Printed as printed
 -- a text is read as a stop, a table and records exactly if it is the listing of these, and they fit
 pub reads-exactly : (limit : ℕ) (s : List ℕ) (v : Listed) → readListing limit s ≡ listed v ↔ ((s ≡ listingText v) × ListingFits limit v)
 reads-exactly limit s v = (back.text-back limit s v, λ k. ap (readListing limit) (k .0) ∙ shown.text-reads limit v (k .1) 1)
+
+-- ---- what the call says and leaves: by the room's size, and then by the text
+
+pub of-size : (limit : ℕ) (s lent : List ℕ) → length lent ≡ 6 * limit → readLeaves limit (readListing limit s) ≡ listedSays limit s lent
+of-size = whole.of-size
+
+pub off-size : (limit : ℕ) (s lent : List ℕ) → (length lent ≡ 6 * limit → ⊥) → record { answer = refused 22 []; room = lent } ≡ listedSays limit s lent
+off-size = whole.off-size
 
 -- ---- which line is named
 

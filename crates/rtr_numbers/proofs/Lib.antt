@@ -2,6 +2,7 @@
 pub mod Lists
 pub mod Guesses
 mod Founds
+mod Tables
 mod Sessions
 mod Values
 mod Owned

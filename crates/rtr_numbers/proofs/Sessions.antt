@@ -20,6 +20,7 @@ use Rattle.rtr_receiver.specs.declared.Session.{Session}
 use Rattle.rtr_numbers.specs.Numbers.{numbersOf, sessionNumbers}
 use Rattle.rtr_numbers.specs.Back.{looseError, looseStop, loosePhase, looseTable, looseNote, looseSession}
 use Rattle.rtr_numbers.proofs.Guesses.{version-back, code-back, either-way}
+use Rattle.rtr_numbers.proofs.Tables.{low-back}
 use Rattle.rtr_numbers.specs.Ranges.{ErrorFits, StopFits, PhaseFits, TableFits, NoteFits, SessionFits}
 
 -- ---- Back from numbers
@@ -67,12 +68,7 @@ module _ (life : Life) (p : Phase) (live working : Counts) (held : ℕ) where
   unfolding numbersOf looseTable
   table-back LiveTable.NoTable note h = refl
   table-back (LiveTable.Known t) note h =
-      let a : t .session % 65536 ≡ t .session = omega arith in
-      let b : t .serial % 4294967296 ≡ t .serial = omega arith in
-      let c : t .refresh % 4294967296 ≡ t .refresh = omega arith in
-      let d : t .retry % 4294967296 ≡ t .retry = omega arith in
-      let e : t .expire % 4294967296 ≡ t .expire = omega arith in
-      λ i. LiveTable.Known (record { session = a i; serial = b i; refresh = c i; retry = d i; expire = e i })
+      ap LiveTable.Known (low-back t (record { session = omega arith; serial = omega arith; refresh = omega arith; retry = omega arith; expire = omega arith }))
 
   note-back : (t : LiveTable) (note : Note) → NoteFits note → looseNote (numbersOf life (stageOf p) t note live working held) ≡ note
   unfolding numbersOf looseNote

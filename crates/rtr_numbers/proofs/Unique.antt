@@ -11,6 +11,9 @@ use Rattle.rtr_numbers.proofs.put_session.Reads as put-session-reads
 use Rattle.rtr_numbers.proofs.loose_version.Reads as loose-version-reads
 use Rattle.rtr_numbers.proofs.loose_code.Reads as loose-code-reads
 use Rattle.rtr_numbers.proofs.session_of.Reads as session-of-reads
+use Rattle.rtr_numbers.proofs.table_number.Reads as table-number-reads
+use Rattle.rtr_numbers.proofs.table_or.Reads as table-or-reads
+use Rattle.rtr_numbers.proofs.table_of.Reads as table-of-reads
 
 pub at-unique : (κs : _) (a : _) (r r′ : _) (s s′ : _) → at-reads.Post κs a r s → at-reads.Post κs a r′ s′ → r ≡ r′
 at-unique κs a r r′ s s′ p q = only-this r r′ _ p q
@@ -35,3 +38,12 @@ loose-code-unique κs a r r′ s s′ p q = only-this r r′ _ p q
 
 pub session-of-unique : (κs : _) (a : _) (r r′ : _) (s s′ : _) → session-of-reads.Post κs a r s → session-of-reads.Post κs a r′ s′ → r ≡ r′
 session-of-unique κs a r r′ s s′ p q = only-this r r′ _ p q
+
+pub table-number-unique : (κs : _) (a : _) (r r′ : _) (s s′ : _) → table-number-reads.Post κs a r s → table-number-reads.Post κs a r′ s′ → r ≡ r′
+table-number-unique κs a r r′ s s′ p q = only-this r r′ _ p q
+
+pub table-or-unique : (κs : _) (a : _) (r r′ : _) (s s′ : _) → table-or-reads.Post κs a r s → table-or-reads.Post κs a r′ s′ → r ≡ r′
+table-or-unique κs a r r′ s s′ p q = only-this r r′ _ p q
+
+pub table-of-unique : (κs : _) (a : _) (r r′ : _) (s s′ : _) → table-of-reads.Post κs a r s → table-of-reads.Post κs a r′ s′ → r ≡ r′
+table-of-unique κs a r r′ s s′ p q = only-this r r′ _ p q

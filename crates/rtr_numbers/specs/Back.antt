@@ -1,6 +1,6 @@
 -- What is read back from numbers. A first guess takes each number at its place, by its remainder where it is too large, and any unknown
 -- number as some case; the guess stands exactly where its own numbers are those given.
-use Prim.Native.Nat.{ℕ, _%_}
+use Prim.Native.Nat.{ℕ, _+_, _%_}
 use mathlib.Core.Bool.{Bool, true, false, cond, _&&_}
 use mathlib.Core.List.{List, [], _∷_}
 use lib.Dec.{eqb}
@@ -17,11 +17,13 @@ use Rattle.rtr_stream.specs.declared.StreamError.{StreamError}
 use Rattle.rtr_receiver.specs.declared.LoadKind.{LoadKind}
 use Rattle.rtr_receiver.specs.declared.Stop.{Stop}
 use Rattle.rtr_receiver.specs.declared.Phase.{Phase}
+use Rattle.rtr_receiver.specs.declared.Table.{Table}
 use Rattle.rtr_receiver.specs.declared.LiveTable.{LiveTable}
 use Rattle.rtr_receiver.specs.declared.Note.{Note}
 use Rattle.rtr_receiver.specs.declared.Session.{Session}
-use Rattle.rtr_numbers.specs.Numbers.{sessionNumbers}
+use Rattle.rtr_numbers.specs.Numbers.{sessionNumbers, tableNumbersOf}
 use Rattle.rtr_numbers.specs.declared.SessionFound.{SessionFound}
+use Rattle.rtr_numbers.specs.declared.TableFound.{TableFound}
 
 -- two lists are the same, number by number
 unfoldable pub alike : List ℕ → List ℕ → Bool
@@ -33,6 +35,10 @@ alike (x ∷ xs) (y ∷ ys) = eqb x y && alike xs ys
 -- the session whose numbers these are: what `session_of` of src/lib.rt gives
 unfoldable pub sessionIf : Session → List ℕ → SessionFound
 sessionIf s n = cond (alike (sessionNumbers s) n) (SessionFound.Known s) SessionFound.Unknown
+
+-- the table whose numbers these are: what `table_of` of src/lib.rt gives
+unfoldable pub tableIf : Table → List ℕ → TableFound
+tableIf t n = cond (alike (tableNumbersOf t) n) (TableFound.Known t) TableFound.Unknown
 
 -- ---- The guesses
 
@@ -95,18 +101,20 @@ loosePhase n =
     (cond (eqb (getD n 1 0) 5) (Phase.Loading LoadKind.Change (low16 (getD n 2 0)))
     (Phase.Stopped (looseStop (getD n 2 0) (getD n 3 0) (getD n 4 0) (getD n 5 0))))))))
 
+-- a table of five numbers from a place on
+abbrev pub lowTable : List ℕ → ℕ → Table
+lowTable n from =
+    record {
+      session = low16 (getD n from 0);
+      serial = low32 (getD n (from + 1) 0);
+      refresh = low32 (getD n (from + 2) 0);
+      retry = low32 (getD n (from + 3) 0);
+      expire = low32 (getD n (from + 4) 0);
+    }
+
 -- no table where number 6 is 0, else one of the numbers behind it
 unfoldable pub looseTable : List ℕ → LiveTable
-looseTable n =
-    cond (eqb (getD n 6 0) 0) LiveTable.NoTable
-    (LiveTable.Known
-    (record {
-      session = low16 (getD n 7 0);
-      serial = low32 (getD n 8 0);
-      refresh = low32 (getD n 9 0);
-      retry = low32 (getD n 10 0);
-      expire = low32 (getD n 11 0);
-    }))
+looseTable n = cond (eqb (getD n 6 0) 0) LiveTable.NoTable (LiveTable.Known (lowTable n 7))
 
 -- no note where number 12 is 0, else one of the two numbers behind it
 unfoldable pub looseNote : List ℕ → Note
@@ -130,3 +138,7 @@ looseSession n =
 -- the session that has these numbers: the guess, where its numbers are these
 abbrev pub sessionOf : List ℕ → SessionFound
 sessionOf n = sessionIf (looseSession n) n
+
+-- the table that says these numbers and no more
+abbrev pub tableFound : List ℕ → TableFound
+tableFound n = tableIf (lowTable n 0) n

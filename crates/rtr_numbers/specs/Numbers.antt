@@ -1,4 +1,4 @@
--- The numbers of a session, as a host without Rattle's types has them. A stop is told by document 01's number and values
+-- The numbers of a session, and of a table, as a host without Rattle's types has them. A stop is told by document 01's number and values
 -- ("Refusal numbers").
 use Prim.Native.Nat.{ℕ}
 use mathlib.Core.List.{List, [], _∷_}
@@ -53,6 +53,10 @@ tableNumber (LiveTable.Known t) = 1
 abbrev pub tableOr : LiveTable → Table
 tableOr LiveTable.NoTable = record { session = 0; serial = 0; refresh = 0; retry = 0; expire = 0 }
 tableOr (LiveTable.Known t) = t
+
+-- the five numbers of a table by itself
+abbrev pub tableNumbersOf : Table → List ℕ
+tableNumbersOf t = t .session ∷ t .serial ∷ t .refresh ∷ t .retry ∷ t .expire ∷ []
 
 -- number 12: whether a Serial Notify is noted; numbers 13 and 14 are its session and serial, zeros without one
 abbrev pub noteNumber : Note → ℕ

@@ -1,5 +1,5 @@
-// Session records as plain numbers, both ways, for a host that has no Rattle types: 24 numbers are a session. What is read back is written
-// again and compared, so numbers that are nobody's are told from every other. PDUs: rtr_pdu_numbers.
+// Session records as plain numbers, both ways, for a host that has no Rattle types: 24 numbers are a session, five are what a table says. What is
+// read back is written again and compared, so numbers that are nobody's are told from every other. PDUs: rtr_pdu_numbers.
 use rtr_codec::RtrError;
 use rtr_models::*;
 use rtr_receiver::Counts;
@@ -14,14 +14,14 @@ use rtr_receiver::Table;
 use rtr_stream::StreamError;
 ghost use mathlib.Core.Bool.{cond};
 ghost use mathlib.Core.Path.{_≡_};
-ghost use Prim.Native.Nat.{_%_};
+ghost use Prim.Native.Nat.{_%_, _≤_};
 ghost use lib.Dec.{eqb};
 ghost use lib.ListN.{length, getD};
 ghost use Rattle.rtr_codec.specs.Answers.{refusal};
 ghost use Rattle.rtr_stream.specs.Search.{streamRefusal};
 ghost use Rattle.rtr_receiver.specs.Promises.{stopSaid, stoppedBy, stageOf};
-ghost use Rattle.rtr_numbers.specs.Numbers.{tableOr, tableNumber, noteNumber, noteSession, noteSerial, sessionSize, sessionNumbers, valueOf};
-ghost use Rattle.rtr_numbers.specs.Back.{alike, looseVersion, looseCode, looseError, looseStop, loosePhase, looseTable, looseNote, looseSession, sessionOf};
+ghost use Rattle.rtr_numbers.specs.Numbers.{tableOr, tableNumber, tableNumbersOf, noteNumber, noteSession, noteSerial, sessionSize, sessionNumbers, valueOf};
+ghost use Rattle.rtr_numbers.specs.Back.{alike, looseVersion, looseCode, looseError, looseStop, loosePhase, lowTable, looseTable, looseNote, looseSession, sessionOf, tableFound};
 ghost use Rattle.rtr_numbers.specs.Private.{phaseNumbers};
 
 // How many numbers a session is.
@@ -30,6 +30,12 @@ pub const SESSION_NUMBERS: usize = 24;
 // The session that has these numbers, if one has.
 pub enum SessionFound {
     Known(Session),
+    Unknown,
+}
+
+// The table that has these numbers, if one has.
+pub enum TableFound {
+    Known(Table),
     Unknown,
 }
 
@@ -244,7 +250,8 @@ fn phase_numbers(phase: Phase) -> PhaseNumbers
     }
 }
 
-fn table_number(table: LiveTable) -> u64
+// Whether there is a table.
+pub fn table_number(table: LiveTable) -> u64
     ensures { λ r. ⌜ r ≡ tableNumber table ⌝ }
 {
     match table {
@@ -253,7 +260,8 @@ fn table_number(table: LiveTable) -> u64
     }
 }
 
-fn table_or(table: LiveTable) -> Table
+// What a table says, or zeros.
+pub fn table_or(table: LiveTable) -> Table
     ensures { λ r. ⌜ r ≡ tableOr table ⌝ }
 {
     match table {
@@ -266,6 +274,18 @@ fn table_or(table: LiveTable) -> Table
         },
         LiveTable::Known(t) => t,
     }
+}
+
+fn table_numbers(t: Table) -> [u64; 5]
+    ensures { λ r. ⌜ r ≡ tableNumbersOf t ⌝ }
+{
+    [
+        wide16(t.session),
+        wide32(t.serial),
+        wide32(t.refresh),
+        wide32(t.retry),
+        wide32(t.expire),
+    ]
 }
 
 fn note_number(note: Note) -> u64
@@ -427,19 +447,27 @@ fn loose_phase(n: &[u64]) -> Phase
     }
 }
 
+// The table of five numbers from a place on.
+fn low_table(n: &[u64], from: usize) -> Table
+    requires { ⌜ from ≤ 7 ⌝ }
+    ensures { λ r. ⌜ r ≡ lowTable (now (n .entry)) from ⌝ }
+{
+    Table {
+        session: low16(at(n, from)),
+        serial: low32(at(n, from + 1)),
+        refresh: low32(at(n, from + 2)),
+        retry: low32(at(n, from + 3)),
+        expire: low32(at(n, from + 4)),
+    }
+}
+
 fn loose_table(n: &[u64]) -> LiveTable
     ensures { λ r. ⌜ r ≡ looseTable (now (n .entry)) ⌝ }
 {
     if at(n, 6) == 0 {
         return LiveTable::NoTable;
     }
-    LiveTable::Known(Table {
-        session: low16(at(n, 7)),
-        serial: low32(at(n, 8)),
-        refresh: low32(at(n, 9)),
-        retry: low32(at(n, 10)),
-        expire: low32(at(n, 11)),
-    })
+    LiveTable::Known(low_table(n, 7))
 }
 
 fn loose_note(n: &[u64]) -> Note
@@ -482,4 +510,16 @@ pub fn session_of(numbers: &[u64]) -> SessionFound
         return SessionFound::Known(s);
     }
     SessionFound::Unknown
+}
+
+// The table that says these numbers; Unknown where none does.
+pub fn table_of(numbers: &[u64]) -> TableFound
+    ensures { λ r. ⌜ r ≡ tableFound (now (numbers .entry)) ⌝ }
+{
+    let t = low_table(numbers, 0);
+    let said = table_numbers(t);
+    if is_alike(&said, numbers) {
+        return TableFound::Known(t);
+    }
+    TableFound::Unknown
 }

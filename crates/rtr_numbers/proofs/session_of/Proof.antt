@@ -1,10 +1,9 @@
 -- `session_of` guesses, writes the guess again and compares. Assumes nothing.
 use mathlib.Core.Bool.{true, false}
-use mathlib.Core.Path.{ap, _∙_}
-use denote.Ref.{now}
-use Rattle.rtr_receiver.specs.declared.Session.{Session}
+use Rattle.rtr_numbers.specs.Numbers.{sessionNumbers}
 use Rattle.rtr_numbers.specs.Back.{sessionIf}
-use Rattle.rtr_numbers.proofs.Founds.{session-by-test}
+use Rattle.rtr_numbers.specs.declared.SessionFound.{SessionFound}
+use Rattle.rtr_numbers.proofs.Founds.{guess-by-test}
 use borrow.Author.Needs.{needs}
 use Rattle.rtr_numbers.proofs.session_of.Statement.{statement}
 use Rattle.rtr_numbers.proofs.session_of.Tie as tie
@@ -22,14 +21,20 @@ is-alike-requires : tie.Need-is-alike-requires
 is-alike-requires c κs = search needs
 
 returns : tie.Need-returns
+unfolding sessionIf
 returns c =
-    session-by-test (c .before .before .before .before .loose-session .result) (c .before .before .before .session-numbers .result) (now (c .before .before .before .before .before .before .args .numbers)) (c .before .is-alike .result) true (c .before .before .before .session-numbers .ensures) (c .before .is-alike .ensures) (c .if1 .taken)
-    ∙ ap (λ (s : Session). sessionIf s (now (c .before .before .before .before .before .before .args .numbers))) (c .before .before .before .before .loose-session .ensures)
+    let guess = c .before .before .before .before .loose-session in
+    let said = c .before .before .before .session-numbers in
+    let test = c .before .is-alike in
+    guess-by-test sessionNumbers SessionFound.Known SessionFound.Unknown _ _ _ _ (test .result) true (guess .ensures) (said .ensures) (test .ensures) (c .if1 .taken)
 
 returns-2 : tie.Need-returns-2
+unfolding sessionIf
 returns-2 c =
-    session-by-test (c .before .before .before .before .loose-session .result) (c .before .before .before .session-numbers .result) (now (c .before .before .before .before .before .before .args .numbers)) (c .before .is-alike .result) false (c .before .before .before .session-numbers .ensures) (c .before .is-alike .ensures) (c .if1 .left)
-    ∙ ap (λ (s : Session). sessionIf s (now (c .before .before .before .before .before .before .args .numbers))) (c .before .before .before .before .loose-session .ensures)
+    let guess = c .before .before .before .before .loose-session in
+    let said = c .before .before .before .session-numbers in
+    let test = c .before .is-alike in
+    guess-by-test sessionNumbers SessionFound.Known SessionFound.Unknown _ _ _ _ (test .result) false (guess .ensures) (said .ensures) (test .ensures) (c .if1 .left)
 
 pub session-of-spec : {M : Type 1} → statement M
 session-of-spec =
