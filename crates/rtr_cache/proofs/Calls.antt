@@ -38,7 +38,7 @@ use Rattle.rtr_cache.proofs.Finishes.{run-finished}
 use Rattle.rtr_cache.proofs.Laws.{lent-rules, lent-within}
 use Rattle.rtr_cache.proofs.Lengths.{run-length}
 use Rattle.rtr_cache.proofs.Serves.{run-serves, run-served-in-pieces}
-use Rattle.rtr_cache.proofs.Unique.{answerOf, said-back}
+use Rattle.rtr_cache.proofs.Unique.{runAnswerOf, said-back}
 use Rattle.rtr_cache.proofs.full_run.Reads as full-run
 use Rattle.rtr_cache.proofs.change_run.Reads as change-run
 
@@ -51,11 +51,11 @@ module _ (lent : Bool) (run out left : List ℕ) (r : RunAnswer) (said : runLeav
     short : lent ≡ true → length out < length run → r ≡ Refused (OutputShort (length run)) → left ≡ out → Answers
     wrote : lent ≡ true → length run ≤ length out → r ≡ Written (length run) → left ≡ run ++ drop (length run) out → Answers
 
-  by-answer : (given : Encoded) → cond lent (puts run out) (notLent out) ≡ given → (r ≡ answerOf (given .says)) × (left ≡ given .out)
-  by-answer given e = (sym (said-back r) ∙ ap (λ (x : Encoded). answerOf (x .says)) (said ∙ e), ap (λ (x : Encoded). x .out) (said ∙ e))
+  by-answer : (given : Encoded) → cond lent (puts run out) (notLent out) ≡ given → (r ≡ runAnswerOf (given .says)) × (left ≡ given .out)
+  by-answer given e = (sym (said-back r) ∙ ap (λ (x : Encoded). runAnswerOf (x .says)) (said ∙ e), ap (λ (x : Encoded). x .out) (said ∙ e))
 
   answers : Answers
-  unfolding answerOf
+  unfolding runAnswerOf
   answers = go lent refl (leb (length run) (length out)) refl
     where
       go : (l : Bool) → lent ≡ l → (b : Bool) → leb (length run) (length out) ≡ b → Answers

@@ -1,5 +1,5 @@
 -- What a run is made of, which rooms are lent, and what the calls come to. Assumes nothing.
-use Prim.Native.Nat.{ℕ, _≤_, _<_}
+use Prim.Native.Nat.{ℕ, _≤_}
 use mathlib.Core.Bool.{Bool, true, false, cond, _&&_, and-false}
 use mathlib.Core.List.{List, [], _∷_, _++_, map}
 use mathlib.Core.Logic.{_↔_, _⊎_, inl, inr}
@@ -8,7 +8,7 @@ use native.Mathlib.Omega.{arith}
 use borrow.Author.Tests.{eq-eqb, eqb-true}
 use lib.ListN.{length, drop}
 use Rattle.rtr_models.specs.declared.RtrProtocolVersion.{RtrProtocolVersion}
-use Rattle.rtr_encode.specs.Encode.Writing.{written, refused}
+use Rattle.rtr_encode.specs.Encode.Writing.{written}
 use Rattle.rtr_room.specs.Table.{isTable}
 use Rattle.rtr_room.specs.Room.{room, records, isRoom, limitOf}
 use Rattle.rtr_room.specs.declared.Record.{Record}
@@ -19,7 +19,7 @@ use Rattle.rtr_receiver.specs.Promises.{recordLimit, isLimit}
 use Rattle.rtr_receiver.specs.declared.LoadKind.{LoadKind}
 use Rattle.rtr_receiver.specs.declared.Table.{Table}
 use Rattle.rtr_listing.specs.Promises.{puts}
-use Rattle.rtr_listing.proofs.Laws.{written-is, short-is}
+use Rattle.rtr_listing.proofs.Laws.{written-is}
 use Rattle.rtr_changes.specs.Changes.{without, withdraw, announce}
 use Rattle.rtr_changes.proofs.Laws.{changes-are, changes-of-same, changes-from-none}
 use Rattle.rtr_cache.specs.Cache.{sentResponse, sentPrefix, sentEnd, runPdus, runBytes, isLent, notLent, fullRunSays, changeRunSays}
@@ -101,10 +101,6 @@ module _ (v : RtrProtocolVersion) (end : Table) (numbers : List ℕ) (count : �
   unfolding fullRunSays
   full-lent e = simp e
 
-  -- what does not fit is refused by 9 with the run's length, and all of the output stays
-  pub full-short : isLent count numbers ≡ true → length out < length fullRun → fullRunSays v end numbers count out ≡ record { says = refused 9 (length fullRun ∷ []); out = out }
-  full-short e h = full-lent e ∙ short-is fullRun out h
-
   -- what fits is at the front, and what stood behind it stays
   pub full-written : isLent count numbers ≡ true → length fullRun ≤ length out
       → fullRunSays v end numbers count out ≡ record { says = written (length fullRun); out = fullRun ++ drop (length fullRun) out }
@@ -123,10 +119,6 @@ module _ (v : RtrProtocolVersion) (end : Table) (first : List ℕ) (firstCount :
   pub change-lent : isLent firstCount first ≡ true → isLent secondCount second ≡ true → changeRunSays v end first firstCount second secondCount out ≡ puts changeRun out
   unfolding changeRunSays
   change-lent p q = simp (p, q)
-
-  pub change-short : isLent firstCount first ≡ true → isLent secondCount second ≡ true → length out < length changeRun
-      → changeRunSays v end first firstCount second secondCount out ≡ record { says = refused 9 (length changeRun ∷ []); out = out }
-  change-short p q h = change-lent p q ∙ short-is changeRun out h
 
   pub change-written : isLent firstCount first ≡ true → isLent secondCount second ≡ true → length changeRun ≤ length out
       → changeRunSays v end first firstCount second secondCount out ≡ record { says = written (length changeRun); out = changeRun ++ drop (length changeRun) out }

@@ -18,19 +18,19 @@ use Rattle.rtr_cache.proofs.full_run.Reads as full-run
 use Rattle.rtr_cache.proofs.change_run.Reads as change-run
 
 -- the answer that has a number and values
-unfoldable pub answerOf : Writing → RunAnswer
-answerOf (written n) = RunAnswer.Written n
-answerOf (refused k x) = cond (eqb k 22) (RunAnswer.Refused NotARoom) (RunAnswer.Refused (OutputShort (getD x 0 0)))
+unfoldable pub runAnswerOf : Writing → RunAnswer
+runAnswerOf (written n) = RunAnswer.Written n
+runAnswerOf (refused k x) = cond (eqb k 22) (RunAnswer.Refused NotARoom) (RunAnswer.Refused (OutputShort (getD x 0 0)))
 
-pub said-back : (a : RunAnswer) → answerOf (runWriting a) ≡ a
-unfolding answerOf
+pub said-back : (a : RunAnswer) → runAnswerOf (runWriting a) ≡ a
+unfolding runAnswerOf
 said-back (RunAnswer.Written n) = refl
 said-back (RunAnswer.Refused NotARoom) = refl
 said-back (RunAnswer.Refused (OutputShort n)) = refl
 
 one-leaving : (r r′ : RunAnswer) (o o′ : List ℕ) (given : Encoded) → runLeaves r o ≡ given → runLeaves r′ o′ ≡ given → (r ≡ r′) × (o ≡ o′)
 one-leaving r r′ o o′ given p q = (
-  only-one runWriting answerOf said-back r r′ (given .says) (ap (λ (e : Encoded). e .says) p) (ap (λ (e : Encoded). e .says) q),
+  only-one runWriting runAnswerOf said-back r r′ (given .says) (ap (λ (e : Encoded). e .says) p) (ap (λ (e : Encoded). e .says) q),
   only-this o o′ (given .out) (ap (λ (e : Encoded). e .out) p) (ap (λ (e : Encoded). e .out) q),
 )
 

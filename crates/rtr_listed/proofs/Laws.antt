@@ -14,7 +14,7 @@ use Rattle.rtr_receiver.specs.Runs.{Call, Memory, Run}
 use Rattle.rtr_receiver.specs.declared.Session.{Session}
 use Rattle.rtr_listing.specs.Listing.{listing}
 use Rattle.rtr_listing.proofs.Printed.{listed as listedIn}
-use Rattle.rtr_listed.specs.Listed.{Listed, linesOf, feeds, mayStop, readFrom, readListing, listingText, listedBy}
+use Rattle.rtr_listed.specs.Listed.{Listed, linesOf, lineFeeds, mayStop, readFrom, readListing, listingText, listedBy}
 use Rattle.rtr_listed.specs.Listed.Read.{listed, misfit}
 use Rattle.rtr_listed.specs.Fits.{ListingFits, NumbersFit}
 use Rattle.rtr_listed.specs.Promises.{refused, readLeaves, listedSays}
@@ -52,17 +52,17 @@ front-alone = fronts.front-alone
 
 -- what was read and is cut anywhere is refused at the line of the cut: one more than the line feeds before it
 pub cut-is-refused : (limit k : ℕ) (s : List ℕ) (v : Listed) → readListing limit s ≡ listed v → k < length s
-    → readListing limit (take k s) ≡ misfit (suc (feeds (take k s)))
+    → readListing limit (take k s) ≡ misfit (suc (lineFeeds (take k s)))
 cut-is-refused = cuts.cut-is-refused
 
 -- so is every listing of values that fit
 pub listing-cut-is-refused : (limit k : ℕ) (v : Listed) → ListingFits limit v → k < length (listingText v)
-    → readListing limit (take k (listingText v)) ≡ misfit (suc (feeds (take k (listingText v))))
+    → readListing limit (take k (listingText v)) ≡ misfit (suc (lineFeeds (take k (listingText v))))
 listing-cut-is-refused limit k v fit = cuts.cut-is-refused limit k (listingText v) v (reads-exactly limit (listingText v) v .1 (refl, fit))
 
 -- bytes behind what was read are a line that does not fit
 pub longer-is-refused : (limit : ℕ) (s : List ℕ) (b : ℕ) (more : List ℕ) (v : Listed) → readListing limit s ≡ listed v
-    → readListing limit (s ++ b ∷ more) ≡ misfit (suc (feeds s))
+    → readListing limit (s ++ b ∷ more) ≡ misfit (suc (lineFeeds s))
 longer-is-refused = cuts.longer-is-refused
 
 -- ---- how much of a text is looked at

@@ -34,9 +34,9 @@ linesOf [] = []
 linesOf (b ∷ s) = cond (eqb b 10) (record { bytes = []; ended = true } ∷ linesOf s) (inFront b (linesOf s))
 
 -- how many line feeds a text has
-unfoldable pub feeds : List ℕ → ℕ
-feeds [] = 0
-feeds (b ∷ s) = cond (eqb b 10) (suc (feeds s)) (feeds s)
+unfoldable pub lineFeeds : List ℕ → ℕ
+lineFeeds [] = 0
+lineFeeds (b ∷ s) = cond (eqb b 10) (suc (lineFeeds s)) (lineFeeds s)
 
 -- ---- values
 
