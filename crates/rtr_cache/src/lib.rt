@@ -1,5 +1,6 @@
 // The cache's side: a table, or what changed from one table to another, as the run of PDUs that a cache answers with. Tables are lent as rooms and only read. A refusal writes
 // nothing, and what stands behind a run in the output stays.
+#![tactic(auto)]
 ghost use Rattle.std.specs.Prelude.{[], ◌≡◌, ◌+◌, ◌*◌, ◌≤◌, ◌<◌, length};
 ghost use Rattle.rtr_codec.specs.Reading.{in_use};
 ghost use Rattle.rtr_encode.specs.Answers.{number_of};
@@ -25,7 +26,7 @@ use rtr_receiver::{RECORD_LIMIT, Table};
 use rtr_room::{Record, RecordFound, get, rules};
 
 // Why no run is written.
-#[derive(Drop)]
+#[derive(Clone, Copy)]
 pub enum RunError {
     NotARoom,
     OutputShort { needed: usize },
@@ -44,7 +45,7 @@ impl RunError {
 }
 
 // How many bytes were written, or why none were.
-#[derive(Drop)]
+#[derive(Clone, Copy)]
 pub enum RunAnswer {
     Written(usize),
     Refused(RunError),

@@ -1,4 +1,5 @@
 // What changed between two tables, each in its room: place after place, the records of one that do not stand in the other. Any numbers and counts are taken.
+#![tactic(auto)]
 ghost use Rattle.std.specs.Prelude.{◌+◌, ◌*◌, ◌≤◌, ◌≡◌, length};
 ghost use Rattle.rtr_room.specs.Room.{record_at, stands, limit_of};
 ghost use Rattle.rtr_changes.specs.Changes.{next_only, only_said, only_number};
@@ -6,7 +7,7 @@ ghost use Rattle.rtr_changes.specs.Changes.{next_only, only_said, only_number};
 use rtr_room::{LookUp, Record, RecordFound, get, look_up};
 
 // The place of a record that the other room has not, that there is none, or that a count is over its limit.
-#[derive(Drop)]
+#[derive(Clone, Copy)]
 pub enum Only {
     At(usize),
     Nothing,

@@ -1,6 +1,7 @@
 // Reading one PDU from any bytes, in the order of the Rust's src/parser/rpki/rtr.rs: parse_rtr_pdu takes every slice, answers as
 // document 01's order of checks asks, and copies nothing: payloads are handed over by place. The promise is an equation with `read` of specs/, at the reading
 // in use; no contract can say how long it takes.
+#![tactic(auto)]
 ghost use Rattle.std.specs.Prelude.{true, ◌≡◌, ◌+◌, ◌≤◌, ◌<◌, length};
 ghost use Rattle.rtr_codec.specs.Bytes.{number};
 ghost use Rattle.rtr_codec.specs.Reading.{crate, in_use};
@@ -15,7 +16,7 @@ use rtr_models::*;
 // ---- Answers
 
 // Why a PDU is not read; `number` gives document 01's number of it.
-#[derive(Drop)]
+#[derive(Clone, Copy)]
 pub enum RtrError {
     IncompletePdu {
         available: usize,
@@ -68,7 +69,7 @@ impl RtrError {
 }
 
 // A PDU and the bytes that it took, or why there is none.
-#[derive(Drop)]
+#[derive(Clone, Copy)]
 pub enum ReadAnswer {
     Read(RtrPdu, usize),
     Refused(RtrError),
@@ -603,7 +604,7 @@ pub fn bytes_needed(input: &[u8]) -> u32
 // ---- A run of PDUs, read by place
 
 // What stands at a place, and the place to go on from: past the PDU, or the same where it is refused.
-#[derive(Drop)]
+#[derive(Clone, Copy)]
 pub struct RunRead {
     pub answer: ReadAnswer,
     pub next: usize,

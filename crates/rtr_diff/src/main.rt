@@ -3,6 +3,7 @@
 // of the file of that name (one that cannot be opened is no bytes, one that cannot be read on ends there), which file is the old one, and that `main` writes what it
 // got. Of each file as much is read as can decide: what stands behind it changes no text (`front-decides-text` of rtr_diffs), so a file of any size, or without an
 // end, is answered in constant memory.
+#![tactic(auto)]
 ghost use Rattle.std.specs.Prelude.{◌<◌, length};
 ghost use Rattle.io.specs.Counts.{IsPrefixLen};
 ghost use Rattle.rtr_receiver.specs.Promises.{record_limit};

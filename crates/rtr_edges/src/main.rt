@@ -1,5 +1,6 @@
 // Document 01's edges that no theorem states, run: texts on either side of UTF-8's edges, nests of 15 to 18 reports, empty and full, what is
 // encoded, and payloads out of place. The file `stdout` has what must be printed.
+#![tactic(auto)]
 use libc::STDOUT_FILENO;
 use rtr_codec::{ReadAnswer, RtrError, parse_rtr_pdu};
 use rtr_encode::{EncodeAnswer, EncodeError};

@@ -1,5 +1,6 @@
 // Encoding one PDU into a lent buffer, in the order of the Rust's RtrEncode impls: one function for each kind and one over all. Payload places refer
 // to a lent slice. Every call takes every input; a refusal writes nothing, and bytes after the encoding stay.
+#![tactic(auto)]
 ghost use Rattle.std.specs.Prelude.{◌≡◌, [], ◌∷◌, ◌++◌, ◌+◌, ◌≤◌, ◌<◌, length, take, drop};
 ghost use Rattle.rtr_models.specs.Codes.{version_number};
 ghost use Rattle.rtr_codec.specs.Reading.{in_use};
@@ -11,7 +12,7 @@ ghost use Rattle.rtr_base.specs.Over.{over};
 use rtr_models::*;
 
 // Why nothing is written.
-#[derive(Drop)]
+#[derive(Clone, Copy)]
 pub enum EncodeError {
     PlaceOutside,
     InvalidUtf8,
@@ -34,7 +35,7 @@ impl EncodeError {
 }
 
 // How many bytes were written, or why none were.
-#[derive(Drop)]
+#[derive(Clone, Copy)]
 pub enum EncodeAnswer {
     Written(usize),
     Refused(EncodeError),
@@ -250,7 +251,7 @@ pub fn encode_cache_reset(pdu: RtrCacheReset, out: &mut [u8]) -> EncodeAnswer
 // ---- Payloads
 
 // Four bytes of a slice, loaded and not yet stored.
-#[derive(Drop)]
+#[derive(Clone, Copy)]
 struct Four {
     b0: u8,
     b1: u8,

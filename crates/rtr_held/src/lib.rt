@@ -3,6 +3,7 @@
 // `feed_times` is such a host's loop: one record, lent once for all its feeds.
 // The calls ending in `_through` take the record by value and lend it: whoever calls them needs no walk by hand. The run reader keeps captured bytes
 // together with a place in them; `read_run`, `rest_at` and `done_at` are the same over plain parameters, as `rtr_codec::read_at` is.
+#![tactic(auto)]
 ghost use Rattle.std.specs.Prelude.{◌≡◌, ◌-◌, leb, length};
 ghost use Rattle.rtr_codec.specs.Reading.{in_use};
 ghost use Rattle.rtr_codec.specs.Run.{read_at, run_said};
@@ -195,7 +196,7 @@ pub fn notify_through(session: Session, live: &[u32], working: &[u32], hold: &[u
 // ---- The run reader
 
 // Captured bytes and the place to read on from.
-#[derive(Drop)]
+#[derive(Clone, Copy)]
 pub struct RtrRun<'a> {
     pub bytes: &'a [u8],
     pub at: usize,

@@ -1,4 +1,5 @@
 // A listing read back: the stop's number, the table's numbers and its records, into a lent room; or the number of the first line that does not fit or is missing. The call takes every text.
+#![tactic(auto)]
 ghost use Rattle.std.specs.Prelude.{true, ◌&&◌, ◌||◌, List, [], ◌∷◌, ◌++◌, ◌≡◌, ◌+◌, ◌*◌, ◌≤◌, ◌<◌, eqb, leb, length, drop, replicate};
 ghost use Rattle.rtr_receiver.specs.Promises.{record_limit};
 ghost use Rattle.rtr_room.specs.Room.{records, is_room, limit_of};
@@ -15,7 +16,7 @@ use rtr_receiver::{LiveTable, RECORD_LIMIT, Table};
 use rtr_room::{LookUp, Record, empty, enter, look_up};
 
 // Why no listing was read.
-#[derive(Drop)]
+#[derive(Clone, Copy)]
 pub enum ListedError {
     NotARoom,
     // The first line that does not fit or is missing.
@@ -35,14 +36,14 @@ impl ListedError {
 }
 
 // What a listing says before its records, which then stand in the room; or why none was read.
-#[derive(Drop)]
+#[derive(Clone, Copy)]
 pub enum ListedAnswer {
     Listed(Head),
     Refused(ListedError),
 }
 
 // A place in the text, the number of the line there, and whether all lines before it fitted: where one did not, the cursor stays at it.
-#[derive(Drop)]
+#[derive(Clone, Copy)]
 struct Cursor {
     at: usize,
     line: usize,
@@ -50,7 +51,7 @@ struct Cursor {
 }
 
 // The four numbers of an address; IPv4 fills the first alone.
-#[derive(Drop)]
+#[derive(Clone, Copy)]
 struct Words {
     w0: u32,
     w1: u32,
@@ -59,52 +60,52 @@ struct Words {
 }
 
 // Where a line's value begins and ends.
-#[derive(Drop)]
+#[derive(Clone, Copy)]
 enum Value {
     At { from: usize, end: usize },
     Nowhere,
 }
 
 // A number that was read, or none.
-#[derive(Drop)]
+#[derive(Clone, Copy)]
 enum Number {
     Is(usize),
     Not,
 }
 
 // So for an address.
-#[derive(Drop)]
+#[derive(Clone, Copy)]
 enum Address {
     Is(Words),
     Not,
 }
 
 // Each has what was read of a line and the cursor behind it.
-#[derive(Drop)]
+#[derive(Clone, Copy)]
 struct NumberRead {
     value: usize,
     next: Cursor,
 }
 
-#[derive(Drop)]
+#[derive(Clone, Copy)]
 struct WordsRead {
     words: Words,
     next: Cursor,
 }
 
-#[derive(Drop)]
+#[derive(Clone, Copy)]
 struct TableRead {
     table: Table,
     next: Cursor,
 }
 
-#[derive(Drop)]
+#[derive(Clone, Copy)]
 struct HeadRead {
     head: Head,
     next: Cursor,
 }
 
-#[derive(Drop)]
+#[derive(Clone, Copy)]
 struct RecordRead {
     entry: Record,
     next: Cursor,

@@ -1,5 +1,6 @@
 // The listing of a table as lines of text: a head (the stop, and what the last End of Data said) and five lines for each record. Every call takes
 // every input; a refusal writes nothing, and bytes after what is written stay.
+#![tactic(auto)]
 ghost use Rattle.std.specs.Prelude.{◌≡◌, ◌+◌, ◌*◌, ◌≤◌, ◌<◌, length};
 ghost use Rattle.rtr_encode.specs.Answers.{number_of};
 ghost use Rattle.rtr_room.specs.Room.{records};
@@ -12,7 +13,7 @@ use rtr_receiver::{LiveTable, Phase, Session, Table, is_limit};
 use rtr_room::{Record, RecordFound, get, rules};
 
 // Why nothing is written.
-#[derive(Drop)]
+#[derive(Clone, Copy)]
 pub enum ListError {
     NotAReceiver,
     OutputShort { needed: usize },
@@ -31,14 +32,14 @@ impl ListError {
 }
 
 // How many bytes were written, or why none were.
-#[derive(Drop)]
+#[derive(Clone, Copy)]
 pub enum ListAnswer {
     Written(usize),
     Refused(ListError),
 }
 
 // What a listing says before its records: the stop's number, 0 without one; the table's session, serial and intervals if there is one; and how many records it has.
-#[derive(Drop)]
+#[derive(Clone, Copy)]
 pub struct Head {
     pub stopped: usize,
     pub table: LiveTable,

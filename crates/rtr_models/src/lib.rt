@@ -1,5 +1,6 @@
 // RTR's codes and PDU values, in the order of the Rust's src/models/rpki/rtr.rs. No function here has a condition or writes lent
 // memory, and each promise names its one result.
+#![tactic(auto)]
 ghost use Rattle.std.specs.Prelude.{◌≡◌};
 ghost use Rattle.rtr_models.specs.Codes.{version_found, version_number, type_found, type_number, code_found, code_number};
 ghost use Rattle.rtr_models.specs.Parts.{inside, key_inside, PartOf, part_number, number_if};
@@ -8,14 +9,14 @@ ghost use Rattle.rtr_models.specs.Values.{announces, withdraws, seconds_or, type
 // ---- Codes
 
 // Version 0 is RFC 6810, version 1 is RFC 8210.
-#[derive(Drop)]
+#[derive(Clone, Copy)]
 pub enum RtrProtocolVersion {
     V0,
     V1,
 }
 
 // The version that has a number, if one has.
-#[derive(Drop)]
+#[derive(Clone, Copy)]
 pub enum VersionFound {
     Known(RtrProtocolVersion),
     Unknown,
@@ -49,7 +50,7 @@ impl RtrProtocolVersion {
 }
 
 // What kind of PDU it is; there is no type 5.
-#[derive(Drop)]
+#[derive(Clone, Copy)]
 pub enum RtrPduType {
     SerialNotify,
     SerialQuery,
@@ -64,7 +65,7 @@ pub enum RtrPduType {
 }
 
 // The type that has a number, if one has.
-#[derive(Drop)]
+#[derive(Clone, Copy)]
 pub enum TypeFound {
     Known(RtrPduType),
     Unknown,
@@ -108,7 +109,7 @@ impl RtrPduType {
 }
 
 // Why an Error Report was sent.
-#[derive(Drop)]
+#[derive(Clone, Copy)]
 pub enum RtrErrorCode {
     CorruptData,
     InternalError,
@@ -122,7 +123,7 @@ pub enum RtrErrorCode {
 }
 
 // The error code that has a number, if one has.
-#[derive(Drop)]
+#[derive(Clone, Copy)]
 pub enum CodeFound {
     Known(RtrErrorCode),
     Unknown,
@@ -166,14 +167,14 @@ impl RtrErrorCode {
 // ---- What a PDU's fields are made of
 
 // A payload by place: len bytes from start, counted from the first byte of the PDU that was read.
-#[derive(Drop)]
+#[derive(Clone, Copy)]
 pub struct Place {
     pub start: usize,
     pub len: usize,
 }
 
 // Whether a payload lies in a slice: its part can be had, or it is refused by 11.
-#[derive(Drop)]
+#[derive(Clone, Copy)]
 pub enum PartAnswer {
     Part,
     Refused,
@@ -236,7 +237,7 @@ impl Place {
 }
 
 // An IPv6 address as four numbers, the leading 32 bits first.
-#[derive(Drop)]
+#[derive(Clone, Copy)]
 pub struct Ipv6Addr {
     pub w0: u32,
     pub w1: u32,
@@ -245,7 +246,7 @@ pub struct Ipv6Addr {
 }
 
 // An interval of End of Data, in seconds; version 0 has none.
-#[derive(Drop)]
+#[derive(Clone, Copy)]
 pub enum Interval {
     Absent,
     Seconds(u32),
@@ -265,7 +266,7 @@ impl Interval {
 // ---- PDU values
 
 // Cache to router: there is new data to ask for.
-#[derive(Drop)]
+#[derive(Clone, Copy)]
 pub struct RtrSerialNotify {
     pub version: RtrProtocolVersion,
     pub session_id: u16,
@@ -273,7 +274,7 @@ pub struct RtrSerialNotify {
 }
 
 // Router to cache: what changed since this serial.
-#[derive(Drop)]
+#[derive(Clone, Copy)]
 pub struct RtrSerialQuery {
     pub version: RtrProtocolVersion,
     pub session_id: u16,
@@ -293,7 +294,7 @@ impl RtrSerialQuery {
 }
 
 // Router to cache: the whole table.
-#[derive(Drop)]
+#[derive(Clone, Copy)]
 pub struct RtrResetQuery {
     pub version: RtrProtocolVersion,
 }
@@ -325,14 +326,14 @@ impl RtrResetQuery {
 }
 
 // Cache to router: data follows, up to an End of Data.
-#[derive(Drop)]
+#[derive(Clone, Copy)]
 pub struct RtrCacheResponse {
     pub version: RtrProtocolVersion,
     pub session_id: u16,
 }
 
 // Cache to router: one IPv4 prefix and the network that may announce it.
-#[derive(Drop)]
+#[derive(Clone, Copy)]
 pub struct RtrIPv4Prefix {
     pub version: RtrProtocolVersion,
     pub flags: u8,
@@ -357,7 +358,7 @@ impl RtrIPv4Prefix {
 }
 
 // Cache to router: the same for IPv6.
-#[derive(Drop)]
+#[derive(Clone, Copy)]
 pub struct RtrIPv6Prefix {
     pub version: RtrProtocolVersion,
     pub flags: u8,
@@ -382,7 +383,7 @@ impl RtrIPv6Prefix {
 }
 
 // Cache to router: the data is whole, up to this serial; version 1 adds the intervals.
-#[derive(Drop)]
+#[derive(Clone, Copy)]
 pub struct RtrEndOfData {
     pub version: RtrProtocolVersion,
     pub session_id: u16,
@@ -423,13 +424,13 @@ impl RtrEndOfData {
 }
 
 // Cache to router: the change asked for cannot be had, ask for the whole table.
-#[derive(Drop)]
+#[derive(Clone, Copy)]
 pub struct RtrCacheReset {
     pub version: RtrProtocolVersion,
 }
 
 // Cache to router: one BGPsec router key, version 1 only.
-#[derive(Drop)]
+#[derive(Clone, Copy)]
 pub struct RtrRouterKey {
     pub version: RtrProtocolVersion,
     pub flags: u8,
@@ -481,7 +482,7 @@ impl RtrRouterKey {
 }
 
 // Either way: what was wrong, with a copy of the PDU that was and a text for people.
-#[derive(Drop)]
+#[derive(Clone, Copy)]
 pub struct RtrErrorReport {
     pub version: RtrProtocolVersion,
     pub error_code: RtrErrorCode,
@@ -543,7 +544,7 @@ impl RtrErrorReport {
 
 // ---- Any PDU
 
-#[derive(Drop)]
+#[derive(Clone, Copy)]
 pub enum RtrPdu {
     SerialNotify(RtrSerialNotify),
     SerialQuery(RtrSerialQuery),

@@ -1,5 +1,6 @@
 // Session records as plain numbers, both ways, for a host that has no Rattle types: 24 numbers are a session, five are what a table says. What is
 // read back is written again and compared, so numbers that are nobody's are told from every other. PDUs: rtr_pdu_numbers.
+#![tactic(auto)]
 ghost use Rattle.std.specs.Prelude.{cond, ◌≡◌, ◌%◌, ◌≤◌, eqb, length, get_or};
 ghost use Rattle.rtr_codec.specs.Answers.{refusal};
 ghost use Rattle.rtr_stream.specs.Search.{stream_refusal};
@@ -17,14 +18,14 @@ use rtr_stream::StreamError;
 pub const SESSION_NUMBERS: usize = 24;
 
 // The session that has these numbers, if one has.
-#[derive(Drop)]
+#[derive(Clone, Copy)]
 pub enum SessionFound {
     Known(Session),
     Unknown,
 }
 
 // The table that has these numbers, if one has.
-#[derive(Drop)]
+#[derive(Clone, Copy)]
 pub enum TableFound {
     Known(Table),
     Unknown,
@@ -127,7 +128,7 @@ pub fn is_alike(a: &[u64], b: &[u64]) -> bool
 // ---- A session's numbers
 
 // A phase: its number, its load's session or its stop's number, and its stop's values.
-#[derive(Drop)]
+#[derive(Clone, Copy)]
 pub struct PhaseNumbers {
     pub phase: u64,
     pub detail: u64,

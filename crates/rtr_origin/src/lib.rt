@@ -1,4 +1,5 @@
 // Whether a route is good: its RFC 6811 state by the live table. Two calls with one promise: a scan, and one that uses the table's order; a third, for a list of routes, is in peer.rt.
+#![tactic(auto)]
 use rtr_models::Ipv6Addr;
 use rtr_receiver::{LiveTable, Session, is_receiver};
 use rtr_room::{LookUp, Record, look_up};
@@ -17,21 +18,21 @@ ghost use Rattle.rtr_origin.specs.Judged.{Common, LeadingAlike, Jumps, Walked, R
 pub use peer::{PeerAnswer, PeerError, validate_all};
 
 // A route's address; its family is its shape.
-#[derive(Drop)]
+#[derive(Clone, Copy)]
 pub enum RoutePrefix {
     IPv4(u32),
     IPv6(Ipv6Addr),
 }
 
 // A route as an operator asks of it. An origin of 0 is no AS's: it stands for a path that ends in an AS_SET.
-#[derive(Drop)]
+#[derive(Clone, Copy)]
 pub struct Route {
     pub prefix: RoutePrefix,
     pub length: u8,
     pub origin: u32,
 }
 
-#[derive(Drop)]
+#[derive(Clone, Copy)]
 pub enum RouteState {
     NotFound,
     Valid,
@@ -39,21 +40,21 @@ pub enum RouteState {
 }
 
 // Why there is no state.
-#[derive(Drop)]
+#[derive(Clone, Copy)]
 pub enum ValidateError {
     NotAReceiver,
     NoTable,
     TooLong,
 }
 
-#[derive(Drop)]
+#[derive(Clone, Copy)]
 pub enum ValidateAnswer {
     State(RouteState),
     Refused(ValidateError),
 }
 
 // The route that has some numbers, if one has.
-#[derive(Drop)]
+#[derive(Clone, Copy)]
 pub enum RouteFound {
     Known(Route),
     Unknown,
@@ -422,7 +423,7 @@ fn by_order(live: &[u32], count: usize, least: u32, loose: u32, q: Route) -> Rou
 // ---- Calls
 
 // What stands in the way of an answer, if anything.
-#[derive(Drop)]
+#[derive(Clone, Copy)]
 enum Bar {
     Open,
     Shut(ValidateError),

@@ -13,7 +13,7 @@ use rtr_receiver::{LiveTable, Session, is_receiver};
 use rtr_room::Record;
 
 // Why no route was answered.
-#[derive(Drop)]
+#[derive(Clone, Copy)]
 pub enum PeerError {
     // Memory is not of receiver shape, or the routes are not in sixes.
     OutOfShape,
@@ -22,7 +22,7 @@ pub enum PeerError {
 }
 
 // How many routes there were, or why none was answered.
-#[derive(Drop)]
+#[derive(Clone, Copy)]
 pub enum PeerAnswer {
     Answered(usize),
     Refused(PeerError),
@@ -44,13 +44,13 @@ impl PeerError {
 // ---- One look at the table
 
 // The shortest length of a family's plain records, and of those with host bits; 255 where there is none.
-#[derive(Drop)]
+#[derive(Clone, Copy)]
 struct Bounds {
     least: u32,
     loose: u32,
 }
 
-#[derive(Drop)]
+#[derive(Clone, Copy)]
 struct Families {
     four: Bounds,
     six: Bounds,

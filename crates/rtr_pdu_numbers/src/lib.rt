@@ -1,5 +1,6 @@
 // PDUs as plain numbers, both ways, for a host that has no Rattle types: 12 numbers are a PDU. What is read back is written again and
 // compared, so numbers that are nobody's are told from every other. Sessions: rtr_numbers.
+#![tactic(auto)]
 ghost use Rattle.std.specs.Prelude.{cond, ◌≡◌, ◌%◌, eqb, length, get_or};
 ghost use Rattle.rtr_numbers.specs.Back.{loose_version};
 ghost use Rattle.rtr_pdu_numbers.specs.Numbers.{pdu_numbers, end_seconds};
@@ -12,7 +13,7 @@ use rtr_numbers::{at, is_alike, loose_code, loose_version, put_numbers};
 pub const PDU_NUMBERS: usize = 12;
 
 // The PDU that has these numbers, with the bytes that it took, if one has.
-#[derive(Drop)]
+#[derive(Clone, Copy)]
 pub enum PduFound {
     Known(RtrPdu, usize),
     Unknown,

@@ -1,6 +1,7 @@
 // The receiver: it asks a cache for its table, listens to what comes, and keeps two rooms: the live one, which is whole or the one before, and the
 // working one, which is made live by the End of Data. Every call takes every input and tests first that the memory lent is of receiver
 // shape (22); a stop clears what is held and the working room, keeps the live room, and repeats until a reconnect.
+#![tactic(auto)]
 ghost use Rattle.std.specs.Prelude.{◌≡◌, ◌+◌, ◌<◌, true, cond, [], length, replicate, ◌==◌};
 ghost use Rattle.rtr_models.specs.Codes.{version_number};
 ghost use Rattle.rtr_codec.specs.Answers.{number_of};
@@ -21,14 +22,14 @@ pub const RECORD_LIMIT: usize = 1024;
 // ---- The session record
 
 // What a load was asked as.
-#[derive(Drop)]
+#[derive(Clone, Copy)]
 pub enum LoadKind {
     Full,
     Change,
 }
 
 // Why a receiver stopped; `number` gives document 01's number of it.
-#[derive(Drop)]
+#[derive(Clone, Copy)]
 pub enum Stop {
     Stream(StreamError),
     OutOfTurn,
@@ -41,7 +42,7 @@ pub enum Stop {
 }
 
 // A load holds its kind and its session, a stop its reason.
-#[derive(Drop)]
+#[derive(Clone, Copy)]
 pub enum Phase {
     Idle,
     MustReset,
@@ -52,7 +53,7 @@ pub enum Phase {
 }
 
 // What the last End of Data said of the live table.
-#[derive(Drop)]
+#[derive(Clone, Copy)]
 pub struct Table {
     pub session: u16,
     pub serial: u32,
@@ -61,34 +62,34 @@ pub struct Table {
     pub expire: u32,
 }
 
-#[derive(Drop)]
+#[derive(Clone, Copy)]
 pub enum LiveTable {
     NoTable,
     Known(Table),
 }
 
 // The last Serial Notify: session and serial.
-#[derive(Drop)]
+#[derive(Clone, Copy)]
 pub enum Note {
     NoNote,
     Noted(u16, u32),
 }
 
 // What is fixed for a receiver's life: its version, and how many records a room has at the most.
-#[derive(Drop)]
+#[derive(Clone, Copy)]
 pub struct Life {
     pub version: RtrProtocolVersion,
     pub limit: usize,
 }
 
 // How much of a room is in use.
-#[derive(Drop)]
+#[derive(Clone, Copy)]
 pub struct Counts {
     pub records: usize,
 }
 
 // A receiver between two calls: what is in use of the live and the working room, and how many bytes of the hold.
-#[derive(Drop)]
+#[derive(Clone, Copy)]
 pub struct Session {
     pub life: Life,
     pub phase: Phase,
@@ -101,13 +102,13 @@ pub struct Session {
 
 // ---- Answers
 
-#[derive(Drop)]
+#[derive(Clone, Copy)]
 pub enum StartAnswer {
     Started(Session),
     NotAReceiver,
 }
 
-#[derive(Drop)]
+#[derive(Clone, Copy)]
 pub enum AskError {
     NotAReceiver,
     WrongPhase,
@@ -116,19 +117,19 @@ pub enum AskError {
 }
 
 // How many bytes of the output are the query.
-#[derive(Drop)]
+#[derive(Clone, Copy)]
 pub enum AskAnswer {
     Written(usize),
     Refused(AskError),
 }
 
-#[derive(Drop)]
+#[derive(Clone, Copy)]
 pub struct AskedSession {
     pub session: Session,
     pub answer: AskAnswer,
 }
 
-#[derive(Drop)]
+#[derive(Clone, Copy)]
 pub enum FeedAnswer {
     GoesOn,
     Stopped(Stop),
@@ -136,33 +137,33 @@ pub enum FeedAnswer {
 }
 
 // What a feed did: bytes taken, updates finished, and whether it goes on.
-#[derive(Drop)]
+#[derive(Clone, Copy)]
 pub struct Done {
     pub taken: usize,
     pub updates: usize,
     pub answer: FeedAnswer,
 }
 
-#[derive(Drop)]
+#[derive(Clone, Copy)]
 pub struct Fed {
     pub session: Session,
     pub done: Done,
 }
 
-#[derive(Drop)]
+#[derive(Clone, Copy)]
 pub enum ReconnectAnswer {
     Connected,
     NotAReceiver,
 }
 
-#[derive(Drop)]
+#[derive(Clone, Copy)]
 pub struct Reconnected {
     pub session: Session,
     pub answer: ReconnectAnswer,
 }
 
 // A Serial Notify beside the table's serial.
-#[derive(Drop)]
+#[derive(Clone, Copy)]
 pub enum NotifyAnswer {
     None,
     OtherSession,
@@ -494,7 +495,7 @@ pub fn notify(s: Session, live: &[u32], working: &[u32], hold: &[u8]) -> NotifyA
 // ---- One PDU
 
 // A session and how many updates finished.
-#[derive(Drop)]
+#[derive(Clone, Copy)]
 struct DeedDone {
     session: Session,
     updates: usize,
@@ -641,7 +642,7 @@ fn is_version(a: RtrProtocolVersion, b: RtrProtocolVersion) -> bool
 }
 
 // The record that a PDU carries, and whether it is announced.
-#[derive(Drop)]
+#[derive(Clone, Copy)]
 enum Carried {
     Record(bool, Record),
     Nothing,
@@ -674,7 +675,7 @@ fn carried_by(pdu: RtrPdu) -> Carried
 
 // What a PDU asks for, decided without the rooms: nothing; a note; a reset; a stop; a load, from the empty table or the live one; a record,
 // announced or withdrawn; the end of a load.
-#[derive(Drop)]
+#[derive(Clone, Copy)]
 enum Doing {
     Passes,
     Notes(u16, u32),
@@ -855,13 +856,13 @@ fn on_pdu(s: Session, live: &mut [u32], working: &mut [u32], pdu: RtrPdu) -> Dee
 // ---- Feed
 
 // What is to be done after a step of a feed.
-#[derive(Drop)]
+#[derive(Clone, Copy)]
 enum Then {
     Again,
     Done(FeedAnswer),
 }
 
-#[derive(Drop)]
+#[derive(Clone, Copy)]
 struct Step {
     session: Session,
     next: usize,

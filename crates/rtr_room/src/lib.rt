@@ -1,11 +1,13 @@
 // Rooms: a table of records kept sorted in lent numbers, six for a record. Every call takes any numbers and any count; on the room of a
 // table it does what `enter` and `leave` of specs/Table.antt do (proofs/Laws.antt). Nothing here knows of a PDU, nor of a limit of 1,024.
+#![tactic(auto)]
+
 ghost use Rattle.std.specs.Prelude.{◌≡◌, ◌+◌, ◌-◌, ◌*◌, ◌≤◌, ◌<◌, ◌++◌, length, take, drop, replicate};
 ghost use Rattle.rtr_room.specs.Table.{packed, ipv4_record, ipv6_record, family_of, prefix_of, max_of, before, same, in_rule, is_table};
 ghost use Rattle.rtr_room.specs.Room.{numbers, record_at, record_found, records, all_zero, is_room, bisect, look_up, found, entered, enter_said, gone, leave_said, copied, copy_says, copy_said};
 
 // Which network may announce which prefix, as a room's six numbers: the first is family x 65,536 + prefix length x 256 + max.
-#[derive(Drop)]
+#[derive(Clone, Copy)]
 pub struct Record {
     pub kind: u32,
     pub w0: u32,
@@ -16,14 +18,14 @@ pub struct Record {
 }
 
 // Record i, where a room has its six numbers.
-#[derive(Drop)]
+#[derive(Clone, Copy)]
 pub enum RecordFound {
     Found(Record),
     Outside,
 }
 
 // Where a record stands, or would stand.
-#[derive(Drop)]
+#[derive(Clone, Copy)]
 pub enum LookUp {
     At(usize),
     Missing(usize),
@@ -31,7 +33,7 @@ pub enum LookUp {
 }
 
 // The count of records after it, or why nothing changed.
-#[derive(Drop)]
+#[derive(Clone, Copy)]
 pub enum EnterAnswer {
     Entered(usize),
     AlreadyIn,
@@ -39,14 +41,14 @@ pub enum EnterAnswer {
     NotARoom,
 }
 
-#[derive(Drop)]
+#[derive(Clone, Copy)]
 pub enum LeaveAnswer {
     Left(usize),
     NotIn,
     NotARoom,
 }
 
-#[derive(Drop)]
+#[derive(Clone, Copy)]
 pub enum CopyAnswer {
     Copied,
     NotARoom,

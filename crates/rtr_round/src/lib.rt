@@ -1,5 +1,6 @@
 // Demand 2 of the calls. Reading and encoding undo each other, and where they do not: proofs/RoundTrip has it of the definitions, and the functions below make the calls on lent memory, so that
 // proofs/Calls can say it of what the calls leave. No crate calls them.
+#![tactic(auto)]
 ghost use Rattle.rtr_round.specs.Calls.{Recoded, Sent};
 
 use rtr_codec::{ReadAnswer, RtrError, parse_rtr_pdu};
@@ -7,7 +8,7 @@ use rtr_encode::{EncodeAnswer, encode};
 use rtr_models::RtrPdu;
 
 // What was read, the bytes that it took and what encoding it said, or why nothing was read.
-#[derive(Drop)]
+#[derive(Clone, Copy)]
 enum Recoding {
     Again(RtrPdu, usize, EncodeAnswer),
     Unread(RtrError),

@@ -1,5 +1,6 @@
 // The stream: pieces of any length go in, whole PDUs come out; what is not whole yet is kept in a lent hold. Every call takes every input;
 // each byte is copied once at the most, and not at all where its PDU lies whole in the piece. Nothing here knows of a receiver.
+#![tactic(auto)]
 ghost use Rattle.std.specs.Prelude.{true, ◌++◌, ◌≡◌, ◌+◌, ◌-◌, ◌≤◌, ◌<◌, length, take, drop};
 ghost use Rattle.rtr_codec.specs.Answers.{number_of};
 ghost use Rattle.rtr_stream.specs.Search.{is_stream, search, search_said, stream_refusal, outcome_of};
@@ -12,7 +13,7 @@ use rtr_models::{Place, RtrPdu};
 pub const RTR_MAX_ERROR_REPORT_LEN: u32 = 131086;
 
 // A stream between two pieces: how many bytes of the hold are held.
-#[derive(Drop)]
+#[derive(Clone, Copy)]
 pub struct Stream {
     pub held: usize,
 }
@@ -26,7 +27,7 @@ impl Stream {
 }
 
 // Why a stream stops.
-#[derive(Drop)]
+#[derive(Clone, Copy)]
 pub enum StreamError {
     Read(RtrError),
     OverHold { length: u32 },
@@ -45,14 +46,14 @@ impl StreamError {
 }
 
 // Where the bytes of a PDU lie that was found; its own places count from there. In the hold they stand until the next search.
-#[derive(Drop)]
+#[derive(Clone, Copy)]
 pub enum Lies {
     InPiece(Place),
     InHold(Place),
 }
 
 // How a search breaks off.
-#[derive(Drop)]
+#[derive(Clone, Copy)]
 pub enum StreamAnswer {
     Found(RtrPdu, Lies),
     Refused(StreamError),
@@ -61,7 +62,7 @@ pub enum StreamAnswer {
 }
 
 // The answer, the place in the piece to go on from, and the stream then.
-#[derive(Drop)]
+#[derive(Clone, Copy)]
 pub struct Searched {
     pub stream: Stream,
     pub next: usize,
@@ -69,20 +70,20 @@ pub struct Searched {
 }
 
 // A header's length, tested.
-#[derive(Drop)]
+#[derive(Clone, Copy)]
 enum LengthTest {
     Fits,
     Refused(StreamError),
 }
 
 // What is to be done after a turn of the search.
-#[derive(Drop)]
+#[derive(Clone, Copy)]
 enum Then {
     Again,
     Done(StreamAnswer),
 }
 
-#[derive(Drop)]
+#[derive(Clone, Copy)]
 struct Turn {
     held: usize,
     next: usize,

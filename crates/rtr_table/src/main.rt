@@ -2,6 +2,7 @@
 // table on standard output. `list_all` promises what lies between: pieces are fed to one run of the receiver, one after another, up to a turn that has
 // nothing to feed or a stop, and what it hands back is the listing of what is then in memory. Outside stand the input and the output, of which no
 // contract can speak: that `read_piece` hands on what the system read, that `feed_all` reads once for each turn, and that `main` writes what it got.
+#![tactic(auto)]
 ghost use Rattle.std.specs.Prelude.{suc, ◌*◌, ◌≤◌, ◌++◌, ◌≡◌, length};
 ghost use Rattle.rtr_room.specs.Room.{record_found};
 ghost use Rattle.rtr_listing.specs.Listing.{head_lines, head_of, record_lines};
@@ -15,20 +16,20 @@ use rtr_receiver::{FeedAnswer, RECORD_LIMIT, Session, StartAnswer, feed, full_as
 use rtr_room::{Record, RecordFound, get};
 
 // The session after a turn, and whether there is to be another.
-#[derive(Drop)]
+#[derive(Clone, Copy)]
 struct Heard {
     session: Session,
     is_open: bool,
 }
 
 // The session where the input is left, and how many bytes the last read gave.
-#[derive(Drop)]
+#[derive(Clone, Copy)]
 struct Ended {
     session: Session,
     last: usize,
 }
 
-#[derive(Drop)]
+#[derive(Clone, Copy)]
 enum HearAnswer {
     Left(Ended),
     NotAReceiver,

@@ -1,5 +1,6 @@
 // The nest walk: how deep an Error Report's copies of PDUs go, and where they end. Sixteen levels below the first at the most, so the
 // stack is bounded whatever the input; nothing is written, and no call has a condition.
+#![tactic(auto)]
 ghost use Rattle.std.specs.Prelude.{◌≡◌, ◌-◌, ◌≤◌};
 ghost use Rattle.rtr_codec.specs.Reading.{in_use};
 ghost use Rattle.rtr_walk.specs.Walk.{walk, walk_from, walk_said};
@@ -9,7 +10,7 @@ use rtr_codec::{ReadAnswer, RtrError, parse_rtr_pdu};
 use rtr_models::{RtrPdu, RtrPduType};
 
 // Where a walk ends.
-#[derive(Drop)]
+#[derive(Clone, Copy)]
 pub enum WalkEnd {
     Plain(RtrPduType),
     Empty,
@@ -18,7 +19,7 @@ pub enum WalkEnd {
 }
 
 // The level of the last PDU read and the end, or why level 0 is not read.
-#[derive(Drop)]
+#[derive(Clone, Copy)]
 pub enum WalkAnswer {
     Walked(u8, WalkEnd),
     Refused(RtrError),

@@ -1,6 +1,7 @@
 // For bench/: loops over reading, encoding and the stream's search, whose cost is compared with the Rust's, with a sum of what they say, so that the two can be
 // held side by side. They are in Rattle so that the compiler sees call and caller at once, as it does the Rust's; the receiver's loops are C (bench/ours.c). Proved
 // safe and ending; it promises nothing of its sums, which the bench compares.
+#![tactic(auto)]
 use rtr_codec::{ReadAnswer, parse_rtr_pdu};
 use rtr_encode::{EncodeAnswer, encode};
 use rtr_models::*;
@@ -121,7 +122,7 @@ fn mix_pdu(sum: u64, pdu: RtrPdu, bytes: &[u8]) -> u64 {
 // ---- Reading
 
 // How many bytes were read, and the sum with them.
-#[derive(Drop)]
+#[derive(Clone, Copy)]
 struct Took {
     n: usize,
     sum: u64,
@@ -241,7 +242,7 @@ pub extern "C" fn bench_recode(bytes: &[u8], out: &mut [u8]) -> u64 {
 
 // ---- The stream
 
-#[derive(Drop)]
+#[derive(Clone, Copy)]
 struct Heard {
     held: usize,
     next: usize,

@@ -1,0 +1,105 @@
+-- `enter`: the look_up's answer decides, and a shift with a store makes room and fills it. Assumes nothing.
+use Prim.Native.Nat.{ℕ, ◌≤◌}
+use mathlib.Core.List.{List}
+use mathlib.Core.Path.{◌≡◌, sym, ap, ◌∙◌}
+use native.Mathlib.Omega.{arith}
+use Rattle.rtr_room.specs.Room.{limit_of, look_up, found}
+use Rattle.rtr_room.specs.Room.Found.{missing_at}
+use Rattle.rtr_room.specs.declared.Record.{Record}
+use Rattle.rtr_room.proofs.Rooms.{enter-not-a-room, already-in, full, put-at, at_most, fits-missing}
+use borrow.Author.Rules.{rules}
+use Rattle.rtr_room.proofs.enter.Goals as goal
+
+pub returns-then-count-room : goal.returns-then-count-room
+returns-then-count-room c =
+    let s : List ℕ = c.args.room.now in
+    let count : ℕ = c.args.count in
+    let r : Record = c.args.r in
+    let at : ℕ = c.in-Missing.at in
+    let tells : missing_at at ≡ look_up s count r = sym (ap found c.in-Missing.is) ∙ c.look_up.ensures in
+    full s count r at tells c.if-count-room.true
+
+pub overflow_mul-at : goal.overflow_mul-at
+overflow_mul-at c =
+    let s : List ℕ = c.args.room.now in
+    let count : ℕ = c.args.count in
+    let r : Record = c.args.r in
+    let at : ℕ = c.in-Missing.at in
+    let tells : missing_at at ≡ look_up s count r = sym (ap found c.in-Missing.is) ∙ c.look_up.ensures in
+    let near : at ≤ count = at_most s count r at tells in
+    let whole : count ≤ limit_of s = fits-missing s count r at tells in
+    omega (arith, near, whole)
+
+pub overflow_mul-count : goal.overflow_mul-count
+overflow_mul-count c =
+    let s : List ℕ = c.args.room.now in
+    let count : ℕ = c.args.count in
+    let r : Record = c.args.r in
+    let at : ℕ = c.in-Missing.at in
+    let tells : missing_at at ≡ look_up s count r = sym (ap found c.in-Missing.is) ∙ c.look_up.ensures in
+    let whole : count ≤ limit_of s = fits-missing s count r at tells in
+    omega (arith, whole)
+
+pub shift_up-requires : goal.shift_up-requires
+shift_up-requires c =
+    let s : List ℕ = c.args.room.now in
+    let count : ℕ = c.args.count in
+    let r : Record = c.args.r in
+    let at : ℕ = c.in-Missing.at in
+    let tells : missing_at at ≡ look_up s count r = sym (ap found c.in-Missing.is) ∙ c.look_up.ensures in
+    let near : at ≤ count = at_most s count r at tells in
+    let whole : count ≤ limit_of s = fits-missing s count r at tells in
+    let a = near in
+    let b = whole in
+    let d = c.if-count-room.false in
+    omega arith
+
+pub overflow_mul-at-in-Missing : goal.overflow_mul-at-in-Missing
+overflow_mul-at-in-Missing c =
+    let s : List ℕ = c.args.room.now in
+    let count : ℕ = c.args.count in
+    let r : Record = c.args.r in
+    let at : ℕ = c.in-Missing.at in
+    let tells : missing_at at ≡ look_up s count r = sym (ap found c.in-Missing.is) ∙ c.look_up.ensures in
+    let near : at ≤ count = at_most s count r at tells in
+    let whole : count ≤ limit_of s = fits-missing s count r at tells in
+    omega (arith, near, whole)
+
+pub put-requires : goal.put-requires
+put-requires c =
+    let s : List ℕ = c.args.room.now in
+    let count : ℕ = c.args.count in
+    let r : Record = c.args.r in
+    let at : ℕ = c.in-Missing.at in
+    let tells : missing_at at ≡ look_up s count r = sym (ap found c.in-Missing.is) ∙ c.look_up.ensures in
+    let near : at ≤ count = at_most s count r at tells in
+    let whole : count ≤ limit_of s = fits-missing s count r at tells in
+    let a = near in
+    let b = whole in
+    let d = c.if-count-room.false in
+    omega arith
+
+pub overflow_add-result : goal.overflow_add-result
+overflow_add-result c =
+    let s : List ℕ = c.args.room.now in
+    let count : ℕ = c.args.count in
+    let r : Record = c.args.r in
+    let at : ℕ = c.in-Missing.at in
+    let tells : missing_at at ≡ look_up s count r = sym (ap found c.in-Missing.is) ∙ c.look_up.ensures in
+    let whole : count ≤ limit_of s = fits-missing s count r at tells in
+    omega (arith, whole)
+
+pub returns-in-NotARoom : goal.returns-in-NotARoom
+returns-in-NotARoom c = enter-not-a-room c.args.room.now c.args.count c.args.r (sym (ap found c.in-NotARoom.is) ∙ c.look_up.ensures)
+
+pub returns-in-At : goal.returns-in-At
+returns-in-At c = already-in c.args.room.now c.args.count c.args.r c.in-At.field-0 (sym (ap found c.in-At.is) ∙ c.look_up.ensures)
+
+pub returns-else-count-room : goal.returns-else-count-room
+returns-else-count-room c =
+    let s : List ℕ = c.args.room.now in
+    let count : ℕ = c.args.count in
+    let r : Record = c.args.r in
+    let at : ℕ = c.in-Missing.at in
+    let tells : missing_at at ≡ look_up s count r = sym (ap found c.in-Missing.is) ∙ c.look_up.ensures in
+    put-at s count r at tells c.if-count-room.false _ _ c.shift_up.ensures c.put.ensures

@@ -1,0 +1,369 @@
+#!/usr/bin/env python3
+"""Turns a function's Proof.antt of the older Rattle, which answers the goals of `tie`, into Invariants.antt and Answers.antt.
+
+usage: tools/answers_of.py OLD_CRATE NAMES_JSON NEW_CRATE [FUNCTION ..]
+
+NAMES_JSON is what `rt check --generated DIR --old-names` leaves in DIR. What it could not turn is printed.
+"""
+import json
+import os
+import re
+import sys
+
+NAME = r"[^\W\d][\w₀-₉'-]*"
+TRIVIAL = {"search rules", "omega arith", "refl", "tt"}
+
+
+def norm(s):
+    return s.replace("_", "-")
+
+
+def decls(text):
+    """Top-level declarations, each with its lines; indented sections stay whole."""
+    out, cur = [], []
+    lines = text.split("\n")
+    blocks = []
+    for l in lines:
+        if l.strip() == "":
+            if cur:
+                blocks.append(cur)
+                cur = []
+        else:
+            cur.append(l)
+    if cur:
+        blocks.append(cur)
+    # a section's blocks are indented: join them to their head
+    joined = []
+    for b in blocks:
+        if joined and all(x.startswith("  ") for x in b) and any(x.startswith("module ") for x in joined[-1]):
+            joined[-1] += [""] + b
+        else:
+            joined.append(list(b))
+    return joined
+
+
+def parse(block):
+    """(comment, marks, name, type, unfolding, params, body) of a declaration of one equation, or None."""
+    comment = []
+    i = 0
+    while i < len(block) and block[i].lstrip().startswith("--"):
+        comment.append(block[i])
+        i += 1
+    if i >= len(block):
+        return None
+    m = re.match(rf"((?:(?:abbrev|unfoldable|pub) )*)({NAME}) : (.*)$", block[i])
+    if not m:
+        return None
+    marks, name, ty = m[1], m[2], m[3]
+    i += 1
+    while i < len(block) and block[i].startswith("    "):
+        ty += "\n" + block[i]
+        i += 1
+    unf = []
+    while i < len(block) and block[i].startswith("unfolding "):
+        unf.append(block[i])
+        i += 1
+    eqs = []
+    while i < len(block):
+        l = block[i]
+        if l.startswith("    ") or l.startswith("  "):
+            if not eqs:
+                return None
+            eqs[-1] += "\n" + l
+        else:
+            eqs.append(l)
+        i += 1
+    if len(eqs) != 1:
+        return dict(comment=comment, marks=marks, name=name, ty=ty, unf=unf, eqs=eqs, params=None, body=None)
+    m = re.match(rf"{re.escape(name)}((?: (?:{NAME}|\([^=]*?\)|_))*) =\s?(.*)$", eqs[0], re.S)
+    if not m:
+        return dict(comment=comment, marks=marks, name=name, ty=ty, unf=unf, eqs=eqs, params=None, body=None)
+    params = m[1].split()
+    return dict(comment=comment, marks=marks, name=name, ty=ty, unf=unf, eqs=eqs, params=params, body=m[2])
+
+
+def sub_tokens(text, mapping):
+    """Renames variables that stand alone: not behind a dot, not a field's label."""
+    def f(m):
+        w = m[0]
+        if w in mapping:
+            rest = text[m.end():m.end() + 3]
+            if re.match(r" = |\s*≔", rest) and not re.match(r" = =", rest):
+                return w
+            return mapping[w]
+        return w
+    return re.sub(rf"(?<![\w.₀-₉'-]){NAME}", f, text)
+
+
+class Fn:
+    def __init__(self, info, path):
+        self.info = info
+        self.path = path
+        self.steps = {}
+        self.fields = {}
+        self.bad = []
+        newnames = {}
+        for place, parent, (old, new), fn, fl in info["places"]:
+            if old and old not in self.steps:
+                self.steps[norm(old)] = new
+            for a, b in fl:
+                self.fields.setdefault((norm(old), a), b)
+            # the record's name in Goals
+        for i, (place, *_r) in enumerate(info["places"]):
+            newnames[place] = info["places_by_name"][i]
+        self.places = newnames
+        self.arms = {}
+        for a in info["arms"]:
+            if a:
+                for newf, oldstep, oldpath in a[2]:
+                    self.arms[(norm(oldstep), tuple(oldpath))] = (a[0], newf)
+        self.needs = {norm(o): n for o, n in info["needs"]}
+        self.settled = {norm(s) for s in info["settled"]}
+        self.loops = {o: (n, vs, ch) for ((o, n), vs), ch in zip(info["loops"], info["changed"])}
+
+    def path_map(self, text):
+        """c.before...STEP.x.y to c.NEW.x.y"""
+        text = re.sub(r"(?<![\w.'-])(c|call|st)((?:\.before)+)(?![\w-])", r"\1", text)
+
+        def f(m):
+            head, segs = m[1], m[2].split(".")[1:]
+            if not segs:
+                return m[0]
+            step = norm(segs[0])
+            if step in ("args", "requires", "ranges", "type-inv"):
+                return head + m[2]
+            rest = segs[1:]
+            for k in range(len(rest), 0, -1):
+                hit = self.arms.get((step, tuple(rest[:k])))
+                if hit:
+                    return ".".join([head, hit[0], hit[1], *rest[k:]])
+            new = self.steps.get(step)
+            if new is None:
+                self.bad.append("step " + segs[0])
+                return m[0]
+            if rest and (step, rest[0]) in self.fields:
+                rest[0] = self.fields[(step, rest[0])]
+            return ".".join([head, new, *rest])
+
+        return re.sub(r"(?<![\w.'-])(c)((?:\.[\w₀-₉'-]+)+)", f, text)
+
+
+def alias_lets(body, aliases):
+    """Drops `let a = c.before in` and puts c for a."""
+    while True:
+        m = re.search(rf"let ({NAME})(?: : [^=]*?)? = (c(?:\.before)*) in\s*", body)
+        if not m:
+            return body
+        body = body[:m.start()] + body[m.end():]
+        body = re.sub(rf"(?<![\w.'-]){re.escape(m[1])}(?![\w₀-₉'-])", "c", body)
+
+
+def helper_lets(sections):
+    """Helpers over a place: (name, type, body in c)"""
+    out = []
+    for b in sections:
+        out.append(b)
+    return out
+
+
+def turn(old, info, fname, crate, out):
+    text = open(old, encoding="utf8").read()
+    blocks = decls(text)
+    fn = Fn(info, old)
+    head_comment, uses = [], []
+    helpers = []  # (name, type, body)
+    loose = []    # lemmas that do not speak of c
+    answers, invs = [], []
+    for b in blocks:
+        if b[0].startswith("use ") or (b[0].startswith("--") and len(b) > 1 and any(l.startswith("use ") for l in b)):
+            for l in b:
+                if l.startswith("use "):
+                    if ".Tie as tie" in l or "Statement.{statement}" in l:
+                        continue
+                    uses.append(l)
+                elif l.startswith("--"):
+                    head_comment.append(l)
+                else:
+                    uses[-1] += "\n" + l
+            continue
+        if all(l.startswith("--") for l in b):
+            head_comment += b
+            continue
+        first = next(l for l in b if not l.startswith("--"))
+        m = re.match(r"module _ \((\w+) : tie\.[^)]*\)(.*) where", first)
+        if m:
+            if m[2].strip():
+                fn.bad.append("section " + first)
+            par = m[1]
+            inner = [l[2:] if l.startswith("  ") else l for l in b[b.index(first) + 1:]]
+            for bb in decls("\n".join(inner)):
+                p = parse(bb)
+                if not p or p["body"] is None or p["params"]:
+                    fn.bad.append("helper " + bb[0])
+                    loose.append("\n".join(bb))
+                    continue
+                r = lambda t: re.sub(rf"(?<![\w.'-]){par}(?![\w'-])", "c", t)
+                helpers.append((p["name"], r(p["ty"]), r(p["body"]), p))
+            continue
+        p = parse(b)
+        if p is None:
+            loose.append("\n".join(b))
+            fn.bad.append("block " + b[0][:60])
+            continue
+        if re.fullmatch(rf"{re.escape(fname)}[-_]spec|.*[-_]spec", p["name"]) and "statement" in p["ty"]:
+            continue
+        m = re.match(r"tie\.Need-([\w-]+)", p["ty"])
+        if m:
+            answers.append((m[1], p))
+            continue
+        if re.match(r"tie\.(invariant|decreases)-", p["ty"]):
+            invs.append(p)
+            continue
+        if "tie." in p["ty"]:
+            m = re.match(rf"\((\w+) : tie\.[\w-]+(?: invariant-\w+ decreases-\w+)*\) → (.*)$", p["ty"], re.S) or (re.match(r"(tie\.[\w-]+)", p["ty"]) and None)
+            if m and p["body"] is not None and p["params"]:
+                par = p["params"][0]
+                r = lambda t, par=par: re.sub(rf"(?<![\w.'-]){par}(?![\w'-])", "c", t)
+                if len(p["params"]) == 1:
+                    helpers.append((p["name"], re.sub(rf"(?<![\w.'-]){m[1]}(?![\w'-])", "c", m[2]), r(p["body"]), p))
+                    continue
+            fn.bad.append("over tie: " + p["name"])
+            loose.append("\n".join(b))
+            continue
+        loose.append("\n".join(b))
+    # bodies
+    hs = []
+    for name, ty, body, p in helpers:
+        body = alias_lets(body.strip(), None)
+        hs.append((name, re.sub(r"(?<![\w.'-])c((?:\.before)+)(?![\w-])", "c", ty), re.sub(r"(?<![\w.'-])c((?:\.before)+)(?![\w-])", "c", body), p))
+    pure = {n for n, t, b, p in hs if re.fullmatch(r"c", b)}
+
+    def helped(body):
+        body = re.sub(r"(?<![\w.'-])c((?:\.before)+)(?![\w-])", "c", body)
+        for n in pure:
+            body = re.sub(rf"\({re.escape(n)} c\)", "c", body)
+            body = re.sub(rf"(?<![\w.'-]){re.escape(n)} c(?![\w'-])", "c", body)
+            body = re.sub(rf"(?<![\w.'-]){re.escape(n)}(?=\.)", "c", body)
+        for n, t, b, p in hs:
+            body = re.sub(rf"\({re.escape(n)} c\)", n, body)
+            body = re.sub(rf"(?<![\w.'-]){re.escape(n)} c(?![\w.'-])", n, body)
+        return body
+
+    hs2 = [(n, fn.path_map(helped(t)), fn.path_map(helped(b)), p) for n, t, b, p in hs if n not in pure]
+
+    def with_helpers(body):
+        body = fn.path_map(helped(body))
+        need, todo = set(), [body]
+        while todo:
+            x = todo.pop()
+            for n, t, b, p in hs2:
+                if n not in need and re.search(rf"(?<![\w.'-]){re.escape(n)}(?![\w'-])", x):
+                    need.add(n)
+                    todo += [t, b]
+        lets = []
+        for n, t, b, p in hs2:
+            if n in need:
+                lets.append(f"let {n} : {' '.join(t.split())} = {b} in")
+        return lets, body
+
+    gen_name = fname
+    inv_text, ans_text = [], []
+    for p in invs:
+        kind, loop = re.match(r"tie\.(invariant|decreases)-([\w-]+)", p["ty"]).groups()
+        hit = None
+        for o, v in fn.loops.items():
+            if norm(o) == norm(loop):
+                hit = v
+        if hit is None or p["body"] is None:
+            fn.bad.append("loop " + loop)
+            continue
+        new, vs, ch = hit
+        want = list(vs) + [v for v, x in zip(vs, ch) if x]
+        if len(p["params"]) != len(want):
+            fn.bad.append(f"loop params {p['params']} for {want}")
+            continue
+        mp = {}
+        for a, v, k in zip(p["params"], want, range(len(want))):
+            if a == "_":
+                continue
+            i = k < len(vs) and ch[k]
+            mp[a] = f"l.initial.{v}" if i else f"l.{v}"
+        body = sub_tokens(p["body"], mp)
+        c = "\n".join(p["comment"]) + "\n" if p["comment"] else ""
+        inv_text.append(f"{c}abbrev pub {kind}-{new} : goal.{kind}-{new}\n" + "".join(u + "\n" for u in p["unf"]) + f"{kind}-{new} l = {body}" if not body.startswith("\n") else f"{c}abbrev pub {kind}-{new} : goal.{kind}-{new}\n{kind}-{new} l ={body}")
+    dropped = []
+    for goal, p in answers:
+        g = norm(goal)
+        cands = [g]
+        for pre in ("overflow-",):
+            if g.startswith(pre):
+                cands.append(g[len(pre):])
+        new = next((fn.needs[x] for x in cands if x in fn.needs), None)
+        if new is None:
+            dropped.append(goal)
+            continue
+        if p["body"] is None:
+            fn.bad.append("answer of several equations: " + p["name"])
+            ans_text.append("\n".join(p["eqs"]))
+            continue
+        body = p["body"].strip()
+        if body in TRIVIAL and not p["unf"]:
+            continue
+        par = p["params"][0] if p["params"] else "c"
+        if par != "c":
+            body = re.sub(rf"(?<![\w.'-]){par}(?![\w'-])", "c", body)
+        body = alias_lets(body, None)
+        lets, body = with_helpers(body)
+        # what a slice's length is said by an unnamed fact: omega finds it
+        body = re.sub(r", c\.[\w.'-]+\.auto\.\d+(?=[,)])", "", body)
+        body = re.sub(r"\(arith, c\.[\w.'-]+\.auto\.\d+\)", "arith", body)
+        body = re.sub(r"omega \(arith\)", "omega arith", body)
+        c = "\n".join(p["comment"]) + "\n" if p["comment"] else ""
+        sep = "\n    " if lets or "\n" in body else " "
+        b2 = ("\n    ".join(lets) + "\n    " if lets else "") + body
+        ans_text.append(f"{c}pub {new} : goal.{new}\n" + "".join(u + "\n" for u in p["unf"]) + f"{new} c ={sep}{b2}")
+    folder = os.path.join(out, "proofs", *fname.split("."))
+    os.makedirs(folder, exist_ok=True)
+    hc = "\n".join(head_comment)
+    gp = f"Rattle.{crate}.proofs.{fname}"
+    if inv_text:
+        with open(os.path.join(folder, "Invariants.antt"), "w", encoding="utf8") as f:
+            f.write((hc + "\n" if hc else "") + "\n".join(uses) + f"\nuse {gp}.Given as goal\n\n" + "\n\n".join(inv_text) + "\n")
+    if ans_text:
+        lo = [l for l in loose]
+        with open(os.path.join(folder, "Answers.antt"), "w", encoding="utf8") as f:
+            f.write((hc + "\n" if hc and not inv_text else "") + "\n".join(uses) + f"\nuse {gp}.Goals as goal\n\n" + "\n\n".join(lo + ans_text) + "\n")
+    elif loose:
+        fn.bad.append("loose lemmas and no answers: " + "; ".join(x.split("\n")[0] for x in loose))
+    known = ("same-length", "enum-told", "enum-known", "struct", "slice-", "shared-slice", "nonzero", "closed", "returns")
+    rest = [d for d in dropped if not norm(d).startswith(("same-length", "enum-", "struct-", "slice-", "shared-slice", "mul-", "overflow-mul"))]
+    if fn.bad or rest:
+        print(f"{crate}.{fname}: {sorted(set(fn.bad))} dropped {rest}")
+
+
+def main(a):
+    old, names, new = a[:3]
+    only = set(a[3:])
+    j = json.load(open(names))
+    crate = os.path.basename(os.path.normpath(new))
+    n = 0
+    for d, _s, fs in sorted(os.walk(os.path.join(old, "proofs"))):
+        if "Proof.antt" not in fs:
+            continue
+        fname = os.path.relpath(d, os.path.join(old, "proofs")).replace("/", ".")
+        if only and fname not in only:
+            continue
+        p = os.path.join(d, "Proof.antt")
+        if "tie.close" not in open(p, encoding="utf8").read():
+            print(f"{crate}.{fname}: by hand")
+            continue
+        info = j.get(f"Rattle-{crate}-proofs.{fname}.Lts")
+        if info is None:
+            print(f"{crate}.{fname}: no names")
+            continue
+        turn(p, info, fname, crate, new)
+        n += 1
+    print(f"{n} turned")
+
+
+main(sys.argv[1:])
