@@ -208,7 +208,8 @@ def turn(old, info, fname, crate, out):
         p = parse(b)
         if p is None:
             loose.append("\n".join(b))
-            fn.bad.append("block " + b[0][:60])
+            if "tie." in "\n".join(b):
+                fn.bad.append("block " + b[0][:60])
             continue
         if re.fullmatch(rf"{re.escape(fname)}[-_]spec|.*[-_]spec", p["name"]) and "statement" in p["ty"]:
             continue
@@ -314,6 +315,7 @@ def turn(old, info, fname, crate, out):
             body = re.sub(rf"(?<![\w.'-]){par}(?![\w'-])", "c", body)
         body = alias_lets(body, None)
         lets, body = with_helpers(body)
+        body = body.replace(".type-inv", ".type_inv")
         # what a slice's length is said by an unnamed fact: omega finds it
         body = re.sub(r", c\.[\w.'-]+\.auto\.\d+(?=[,)])", "", body)
         body = re.sub(r"\(arith, c\.[\w.'-]+\.auto\.\d+\)", "arith", body)
@@ -326,13 +328,33 @@ def turn(old, info, fname, crate, out):
     os.makedirs(folder, exist_ok=True)
     hc = "\n".join(head_comment)
     gp = f"Rattle.{crate}.proofs.{fname}"
+    # lemmas that the invariants name go with them
+    named = {}
+    for l in loose:
+        for m in re.finditer(rf"(?m)^ *((?:(?:abbrev|unfoldable|pub|data|record) )*)({NAME})(?: \{{[^\n]*\}})* :", l):
+            named.setdefault(m[2], l)
+    word = lambda n, x: re.search(rf"(?<![\w.'-]){re.escape(n)}(?![\w'-])", x)
+    shared, todo = [], list(inv_text)
+    while todo:
+        x = todo.pop()
+        for n, l in named.items():
+            if l not in shared and word(n, x):
+                shared.append(l)
+                todo.append(l)
+    shared = [l for l in loose if l in shared]
+    loose = [l for l in loose if l not in shared]
+    exported = [n for n, l in named.items() if l in shared]
+    def public(l):
+        return re.sub(r"(?m)^(abbrev |unfoldable )?(?!pub )(" + "|".join(map(re.escape, exported)) + r") :", lambda m: (m[1] or "") + "pub " + m[2] + " :", l)
     if inv_text:
         with open(os.path.join(folder, "Invariants.antt"), "w", encoding="utf8") as f:
-            f.write((hc + "\n" if hc else "") + "\n".join(uses) + f"\nuse {gp}.Given as goal\n\n" + "\n\n".join(inv_text) + "\n")
+            f.write((hc + "\n" if hc else "") + "\n".join(uses) + f"\nuse {gp}.Given as goal\n\n" + "\n\n".join([public(l) for l in shared] + inv_text) + "\n")
     if ans_text:
-        lo = [l for l in loose]
+        lo = list(loose)
+        from_inv = [n for n in exported if any(word(n, x) for x in lo + ans_text)]
+        extra = f"\nuse {gp}.Invariants.{{{', '.join(from_inv)}}}" if from_inv else ""
         with open(os.path.join(folder, "Answers.antt"), "w", encoding="utf8") as f:
-            f.write((hc + "\n" if hc and not inv_text else "") + "\n".join(uses) + f"\nuse {gp}.Goals as goal\n\n" + "\n\n".join(lo + ans_text) + "\n")
+            f.write((hc + "\n" if hc and not inv_text else "") + "\n".join(uses) + extra + f"\nuse {gp}.Goals as goal\n\n" + "\n\n".join(lo + ans_text) + "\n")
     elif loose:
         fn.bad.append("loose lemmas and no answers: " + "; ".join(x.split("\n")[0] for x in loose))
     known = ("same-length", "enum-told", "enum-known", "struct", "slice-", "shared-slice", "nonzero", "closed", "returns")

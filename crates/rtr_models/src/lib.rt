@@ -1,6 +1,7 @@
 // RTR's codes and PDU values, in the order of the Rust's src/models/rpki/rtr.rs. No function here has a condition or writes lent
 // memory, and each promise names its one result.
 #![tactic(auto)]
+
 ghost use Rattle.std.specs.Prelude.{◌≡◌};
 ghost use Rattle.rtr_models.specs.Codes.{version_found, version_number, type_found, type_number, code_found, code_number};
 ghost use Rattle.rtr_models.specs.Parts.{inside, key_inside, PartOf, part_number, number_if};

@@ -1,6 +1,7 @@
 // Well-formed UTF-8, in place of the standard library's test: how far a text is well formed, and whether that is all of it.
 // Empty text and NUL pass. No public call has a condition; nothing is written. The rows of Unicode's table are nine functions in rows.rt.
 #![tactic(auto)]
+
 mod rows;
 mod run;
 

@@ -1,8 +1,6 @@
-use Prim.Native.Nat.{◌≤◌, ◌-◌}
-use mathlib.Core.Path.{◌≡◌, refl, ◌∙◌}
+use mathlib.Core.Path.{refl, ◌∙◌}
 use native.Mathlib.Omega.{arith}
-use lib.ListN.{length, take, drop, length-set}
-use mathlib.Core.List.{◌++◌}
+use lib.ListN.{length, length-set}
 use borrow.Author.Tests.{eq-eqb, ne_eqb}
 use Rattle.rtr_room.specs.Room.{copied}
 use Rattle.rtr_room.proofs.Lists.{copied-turn, copied_all}

@@ -1,12 +1,8 @@
 -- `copy`: at the loop's head the first i numbers are the other room's. The measure is what is left. Assumes nothing.
 use Prim.Native.Nat.{◌≤◌, ◌-◌}
-use mathlib.Core.Path.{◌≡◌, refl, ◌∙◌}
-use native.Mathlib.Omega.{arith}
-use lib.ListN.{length, take, drop, length-set}
+use mathlib.Core.Path.{◌≡◌}
+use lib.ListN.{length, take, drop}
 use mathlib.Core.List.{◌++◌}
-use borrow.Author.Tests.{eq-eqb, ne_eqb}
-use Rattle.rtr_room.specs.Room.{copied}
-use Rattle.rtr_room.proofs.Lists.{copied-turn, copied_all}
 use Rattle.rtr_room.proofs.copy.Given as goal
 
 abbrev pub invariant-loop-i : goal.invariant-loop-i

@@ -1,8 +1,8 @@
-use Prim.Native.Nat.{ℕ, ◌≤◌, ◌-◌}
-use mathlib.Core.Path.{◌≡◌, ◌∙◌, ap}
+use Prim.Native.Nat.{ℕ}
+use mathlib.Core.Path.{◌∙◌, ap}
 use native.Mathlib.Omega.{arith}
-use lib.ListN.{length, set, drop, replicate, length-set}
-use mathlib.Core.List.{List, ◌++◌}
+use lib.ListN.{set, length-set}
+use mathlib.Core.List.{List}
 use borrow.Author.Fill.{fill_none, fill_more}
 use Rattle.rtr_room.proofs.Lists.{filled}
 use Rattle.rtr_room.proofs.empty.Goals as goal

@@ -1,11 +1,8 @@
 -- `empty`: at the loop's head the first `at` numbers are 0. The measure is what is left. Assumes nothing.
-use Prim.Native.Nat.{ℕ, ◌≤◌, ◌-◌}
-use mathlib.Core.Path.{◌≡◌, ◌∙◌, ap}
-use native.Mathlib.Omega.{arith}
-use lib.ListN.{length, set, drop, replicate, length-set}
-use mathlib.Core.List.{List, ◌++◌}
-use borrow.Author.Fill.{fill_none, fill_more}
-use Rattle.rtr_room.proofs.Lists.{filled}
+use Prim.Native.Nat.{◌≤◌, ◌-◌}
+use mathlib.Core.Path.{◌≡◌}
+use lib.ListN.{length, drop, replicate}
+use mathlib.Core.List.{◌++◌}
 use Rattle.rtr_room.proofs.empty.Given as goal
 
 abbrev pub invariant-loop-at : goal.invariant-loop-at

@@ -7,7 +7,6 @@ use Rattle.rtr_room.specs.Room.{limit_of, look_up, found}
 use Rattle.rtr_room.specs.Room.Found.{missing_at}
 use Rattle.rtr_room.specs.declared.Record.{Record}
 use Rattle.rtr_room.proofs.Rooms.{enter-not-a-room, already-in, full, put-at, at_most, fits-missing}
-use borrow.Author.Rules.{rules}
 use Rattle.rtr_room.proofs.enter.Goals as goal
 
 pub returns-then-count-room : goal.returns-then-count-room

@@ -1,7 +1,6 @@
 -- `get`: a room has six numbers for each record, so record i is there exactly where i is below the length over six. Assumes nothing.
 use mathlib.Core.Path.{sym, ap, ◌∙◌}
 use native.Mathlib.Omega.{arith}
-use borrow.Author.Rules.{rules}
 use Rattle.rtr_room.specs.declared.RecordFound.TheVariants.{Found}
 use Rattle.rtr_room.proofs.Laws.Rooms.{found_inside, found-outside}
 use Rattle.rtr_room.proofs.get.Goals as goal

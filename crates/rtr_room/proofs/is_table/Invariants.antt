@@ -1,15 +1,11 @@
 -- `is_table`: the last record read is in rule, and with those behind it it is a table where the whole is. The measure is what is left. Assumes nothing.
 use Prim.Native.Nat.{◌-◌, ◌*◌, ◌≤◌}
-use mathlib.Core.Bool.{true, false}
+use mathlib.Core.Bool.{true}
 use mathlib.Core.List.{◌∷◌}
-use mathlib.Core.Path.{◌≡◌, sym, ◌∙◌, ap}
-use native.Mathlib.Omega.{arith}
+use mathlib.Core.Path.{◌≡◌}
 use lib.ListN.{drop}
-use borrow.Author.Tests.{not-true, not-false}
 use Rattle.rtr_room.specs.Table.{in_rule, is_table}
-use Rattle.rtr_room.specs.Room.{record_at, records}
-use Rattle.rtr_room.specs.declared.Record.{Record}
-use Rattle.rtr_room.proofs.Tables.{first-breaks, no_table, starts, ends, next-refused, order-refused, goes_on}
+use Rattle.rtr_room.specs.Room.{records}
 use Rattle.rtr_room.proofs.is_table.Given as goal
 
 abbrev pub invariant-loop-i : goal.invariant-loop-i

@@ -1,10 +1,4 @@
-use Prim.Native.Nat.{◌-◌}
-use mathlib.Core.Bool.{◌&&◌}
-use mathlib.Core.Path.{◌≡◌, refl, sym, ◌∙◌}
-use native.Mathlib.Omega.{arith}
-use lib.Dec.{eqb}
-use lib.ListN.{length, drop}
-use Rattle.rtr_room.specs.Room.{all_zero}
+use mathlib.Core.Path.{sym, ◌∙◌}
 use Rattle.rtr_room.proofs.Tables.{zero_turn, zero-end}
 use Rattle.rtr_room.proofs.is_zero_from.Goals as goal
 

@@ -1,12 +1,10 @@
 -- `is_zero_from`: the bits met so far are none, and what is left is 0, exactly where all was. The measure is what is left. Assumes nothing.
 use Prim.Native.Nat.{◌-◌}
 use mathlib.Core.Bool.{◌&&◌}
-use mathlib.Core.Path.{◌≡◌, refl, sym, ◌∙◌}
-use native.Mathlib.Omega.{arith}
+use mathlib.Core.Path.{◌≡◌}
 use lib.Dec.{eqb}
 use lib.ListN.{length, drop}
 use Rattle.rtr_room.specs.Room.{all_zero}
-use Rattle.rtr_room.proofs.Tables.{zero_turn, zero-end}
 use Rattle.rtr_room.proofs.is_zero_from.Given as goal
 
 abbrev pub invariant-loop-i : goal.invariant-loop-i

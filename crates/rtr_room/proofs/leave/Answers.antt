@@ -7,7 +7,6 @@ use Rattle.rtr_room.specs.Room.{limit_of, look_up, found}
 use Rattle.rtr_room.specs.Room.Found.{stands_at}
 use Rattle.rtr_room.specs.declared.Record.{Record}
 use Rattle.rtr_room.proofs.Rooms.{leave-not-a-room, not_in, left-from, below, fits-there}
-use borrow.Author.Rules.{rules}
 use Rattle.rtr_room.proofs.leave.Goals as goal
 
 pub overflow_mul-at : goal.overflow_mul-at

@@ -10,7 +10,6 @@ use Rattle.rtr_room.specs.Room.{record_at, place}
 use Rattle.rtr_room.specs.declared.Record.{Record}
 use Rattle.rtr_room.proofs.Places.{told, nowhere, behind, at_last, among}
 use Rattle.rtr_room.proofs.Rooms.{too_many, behind-all, another, there}
-use borrow.Author.Rules.{rules}
 use Rattle.rtr_room.proofs.look_up.Goals as goal
 
 pub returns-then-count-room : goal.returns-then-count-room

@@ -1,9 +1,7 @@
-use Prim.Native.Nat.{◌-◌, ◌≤◌}
 use mathlib.Core.Bool.{true, false}
-use mathlib.Core.Path.{◌≡◌, refl, sym, ◌∙◌}
+use mathlib.Core.Path.{refl, sym, ◌∙◌}
 use native.Mathlib.Omega.{arith}
 use Rattle.rtr_room.specs.Table.{before}
-use Rattle.rtr_room.specs.Room.{bisect}
 use Rattle.rtr_room.proofs.Halving.{met, turn}
 use Rattle.rtr_room.proofs.Places.{told}
 use Rattle.rtr_room.proofs.place_among.Goals as goal

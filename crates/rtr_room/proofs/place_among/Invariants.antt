@@ -1,13 +1,8 @@
 -- `place_among`: halving between the ends that are left comes to what it comes to between the first two, and the ends stay in order. The
 -- measure is their distance. Assumes nothing.
 use Prim.Native.Nat.{◌-◌, ◌≤◌}
-use mathlib.Core.Bool.{true, false}
-use mathlib.Core.Path.{◌≡◌, refl, sym, ◌∙◌}
-use native.Mathlib.Omega.{arith}
-use Rattle.rtr_room.specs.Table.{before}
+use mathlib.Core.Path.{◌≡◌}
 use Rattle.rtr_room.specs.Room.{bisect}
-use Rattle.rtr_room.proofs.Halving.{met, turn}
-use Rattle.rtr_room.proofs.Places.{told}
 use Rattle.rtr_room.proofs.place_among.Given as goal
 
 abbrev pub invariant-loop-lo : goal.invariant-loop-lo

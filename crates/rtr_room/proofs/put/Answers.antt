@@ -2,7 +2,6 @@
 use native.Mathlib.Omega.{arith}
 use lib.ListN.{length-set}
 use Rattle.rtr_room.proofs.Lists.{stored-6}
-use borrow.Author.Rules.{rules}
 use Rattle.rtr_room.proofs.put.Goals as goal
 
 pub bounds-room-at-2 : goal.bounds-room-at-2

@@ -1,7 +1,6 @@
 -- `record_at`: each of the six places is inside, since six numbers from the first on are, and what is read there is the definition's number.
 -- Assumes nothing.
 use mathlib.Core.Path.{refl}
-use borrow.Author.Rules.{rules}
 use Rattle.rtr_room.specs.Room.{record_at}
 use Rattle.rtr_room.proofs.record_at.Goals as goal
 

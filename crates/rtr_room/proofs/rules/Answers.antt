@@ -8,7 +8,6 @@ use lib.ListN.{length}
 use borrow.Author.Tests.{eq-eqb, ne_eqb, le-leb, lt-leb, not-true, not-false}
 use Rattle.rtr_room.specs.Table.{is_table}
 use Rattle.rtr_room.specs.Room.{records, is_room}
-use borrow.Author.Rules.{rules}
 use Rattle.rtr_room.proofs.rules.Goals as goal
 
 pub returns-then-room-ne0 : goal.returns-then-room-ne0

@@ -1,9 +1,8 @@
 -- `shift_down`: at the loop's head the numbers up to `at` are those that stood six further. The measure is what is left to the end. Assumes nothing.
-use Prim.Native.Nat.{ℕ, ◌≤◌, ◌+◌, ◌-◌}
-use mathlib.Core.Path.{◌≡◌, ◌∙◌, ap}
-use native.Mathlib.Omega.{arith}
-use lib.ListN.{length, length-set}
-use Rattle.rtr_room.proofs.Lists.{down, down-none, down_turn}
+use Prim.Native.Nat.{◌≤◌, ◌+◌, ◌-◌}
+use mathlib.Core.Path.{◌≡◌}
+use lib.ListN.{length}
+use Rattle.rtr_room.proofs.Lists.{down}
 use Rattle.rtr_room.proofs.shift_down.Given as goal
 
 abbrev pub invariant-loop-at : goal.invariant-loop-at

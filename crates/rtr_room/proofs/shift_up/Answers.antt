@@ -1,7 +1,7 @@
-use Prim.Native.Nat.{ℕ, ◌≤◌}
+use Prim.Native.Nat.{ℕ}
 use mathlib.Core.Path.{◌≡◌, ◌∙◌, ap}
 use native.Mathlib.Omega.{arith}
-use lib.ListN.{length, length-set}
+use lib.ListN.{length-set}
 use Rattle.rtr_room.proofs.Lists.{up, up_none, up_turn}
 use Rattle.rtr_room.proofs.shift_up.Goals as goal
 

@@ -1,9 +1,8 @@
 -- `shift_up`: at the loop's head the numbers from `at` to the end stand six further. The measure is `at`. Assumes nothing.
-use Prim.Native.Nat.{ℕ, ◌≤◌}
-use mathlib.Core.Path.{◌≡◌, ◌∙◌, ap}
-use native.Mathlib.Omega.{arith}
-use lib.ListN.{length, length-set}
-use Rattle.rtr_room.proofs.Lists.{up, up_none, up_turn}
+use Prim.Native.Nat.{◌≤◌}
+use mathlib.Core.Path.{◌≡◌}
+use lib.ListN.{length}
+use Rattle.rtr_room.proofs.Lists.{up}
 use Rattle.rtr_room.proofs.shift_up.Given as goal
 
 abbrev pub invariant-loop-at : goal.invariant-loop-at

@@ -4,13 +4,11 @@ use mathlib.Core.Bool.{true}
 use mathlib.Core.List.{List, [], ◌∷◌}
 use native.Mathlib.Omega.{arith}
 use lib.ListN.{length, drop, length-drop}
-use Rattle.rtr_text.specs.Utf8.{◌to◌, rows, begins, well_formed_up_to}
+use Rattle.rtr_text.specs.Utf8.{◌to◌, rows, begins}
 use Rattle.rtr_text.proofs.Begins.{character-at-most}
 use Rattle.rtr_text.proofs.Steps.{up-to-stop, up-to-further, row-1-further}
+use Rattle.rtr_text.proofs.well_formed_up_to.Invariants.{Reached}
 use Rattle.rtr_text.proofs.well_formed_up_to.Goals as goal
-
-abbrev Reached : List ℕ → ℕ → Type 0
-Reached text at = (at ≤ length text) × (well_formed_up_to text ≡ at + well_formed_up_to (drop at text))
 
 -- over a run of row 1
 run : (text : List ℕ) (at end : ℕ) → Reached text at → (at ≤ end) × (end ≤ length text) → ((i : ℕ) → at ≤ i → i < end → begins (0x00 to 0x7f ∷ []) (drop i text) ≡ true) → Reached text end
@@ -19,7 +17,7 @@ run text at end r h b =
     (h.1, rw e at (row-1-further text at (end - at) r.1 (λ i k l. b i k (omega arith))))
 
 pub loop-at-init : goal.loop-at-init
-loop-at-init c = run c.args.text.now 0 c.row_1_run-at.result (omega arith, omega arith) c.row_1_run-at.ensures.0 c.row_1_run-at.ensures.1
+loop-at-init c = run c.args.text.now 0 c.row_1_run-at.result (omega arith, omega arith) c.row_1_run-at.ensures.lower_bound c.row_1_run-at.ensures.by_index
 
 pub character_at-n-requires : goal.character_at-n-requires
 character_at-n-requires c = c.loop-at.invariant.0
@@ -46,14 +44,14 @@ loop-at-smaller-then-n-eq1 c =
     let further : Reached c.args.text.now (c.loop-at.at + c.character_at-n.result) = let text = c.args.text.now in
     let at = c.loop-at.at in
     (omega (arith, character-at-most rows (drop at text), length-drop at text), up-to-further text at c.character_at-n.result c.loop-at.invariant.1 c.character_at-n.ensures c.if-n-eq0.false) in
-    omega (arith, further, c.row_1_run-at-then-n-eq1.ensures.0)
+    omega (arith, further, c.row_1_run-at-then-n-eq1.ensures.lower_bound)
 
 pub loop-at-preserved-then-n-eq1 : goal.loop-at-preserved-then-n-eq1
 loop-at-preserved-then-n-eq1 c =
     let further : Reached c.args.text.now (c.loop-at.at + c.character_at-n.result) = let text = c.args.text.now in
     let at = c.loop-at.at in
     (omega (arith, character-at-most rows (drop at text), length-drop at text), up-to-further text at c.character_at-n.result c.loop-at.invariant.1 c.character_at-n.ensures c.if-n-eq0.false) in
-    run _ _ _ further c.row_1_run-at-then-n-eq1.ensures.0 c.row_1_run-at-then-n-eq1.ensures.1
+    run _ _ _ further c.row_1_run-at-then-n-eq1.ensures.lower_bound c.row_1_run-at-then-n-eq1.ensures.by_index
 
 pub loop-at-smaller : goal.loop-at-smaller
 loop-at-smaller c =

@@ -1,5 +1,4 @@
 -- `Place::answer` goes by the test. Assumes nothing.
-use borrow.Author.Rules.{rules}
 use Rattle.rtr_models.proofs.Place.answer.Goals as goal
 
 pub returns-then-is_inside : goal.returns-then-is_inside

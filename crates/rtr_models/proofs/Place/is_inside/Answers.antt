@@ -1,6 +1,5 @@
 -- `Place::is_inside` tests start + len ≤ n without the sum. Assumes nothing.
 use Rattle.rtr_models.proofs.Places.{fits-is, starts-behind}
-use borrow.Author.Rules.{rules}
 use Rattle.rtr_models.proofs.Place.is_inside.Goals as goal
 
 pub returns-then-start-input : goal.returns-then-start-input

@@ -1,6 +1,5 @@
 -- `Place::key_answer` tests the length of 20 first. Assumes nothing.
 use borrow.Author.Tests.{eq-eqb, ne_eqb}
-use borrow.Author.Rules.{rules}
 use Rattle.rtr_models.proofs.Place.key_answer.Goals as goal
 
 pub returns-then-len-eq20 : goal.returns-then-len-eq20

@@ -2,7 +2,6 @@
 use mathlib.Core.Path.{refl}
 use Rattle.rtr_models.proofs.Places.{unmoved}
 use borrow.Author.Tests.{eq-eqb, ne_eqb}
-use borrow.Author.Rules.{rules}
 use Rattle.rtr_models.proofs.Place.key_part.Goals as goal
 
 pub returns-then-len-eq20 : goal.returns-then-len-eq20

@@ -6,7 +6,6 @@ use native.Mathlib.Omega.{arith}
 use borrow.Author.Tests.{leb-true}
 use lib.ListN.{length, take, drop}
 use Rattle.rtr_models.proofs.Places.{unmoved}
-use borrow.Author.Rules.{rules}
 use Rattle.rtr_models.proofs.Place.part.Goals as goal
 
 pub overflow_add-result : goal.overflow_add-result

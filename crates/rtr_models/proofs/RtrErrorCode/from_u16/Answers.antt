@@ -1,6 +1,7 @@
 -- `RtrErrorCode::from_u16` finds what the table finds: each arm is the table at its number, and the last arm is none of them. Assumes nothing.
 use mathlib.Core.Path.{sym, ap}
 use borrow.Author.Tests.{ne_eqb}
+use native.Mathlib.Omega.{arith}
 use Rattle.rtr_models.specs.Codes.{code_found}
 use Rattle.rtr_models.proofs.RtrErrorCode.from_u16.Goals as goal
 
@@ -34,13 +35,13 @@ returns-in-8 c = sym (ap code_found c.in-8.is)
 pub returns-in_default : goal.returns-in_default
 returns-in_default c =
     simp (
-      ne_eqb _ _ c.in-0.rest.1,
-      ne_eqb _ _ c.in-0.rest.0.1,
-      ne_eqb _ _ c.in-0.rest.0.0.1,
-      ne_eqb _ _ c.in-0.rest.0.0.0.1,
-      ne_eqb _ _ c.in-0.rest.0.0.0.0.1,
-      ne_eqb _ _ c.in-0.rest.0.0.0.0.0.1,
-      ne_eqb _ _ c.in-0.rest.0.0.0.0.0.0.1,
-      ne_eqb _ _ c.in-0.rest.0.0.0.0.0.0.0.1,
-      ne_eqb _ _ c.in-0.rest.0.0.0.0.0.0.0.0.1,
+      ne_eqb c.args.value 0 (λ e. omega arith),
+      ne_eqb c.args.value 1 (λ e. omega arith),
+      ne_eqb c.args.value 2 (λ e. omega arith),
+      ne_eqb c.args.value 3 (λ e. omega arith),
+      ne_eqb c.args.value 4 (λ e. omega arith),
+      ne_eqb c.args.value 5 (λ e. omega arith),
+      ne_eqb c.args.value 6 (λ e. omega arith),
+      ne_eqb c.args.value 7 (λ e. omega arith),
+      ne_eqb c.args.value 8 (λ e. omega arith),
     )

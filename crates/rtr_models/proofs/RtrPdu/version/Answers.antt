@@ -1,5 +1,4 @@
 -- `RtrPdu::version` goes by the kind, as `version_of` does. Assumes nothing.
-use borrow.Author.Rules.{rules}
 use mathlib.Core.Path.{sym, ap}
 use Rattle.rtr_models.specs.Values.{version_of}
 use Rattle.rtr_models.proofs.RtrPdu.version.Goals as goal

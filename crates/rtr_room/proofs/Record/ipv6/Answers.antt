@@ -1,5 +1,4 @@
 -- `ipv6`: the first number is packed by a call, and the others are as given. Assumes nothing.
-use borrow.Author.Rules.{rules}
 use Rattle.rtr_room.proofs.Record.ipv6.Goals as goal
 
 pub returns : goal.returns

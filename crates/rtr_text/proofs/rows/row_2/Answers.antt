@@ -1,13 +1,6 @@
 -- `rtr_text::rows::row_2` meets its contract: each test behind `&&` is of one range more. Assumes nothing.
-use lib.Dec.{lit<}
 use Rattle.rtr_text.proofs.Begins.{byte-0, more-fits, more-fails}
 use Rattle.rtr_text.proofs.rows.row_2.Goals as goal
-
-pub within-requires : goal.within-requires
-within-requires c = (c.requires, lit< tt)
-
-pub within-requires-then-within : goal.within-requires-then-within
-within-requires-then-within c = (c.requires, lit< tt)
 
 pub returns-then-within : goal.returns-then-within
 returns-then-within c =

@@ -1,6 +1,5 @@
 -- `rtr_text::rows::within` meets its contract: what the byte is compared with is the range's test, and past the end no range fits. Assumes nothing.
 use Prim.Native.Nat.{◌+◌}
-use native.Mathlib.Omega.{arith}
 use borrow.Author.Tests.{le-leb, lt-leb}
 use lib.ListN.{get_or}
 use Rattle.rtr_text.specs.Utf8.{◌to◌}

@@ -10,7 +10,7 @@ pub returns : goal.returns
 returns c =
     let a = c.args in
     let text = a.text.now in
-    let low = four_bytes text a.at (a.at + 2) c.two_bytes.result c.two_bytes-2.result refl c.two_bytes.ensures c.two_bytes-2.ensures in
-    let high = four_bytes text (a.at + 4) (a.at + 6) c.two_bytes-3.result c.two_bytes-4.result (omega arith) c.two_bytes-3.ensures c.two_bytes-4.ensures in
+    let low = four_bytes text a.at (a.at + 2) c.two_bytes.result c.two_bytes-2.result refl (c.two_bytes.ensures.upper_bound, c.two_bytes.ensures.by_index) (c.two_bytes-2.ensures.upper_bound, c.two_bytes-2.ensures.by_index) in
+    let high = four_bytes text (a.at + 4) (a.at + 6) c.two_bytes-3.result c.two_bytes-4.result (omega arith) (c.two_bytes-3.ensures.upper_bound, c.two_bytes-3.ensures.by_index) (c.two_bytes-4.ensures.upper_bound, c.two_bytes-4.ensures.by_index) in
     let w = on-top 32 _ _ (omega arith) low.0 high.0 in
     λ i l z. masked-byte _ _ i _ (bytes-of-both text a.at 4 _ _ _ w low.0 low.1 high.1 i l) z (highest-bits _ refl refl refl refl refl refl refl refl i l)

@@ -4,4 +4,4 @@ use Rattle.rtr_text.proofs.Words.{on-top}
 use Rattle.rtr_text.proofs.run.pair.Goals as goal
 
 pub returns : goal.returns
-returns c = let f = c.ranges in (on-top 8 c.args.first c.args.second (omega arith) f.first.fits f.second.fits, (f.first.fits, f.second.fits))
+returns c = let f = c.ranges in record { value = on-top 8 c.args.first c.args.second (omega arith) f.first.fits f.second.fits; first_bound = (f.first.fits, f.second.fits) }

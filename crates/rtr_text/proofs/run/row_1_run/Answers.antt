@@ -10,11 +10,8 @@ use lib.Count.{count_trailing_zeros, count_leading_zeros, trailing_le, leading_l
 use lib.ListN.{length, drop}
 use Rattle.rtr_text.specs.Utf8.{◌to◌, begins}
 use Rattle.rtr_text.proofs.Words.{Ascii, Word, ascii-on, both_zero, ascii-word, ascii-front, ascii_back, by-row-1}
+use Rattle.rtr_text.proofs.run.row_1_run.Invariants.{Passed}
 use Rattle.rtr_text.proofs.run.row_1_run.Goals as goal
-
--- the bytes from `at` up to `end` are in the text and ASCII
-abbrev Passed : List ℕ → ℕ → ℕ → Type 0
-Passed text at end = (at ≤ end) × (end ≤ length text) × Ascii text at end
 
 -- and so they are further on
 module _ (text : List ℕ) (at end : ℕ) (p : Passed text at end) where
@@ -72,16 +69,22 @@ pub returns-then-rest-ge8 : goal.returns-then-rest-ge8
 returns-then-rest-ge8 c =
     let a = c.args in
     let h = c.high_bits-zeros in
-    promised _ _ _ (over-front a.text.now a.at c.loop-end.end c.loop-end.invariant h.result c.if-rest-ge8.true h.ensures)
+    let p = promised _ _ _ (over-front a.text.now a.at c.loop-end.end c.loop-end.invariant h.result c.if-rest-ge8.true h.ensures) in
+    record { lower_bound = p.0; by_index = p.1 }
 
 pub returns-then-rest-zeros : goal.returns-then-rest-zeros
 returns-then-rest-zeros c =
     let a = c.args in
     let h = c.high_bits-zeros-then-n-ge8 in
-    promised _ _ _ (over-rest a.text.now a.at c.loop-end.end c.loop-end.invariant h.result h.type-inv c.if-n-ge8.true c.if-rest-zeros.true h.ensures)
+    let p = promised _ _ _ (over-rest a.text.now a.at c.loop-end.end c.loop-end.invariant h.result h.type_inv c.if-n-ge8.true c.if-rest-zeros.true h.ensures) in
+    record { lower_bound = p.0; by_index = p.1 }
 
 pub returns-else-rest-zeros : goal.returns-else-rest-zeros
-returns-else-rest-zeros c = promised _ _ _ c.loop-end.invariant
+returns-else-rest-zeros c =
+    let p = promised _ _ _ c.loop-end.invariant in
+    record { lower_bound = p.0; by_index = p.1 }
 
 pub returns-else-n-ge8 : goal.returns-else-n-ge8
-returns-else-n-ge8 c = promised _ _ _ c.loop-end.invariant
+returns-else-n-ge8 c =
+    let p = promised _ _ _ c.loop-end.invariant in
+    record { lower_bound = p.0; by_index = p.1 }

@@ -9,7 +9,7 @@ pub returns : goal.returns
 returns c =
     let a = c.args in
     let p = c.pair.ensures in
-    let text = a.text.now in (
-      omega (arith, p),
-      bytes-of-both text a.at 1 (get_or text a.at 0) (get_or text (a.at + 1) 0) c.pair.result p.0 p.1.0 (one_byte text a.at p.1.0) (one_byte text (a.at + 1) p.1.1),
-    )
+    let text = a.text.now in record {
+      upper_bound = omega (arith, p.value, p.first_bound);
+      by_index = bytes-of-both text a.at 1 (get_or text a.at 0) (get_or text (a.at + 1) 0) c.pair.result p.value p.first_bound.0 (one_byte text a.at p.first_bound.0) (one_byte text (a.at + 1) p.first_bound.1);
+    }
