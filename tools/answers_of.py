@@ -18,6 +18,10 @@ def norm(s):
     return s.replace("_", "-")
 
 
+def norm_(s):
+    return s.replace("-", "_")
+
+
 def decls(text):
     """Top-level declarations, each with its lines; indented sections stay whole."""
     out, cur = [], []
@@ -130,8 +134,10 @@ class Fn:
             if not segs:
                 return m[0]
             step = norm(segs[0])
-            if step in ("args", "requires", "ranges", "type-inv"):
-                return head + m[2]
+            if step in ("args", "ranges"):
+                return ".".join([head, step, *(s.replace("-", "_") for s in segs[1:])])
+            if step in ("requires", "type-inv"):
+                return head + m[2].replace("-", "_")
             rest = segs[1:]
             for k in range(len(rest), 0, -1):
                 hit = self.arms.get((step, tuple(rest[:k])))
@@ -310,6 +316,7 @@ def turn(old, info, fname, crate, out):
         body = p["body"].strip()
         if body in TRIVIAL and not p["unf"]:
             continue
+        more = [x for x in p["params"][1:] if not x.startswith("κs")] if not ("requires" in new and len(p["params"]) == 2 and p["params"][1] in ("κs", "_")) else []
         par = p["params"][0] if p["params"] else "c"
         if par != "c":
             body = re.sub(rf"(?<![\w.'-]){par}(?![\w'-])", "c", body)
@@ -323,7 +330,13 @@ def turn(old, info, fname, crate, out):
         c = "\n".join(p["comment"]) + "\n" if p["comment"] else ""
         sep = "\n    " if lets or "\n" in body else " "
         b2 = ("\n    ".join(lets) + "\n    " if lets else "") + body
-        ans_text.append(f"{c}pub {new} : goal.{new}\n" + "".join(u + "\n" for u in p["unf"]) + f"{new} c ={sep}{b2}")
+        ans_text.append(f"{c}pub {new} : goal.{new}\n" + "".join(u + "\n" for u in p["unf"]) + f"{new} {' '.join(['c', *more])} ={sep}{b2}")
+    idents = set()
+    for d, _s, fs in os.walk(os.path.join(out, "src")):
+        for f in fs:
+            idents |= set(re.findall(r"\b(\w+_\w+):", open(os.path.join(d, f), encoding="utf8").read()))
+    fields = lambda x: re.sub(r"(?<=[\w)])\.([a-z]\w*(?:-\w+)+)(?![\w-])", lambda m: "." + norm_(m[1]) if norm_(m[1]) in idents else m[0], x)
+    ans_text = [fields(x) for x in ans_text]
     folder = os.path.join(out, "proofs", *fname.split("."))
     os.makedirs(folder, exist_ok=True)
     hc = "\n".join(head_comment)

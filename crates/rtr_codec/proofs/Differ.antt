@@ -25,7 +25,7 @@ use Rattle.rtr_codec.specs.Reading.{Reading}
 use Rattle.rtr_codec.specs.Departures.{reported, applies}
 use Rattle.rtr_codec.specs.Departures.Departure.{code_eight_in_v0, bytes_behind_text, key_by_crate}
 use Rattle.rtr_codec.specs.Answers.{number_of}
-use Rattle.rtr_codec.specs.Read.{Verdict, need, header_length, ends, last_code_lem, code_in, key_fields, read_key, read_router_key, read_text, read_encapsulated, read_code, read_error_report, read_as, read_typed, read_versioned, read}
+use Rattle.rtr_codec.specs.Read.{Verdict, need, header_length, ends, last_code, code_in, key_fields, read_key, read_router_key, read_text, read_encapsulated, read_code, read_error_report, read_as, read_typed, read_versioned, read}
 use Rattle.rtr_codec.specs.Read.Verdict.{accepted}
 use Rattle.rtr_codec.proofs.Departs.{Alike}
 
@@ -73,15 +73,15 @@ code-there n h = go (code_found n) refl
         let h8 : 8 ≤ n = omega (arith, other DuplicateAnnouncementReceived) in
         absurd (omega (arith, other UnexpectedProtocolVersion))
 
-last_code_lem : (v : RtrProtocolVersion) → last_code_lem v ≤ 8
+last_code_lem : (v : RtrProtocolVersion) → last_code v ≤ 8
 last_code_lem V0 = omega arith
 last_code_lem V1 = omega arith
 
 in_list : (b : Bool) (v : RtrProtocolVersion) (n : ℕ) → code_in b v n ≡ true → n ≤ 8
-in_list b v n e = go (leb n (last_code_lem v)) b (eqb n 8) refl refl e
+in_list b v n e = go (leb n (last_code v)) b (eqb n 8) refl refl e
   where
-    go : (p q r : Bool) → leb n (last_code_lem v) ≡ p → eqb n 8 ≡ r → (p || (q && r)) ≡ true → n ≤ 8
-    go true q r x y e = omega (arith, leb-true n (last_code_lem v) x, last_code_lem v)
+    go : (p q r : Bool) → leb n (last_code v) ≡ p → eqb n 8 ≡ r → (p || (q && r)) ≡ true → n ≤ 8
+    go true q r x y e = omega (arith, leb-true n (last_code v) x, last_code_lem v)
     go false true true x y e = omega (arith, eqb-true n 8 y)
     go false true false x y e = let z : ◌≡◌ {A = ℕ} 0 1 = cc in absurd (omega arith)
     go false false r x y e = let z : ◌≡◌ {A = ℕ} 0 1 = cc in absurd (omega arith)

@@ -24,7 +24,7 @@ use Rattle.rtr_models.specs.declared.RtrPduType.TheVariants.{SerialNotify, Seria
 use Rattle.rtr_codec.specs.Bytes.{number}
 use Rattle.rtr_codec.specs.Reading.{Reading, in_use}
 use Rattle.rtr_codec.specs.Layout.{length_of}
-use Rattle.rtr_codec.specs.Read.{Verdict, need, ends, code_in, last_code, header_length, key_fields, read_serial_notify, read_serial_query, read_reset_query, read_cache_response, read_ipv4_prefix, read_ipv6_prefix, read_end_of_data, read_cache_reset, read_router_key, read_text, read_encapsulated, read_code, read_error_report, read_as_lem, read_typed, read_versioned, read}
+use Rattle.rtr_codec.specs.Read.{Verdict, need, ends, code_in, last_code, header_length, key_fields, read_serial_notify, read_serial_query, read_reset_query, read_cache_response, read_ipv4_prefix, read_ipv6_prefix, read_end_of_data, read_cache_reset, read_router_key, read_text, read_encapsulated, read_code, read_error_report, read_as, read_typed, read_versioned, read}
 use Rattle.rtr_codec.specs.Read.Verdict.{accepted, refused}
 use Rattle.rtr_codec.specs.Answers.{verdict}
 use Rattle.rtr_codec.specs.Refusals.{Complete, Versioned, Typed, Allowed, length_at, expected, Sized, last_code_in, Coded, text_to, Refusal}
@@ -233,8 +233,8 @@ module _ (R : Reading) (s : List ℕ) where
       (λ fails. text coded (leb-true (16 + e) (number s 4 4) copy) (ended R.bytes_behind_text (16 + e + t) (number s 4 4) end) fails)
       (λ _. tt))))
 
-  as-explains : (v : RtrProtocolVersion) (t : RtrPduType) → Complete s → number s 0 1 ≡ version_number v → number s 1 1 ≡ type_number t → Explains (read_as_lem R v t s)
-  unfolding header_length read_as_lem read_serial_notify read_serial_query read_reset_query read_cache_response read_ipv4_prefix read_ipv6_prefix read_end_of_data read_cache_reset read_router_key read_error_report
+  as-explains : (v : RtrProtocolVersion) (t : RtrPduType) → Complete s → number s 0 1 ≡ version_number v → number s 1 1 ≡ type_number t → Explains (read_as R v t s)
+  unfolding header_length read_as read_serial_notify read_serial_query read_reset_query read_cache_response read_ipv4_prefix read_ipv6_prefix read_end_of_data read_cache_reset read_router_key read_error_report
   as-explains v SerialNotify c pv pt =
       checked (eqb (number s 4 4) 12) 4 _ _ (other 12 0 (typed-of v SerialNotify c pv pt, λ _ z. omega (arith, pt, z)) (ap (length_at R (number s 0 1)) pt) pt (omega arith)) (λ _. tt)
   as-explains v SerialQuery c pv pt =
@@ -338,7 +338,7 @@ module _ (R : Reading) (s : List ℕ) where
       let v = version_of (number s 0 1) h.1 in
       versioned-read v.0 h.0 v.1 ∙ simp ((type-unknown (number s 1 1)).1 none)
 
-  read_as_lem : (v : RtrProtocolVersion) (t : RtrPduType) → Complete s → number s 0 1 ≡ version_number v → number s 1 1 ≡ type_number t → read R s ≡ read_as_lem R v t s
+  read_as_lem : (v : RtrProtocolVersion) (t : RtrPduType) → Complete s → number s 0 1 ≡ version_number v → number s 1 1 ≡ type_number t → read R s ≡ read_as R v t s
   unfolding read_typed
   read_as_lem v t c pv pt = versioned-read v c pv ∙ simp ((type-known (number s 1 1) t).1 pt)
 
@@ -356,8 +356,8 @@ module _ (R : Reading) (s : List ℕ) where
       ∙ (λ i. refused 4 (sym ex i ∷ number s 4 4 ∷ sym ty i ∷ []))
 
   other-as : (v : RtrProtocolVersion) (t : RtrPduType) → number s 0 1 ≡ version_number v → number s 1 1 ≡ type_number t → number s 1 1 ≤ 8 → (number s 4 4 ≡ expected R s → ⊥)
-      → read_as_lem R v t s ≡ refused 4 (expected R s ∷ number s 4 4 ∷ number s 1 1 ∷ [])
-  unfolding header_length read_as_lem read_serial_notify read_serial_query read_reset_query read_cache_response read_ipv4_prefix read_ipv6_prefix read_end_of_data read_cache_reset
+      → read_as R v t s ≡ refused 4 (expected R s ∷ number s 4 4 ∷ number s 1 1 ∷ [])
+  unfolding header_length read_as read_serial_notify read_serial_query read_reset_query read_cache_response read_ipv4_prefix read_ipv6_prefix read_end_of_data read_cache_reset
   other-as v SerialNotify pv pt le ne = other-refused 12 0 _ (ap (length_at R (number s 0 1)) pt) pt ne
   other-as v SerialQuery pv pt le ne = other-refused 12 1 _ (ap (length_at R (number s 0 1)) pt) pt ne
   other-as v ResetQuery pv pt le ne = other-refused 8 2 _ (ap (length_at R (number s 0 1)) pt) pt ne
@@ -371,8 +371,8 @@ module _ (R : Reading) (s : List ℕ) where
   other-as v ErrorReport pv pt le ne = absurd (omega (arith, pt, le))
 
   least-as : (v : RtrProtocolVersion) (t : RtrPduType) → number s 0 1 ≡ version_number v → number s 1 1 ≡ type_number t → (number s 0 1 ≡ 0 → number s 1 1 ≡ 9 → ⊥) → 9 ≤ number s 1 1
-      → number s 4 4 < expected R s → read_as_lem R v t s ≡ refused 4 (expected R s ∷ number s 4 4 ∷ number s 1 1 ∷ [])
-  unfolding header_length read_as_lem read_router_key read_error_report
+      → number s 4 4 < expected R s → read_as R v t s ≡ refused 4 (expected R s ∷ number s 4 4 ∷ number s 1 1 ∷ [])
+  unfolding header_length read_as read_router_key read_error_report
   least-as v SerialNotify pv pt al ge lt = absurd (omega (arith, pt, ge))
   least-as v SerialQuery pv pt al ge lt = absurd (omega (arith, pt, ge))
   least-as v ResetQuery pv pt al ge lt = absurd (omega (arith, pt, ge))
@@ -388,7 +388,7 @@ module _ (R : Reading) (s : List ℕ) where
 
   -- an Error Report of the least length is read by its code
   report-read : Sized R s → number s 1 1 ≡ 10 → (v : RtrProtocolVersion) → number s 0 1 ≡ version_number v → read R s ≡ read_code R v (number s 2 2) (code_found (number s 2 2)) s
-  unfolding header_length read_as_lem read_error_report
+  unfolding header_length read_as read_error_report
   report-read sz pt v pv =
       let ex : expected R s ≡ 16 = ap (length_at R (number s 0 1)) pt in
       read_as_lem v ErrorReport sz.0.0.0.0 pv pt ∙ simp (le-leb 16 (number s 4 4) (omega (arith, sz.2 (omega (arith, pt)), ex)))
@@ -422,7 +422,7 @@ module _ (R : Reading) (s : List ℕ) where
   report-refused n values k all = let p = coded-parts k in coded-read k p.0 p.1 p.2 p.3 ∙ all p.0 p.1
 
   case-refused : (n : ℕ) (values : List ℕ) → Refusal R s n values → read R s ≡ refused n values
-  unfolding header_length read_as_lem read_ipv4_prefix read_ipv6_prefix read_router_key read_encapsulated read_text
+  unfolding header_length read_as read_ipv4_prefix read_ipv6_prefix read_router_key read_encapsulated read_text
   case-refused n values (no_header h) = short-refused h
   case-refused n values (cut_short p q) = cut-refused p q
   case-refused n values (version c h) = version-refused c h

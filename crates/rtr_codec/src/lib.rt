@@ -2,6 +2,7 @@
 // document 01's order of checks asks, and copies nothing: payloads are handed over by place. The promise is an equation with `read` of specs/, at the reading
 // in use; no contract can say how long it takes.
 #![tactic(auto)]
+
 ghost use Rattle.std.specs.Prelude.{true, ◌≡◌, ◌+◌, ◌≤◌, ◌<◌, length};
 ghost use Rattle.rtr_codec.specs.Bytes.{number};
 ghost use Rattle.rtr_codec.specs.Reading.{crate, in_use};

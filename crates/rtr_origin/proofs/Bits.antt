@@ -13,7 +13,7 @@ use lib.Pow.{pow_pos, pow_mono}
 use borrow.Author.Tests.{eqb-true, leb-true, leb-false, eq-eqb, ne_eqb, le-leb, lt-leb}
 use Rattle.rtr_room.specs.declared.Record.{Record}
 use Rattle.rtr_origin.specs.Origin.{agree}
-use Rattle.rtr_origin.specs.Judged.{LeadingAlike, Common, cut_word_lem, probe_of}
+use Rattle.rtr_origin.specs.Judged.{LeadingAlike, Common, cut_word, probe_of}
 use Rattle.rtr_origin.specs.Private.{cut}
 use Rattle.rtr_origin.proofs.Addresses.{agree-none, agree_refl}
 
@@ -122,8 +122,8 @@ common-all xs ys e = record { within = omega arith; exactly = λ l h. rw (e, agr
 
 -- ---- the first bits, word by word
 
-pub cut_word_lem : (l x : ℕ) (xs : List ℕ) → cut l (x ∷ xs) ≡ cut_word_lem l x ∷ cut (l - 32) xs
-unfolding cut cut_word_lem
+pub cut_word_lem : (l x : ℕ) (xs : List ℕ) → cut l (x ∷ xs) ≡ cut_word l x ∷ cut (l - 32) xs
+unfolding cut cut_word
 cut_word_lem l x xs = go (eqb l 0) refl (leb 32 l) refl
   where
     go : (b : Bool) → eqb l 0 ≡ b → (d : Bool) → leb 32 l ≡ d
@@ -138,22 +138,22 @@ cut_word_lem l x xs = go (eqb l 0) refl (leb 32 l) refl
         rw k
 
 module _ (l x : ℕ) where
-  pub cut-none : l ≡ 0 → 0 ≡ cut_word_lem l x
-  unfolding cut_word_lem
+  pub cut-none : l ≡ 0 → 0 ≡ cut_word l x
+  unfolding cut_word
   cut-none h = rw (eq-eqb l 0 h)
 
-  pub cut-whole : 32 ≤ l → x ≡ cut_word_lem l x
-  unfolding cut_word_lem
+  pub cut-whole : 32 ≤ l → x ≡ cut_word l x
+  unfolding cut_word
   cut-whole h = rw (ne_eqb l 0 (λ e. omega arith), le-leb 32 l h)
 
-  pub cut-part : (l ≡ 0 → ⊥) → l < 32 → x < 4294967296 → (x / 2 ^ (32 - l) * 2 ^ (32 - l)) % 4294967296 ≡ cut_word_lem l x
-  unfolding cut_word_lem
+  pub cut-part : (l ≡ 0 → ⊥) → l < 32 → x < 4294967296 → (x / 2 ^ (32 - l) * 2 ^ (32 - l)) % 4294967296 ≡ cut_word l x
+  unfolding cut_word
   cut-part d h b = rw (ne_eqb l 0 d, lt-leb 32 l h) (mod-eq_of_lt (omega (arith, div-mul-le_self x (2 ^ (32 - l)))))
 
 -- a probe of the words that were cut, each by what the words before it left
 pub probe-is : (a : Record) (bits low asn second third fourth w0 w1 w2 w3 : ℕ)
     → second ≡ bits - 32 → third ≡ second - 32 → fourth ≡ third - 32
-    → w0 ≡ cut_word_lem bits a.w0 → w1 ≡ cut_word_lem second a.w1 → w2 ≡ cut_word_lem third a.w2 → w3 ≡ cut_word_lem fourth a.w3
+    → w0 ≡ cut_word bits a.w0 → w1 ≡ cut_word second a.w1 → w2 ≡ cut_word third a.w2 → w3 ≡ cut_word fourth a.w3
     → ◌≡◌ {A = Record} (record { kind = a.kind / 65536 * 65536 + low; w0 = w0; w1 = w1; w2 = w2; w3 = w3; asn = asn }) (probe_of a bits low asn)
 unfolding probe_of
 probe-is a bits low asn second third fourth w0 w1 w2 w3 p q r e0 e1 e2 e3 = rw (e0, e1, e2, e3, r, q, p)

@@ -15,7 +15,7 @@ use Rattle.rtr_room.specs.declared.Record.{Record}
 use Rattle.rtr_room.proofs.Laws.Tests.{not-both}
 use Rattle.rtr_origin.specs.Origin.{words, words_in, family_in, agree, covers}
 use Rattle.rtr_origin.specs.Private.{cut, up_to, plain, Under, HighProbe, LowProbe}
-use Rattle.rtr_origin.specs.Judged.{Asks, Common, Jumps, covers_by, strength, probe_of, cut_word_lem}
+use Rattle.rtr_origin.specs.Judged.{Asks, Common, Jumps, covers_by, strength, probe_of, cut_word}
 use Rattle.rtr_origin.specs.declared.Route.{Route}
 use Rattle.rtr_origin.proofs.Bits.{cut_word_lem, cut-nothing}
 use Rattle.rtr_origin.proofs.Judging.{uncovered, silent, covers-is}
@@ -35,10 +35,10 @@ module _ (a : Record) (b low asn : ℕ) (l : low < 65536) where
   pub probe-words : words (probe_of a b low asn) ≡ cut b (words a)
   unfolding probe_of
   probe-words =
-      sym (cut_word_lem b a.w0 _ ∙ ap (λ (w : List ℕ). cut_word_lem b a.w0 ∷ w) (cut_word_lem (b - 32) a.w1 _
-      ∙ ap (λ (w : List ℕ). cut_word_lem (b - 32) a.w1 ∷ w) (cut_word_lem (b - 32 - 32) a.w2 _
-      ∙ ap (λ (w : List ℕ). cut_word_lem (b - 32 - 32) a.w2 ∷ w) (cut_word_lem (b - 32 - 32 - 32) a.w3 []
-      ∙ ap (λ (w : List ℕ). cut_word_lem (b - 32 - 32 - 32) a.w3 ∷ w) (cut-nothing (b - 32 - 32 - 32 - 32))))))
+      sym (cut_word_lem b a.w0 _ ∙ ap (λ (w : List ℕ). cut_word b a.w0 ∷ w) (cut_word_lem (b - 32) a.w1 _
+      ∙ ap (λ (w : List ℕ). cut_word (b - 32) a.w1 ∷ w) (cut_word_lem (b - 32 - 32) a.w2 _
+      ∙ ap (λ (w : List ℕ). cut_word (b - 32 - 32) a.w2 ∷ w) (cut_word_lem (b - 32 - 32 - 32) a.w3 []
+      ∙ ap (λ (w : List ℕ). cut_word (b - 32 - 32 - 32) a.w3 ∷ w) (cut-nothing (b - 32 - 32 - 32 - 32))))))
 
   probe-family : family_of (probe_of a b low asn) ≡ family_of a
   unfolding probe_of

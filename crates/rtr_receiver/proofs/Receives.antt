@@ -10,7 +10,7 @@ use Rattle.rtr_stream.proofs.Laws.{nothing-waits}
 use Rattle.rtr_receiver.specs.Receiver.{Stage, Receiver, Feed, fresh, holding, in_stage, heard, listens, on_pdu, on_byte, on_piece, feed, full_query, serial_query, change_query, ask, reconnected, notified}
 use Rattle.rtr_receiver.specs.History.{Event, Update, Place, with_updates, table_of, finished, stands_after}
 use Rattle.rtr_receiver.specs.Promises.{Left, FeedSays, NotifySays, receiver_of, stage_of, in_memory, ending_of, fed_to, feed_says, asked_to, full_ask_says, change_ask_says, reconnect_says, notify_says}
-use Rattle.rtr_receiver.specs.Receives.{asking, on_event, on_events, receives, stage_at_lem, working_at}
+use Rattle.rtr_receiver.specs.Receives.{asking, on_event, on_events, receives, stage_at, working_at}
 use Rattle.rtr_receiver.specs.Runs.{Call, Memory, Run, bytes, history_of, left_in}
 use Rattle.rtr_receiver.specs.declared.LoadKind.{LoadKind}
 use Rattle.rtr_receiver.specs.declared.LiveTable.{LiveTable}
@@ -251,7 +251,7 @@ module _ (limit H : ℕ) where
       (onward-by limit H one.0 rest.0, omega (arith, one.1, rest.1, length-append one.0.between rest.0.between))
 
   -- the phase at a place, and the working table
-  stage_at_lem : (r : Receiver) (p : Place) → At limit H r p → r.stage ≡ stage_at_lem p
+  stage_at_lem : (r : Receiver) (p : Place) → At limit H r p → r.stage ≡ stage_at p
   stage_at_lem r Place.idle (At.at-idle e) = e
   stage_at_lem r Place.must_reset (At.at-reset e) = e
   stage_at_lem r (Place.asked LoadKind.Full) (At.at-full e) = e
@@ -279,7 +279,7 @@ module _ (limit H : ℕ) where
   pub record FromHistory (v : RtrProtocolVersion) (es : List Event) : Type 0 where
     pub table : live_of (receives limit H v es).receiver ≡ table_of limit (finished limit H v es)
     pub updates : (receives limit H v es).updates ≡ length (finished limit H v es)
-    pub stage : (receives limit H v es).receiver.stage ≡ stage_at_lem (stands_after limit H v es)
+    pub stage : (receives limit H v es).receiver.stage ≡ stage_at (stands_after limit H v es)
     pub working : (receives limit H v es).receiver.working ≡ working_at limit (table_of limit (finished limit H v es)).records (stands_after limit H v es)
 
   pub receives-history : (v : RtrProtocolVersion) (es : List Event) → FromHistory v es
@@ -295,10 +295,10 @@ module _ (limit H : ℕ) where
       record {
         table = table;
         updates = omega (arith, went.1, count);
-        stage = stage_at_lem r went.0.place went.0.at ∙ ap stage_at_lem (sym there);
+        stage = stage_at_lem r went.0.place went.0.at ∙ ap stage_at (sym there);
         working = working-at r went.0.place sound went.0.at ∙ (λ i. working_at limit (table i).records (sym there i));
       }
 
 -- the stop of a connection that History's page calls lost is the receiver's, and in memory
-pub stop-from-history : (limit H : ℕ) (v : RtrProtocolVersion) (calls : List Call) (m : Memory) → Run limit v H calls m → stage_of m.session.phase ≡ stage_at_lem (stands_after limit H v (history_of calls))
+pub stop-from-history : (limit H : ℕ) (v : RtrProtocolVersion) (calls : List Call) (m : Memory) → Run limit v H calls m → stage_of m.session.phase ≡ stage_at (stands_after limit H v (history_of calls))
 stop-from-history limit H v calls m run = ap (λ (l : Left). l.stage) (memory-is limit H v calls m run) ∙ (receives-history limit H v (history_of calls)).stage

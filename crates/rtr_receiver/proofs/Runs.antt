@@ -10,7 +10,7 @@ use Rattle.rtr_stream.specs.Stream.{Heard, judge}
 use Rattle.rtr_stream.proofs.Laws.{nothing-waits, whole-is-read, stream-exactly, waits-fits}
 use Rattle.rtr_room.proofs.Laws.{empty-table}
 use Rattle.rtr_receiver.specs.Receiver.{Stage, Receiver, Feed, fresh, holding, in_stage, heard, listens, on_byte, on_piece, feed, full_query, change_query, serial_query, asked_by, ask, reconnected}
-use Rattle.rtr_receiver.specs.History.{Event, Update, Live, Place, no_table_lem, with_updates, table_of, updated, finished, has_table}
+use Rattle.rtr_receiver.specs.History.{Event, Update, Live, Place, no_table, with_updates, table_of, updated, finished, has_table}
 use Rattle.rtr_receiver.specs.Promises.{Left, StartSays, AskSays, ReconnectSays, receiver_of, is_limit, is_receiver, leaves, in_memory, fed_to, feed_says, fed_said_by, start_says, start_said, asked_to, full_ask_says, change_ask_says, reconnect_says}
 use Rattle.rtr_receiver.specs.Runs.{Call, Memory, Step, Run, bytes, history_of, live_in}
 use Rattle.rtr_receiver.specs.declared.LoadKind.{LoadKind}
@@ -351,7 +351,7 @@ cut-anywhere limit H v calls calls' m m' run run' e =
     history limit H v calls m run ∙ ap (λ (h : List Event). table_of limit (finished limit H v h)) e ∙ sym (history limit H v calls' m' run')
 
 -- no update makes no table
-pub table-of-none : (limit : ℕ) → table_of limit [] ≡ no_table_lem
+pub table-of-none : (limit : ℕ) → table_of limit [] ≡ no_table
 unfolding with_updates
 table-of-none limit = refl
 
@@ -368,4 +368,4 @@ no_table_lem limit H v calls m run = (λ e. go (finished limit H v (history_of c
   where
     go : (us : List Update) → (table_of limit us).info ≡ LiveTable.NoTable → us ≡ []
     go [] e = refl
-    go (u ∷ us) e = absurd (let z : true ≡ false = sym (known-stays limit us (updated limit no_table_lem u) refl) ∙ ap has_table e in let o : ◌≡◌ {A = ℕ} 0 1 = cc in omega arith)
+    go (u ∷ us) e = absurd (let z : true ≡ false = sym (known-stays limit us (updated limit no_table u) refl) ∙ ap has_table e in let o : ◌≡◌ {A = ℕ} 0 1 = cc in omega arith)

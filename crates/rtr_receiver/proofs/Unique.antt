@@ -142,12 +142,12 @@ fed_of : FeedSays → Fed
 fed_of (FeedSays.fed taken updates ending left) = record { session = session_of left; done = record { taken = taken; updates = updates; answer = answer_in ending } }
 fed_of (FeedSays.refused_feed number taken updates left hold) = record { session = session_of left; done = record { taken = taken; updates = updates; answer = FeedAnswer.NotAReceiver } }
 
-left_in_lem : FeedSays → Left
-left_in_lem (FeedSays.fed taken updates ending left) = left
-left_in_lem (FeedSays.refused_feed number taken updates left hold) = left
+left_in : FeedSays → Left
+left_in (FeedSays.fed taken updates ending left) = left
+left_in (FeedSays.refused_feed number taken updates left hold) = left
 
-left_in_lem : (a : FeedAnswer) (taken updates : ℕ) (left : Left) (hold : List ℕ) → left_in_lem (fed_said_by a taken updates left hold) ≡ left
-unfolding left_in_lem
+left_in_lem : (a : FeedAnswer) (taken updates : ℕ) (left : Left) (hold : List ℕ) → left_in (fed_said_by a taken updates left hold) ≡ left
+unfolding left_in
 left_in_lem FeedAnswer.GoesOn taken updates left hold = refl
 left_in_lem (FeedAnswer.Stopped stop) taken updates left hold = refl
 left_in_lem FeedAnswer.NotAReceiver taken updates left hold = refl
@@ -168,7 +168,7 @@ one-fed : (r r' : Fed) (live live' working working' hold hold' : List ℕ) (give
     (r ≡ r') × (live ≡ live') × (working ≡ working') × (take r.session.held hold ≡ take r'.session.held hold')
 one-fed r r' live live' working working' hold hold' given p q =
     let same : leaves r.session live working hold ≡ leaves r'.session live' working' hold' =
-    sym (left_in_lem r.done.answer _ _ _ hold) ∙ ap left_in_lem (p ∙ sym q) ∙ left_in_lem r'.done.answer _ _ _ hold' in
+    sym (left_in_lem r.done.answer _ _ _ hold) ∙ ap left_in (p ∙ sym q) ∙ left_in_lem r'.done.answer _ _ _ hold' in
     let rest = one_left r.session r'.session live live' working working' hold hold' same in (
       sym (fed_by r.done.answer r.done.taken r.done.updates r.session live working hold) ∙ ap fed_of (p ∙ sym q) ∙ fed_by r'.done.answer r'.done.taken r'.done.updates r'.session live' working' hold',
       rest.1,

@@ -26,7 +26,7 @@ use Rattle.rtr_codec.specs.Layout.Label.{key_identifier}
 use Rattle.rtr_codec.specs.Read.{ends, header_length, key_fields}
 use Rattle.rtr_codec.specs.Stands.{EndStands, KeyStands, KindStands}
 use Rattle.rtr_encode.specs.Encode.{at, bytes_of, layout_of, given, end_values, values_in, behind, behind_length}
-use Rattle.rtr_round.specs.RoundTrip.{InRule, end_back_lem, read_back}
+use Rattle.rtr_round.specs.RoundTrip.{InRule, end_back, read_back}
 use Rattle.rtr_round.proofs.Bytes.{length-bytes, length_part}
 use Rattle.rtr_round.proofs.Inside.{both_true}
 use Rattle.rtr_round.proofs.Written.{Valued, number-written}
@@ -37,7 +37,7 @@ ends-exactly true x h e = le-leb x h (omega arith)
 ends-exactly false x h e = eq-eqb x h e
 
 -- a PDU's reading back has its version and its type
-end-version : (v : RtrProtocolVersion) (p : RtrEndOfData) → (end_back_lem v p).version ≡ v
+end-version : (v : RtrProtocolVersion) (p : RtrEndOfData) → (end_back v p).version ≡ v
 end-version V0 p = refl
 end-version V1 p = refl
 
@@ -55,17 +55,17 @@ back_head R (ErrorReport p) = (refl, refl)
 
 module _ (R : Reading) (E : List ℕ) where
   end_back_lem : (v : RtrProtocolVersion) (p : RtrEndOfData) → header_length E ≡ length_of (end_layout v) + 0 → Valued 2 (end_layout v) (given (end_values v p)) E
-      → EndStands (end_back_lem v p).version (end_back_lem v p) E
+      → EndStands (end_back v p).version (end_back v p) E
   end_back_lem V0 p h e = (h, e.0, e.1.0, refl, refl, refl)
   end_back_lem V1 p h e = (h, e.0, e.1.0, ap Seconds e.1.1.0, ap Seconds e.1.1.1.0, ap Seconds e.1.1.1.1.0)
 
   -- a Router Key with its identifier and its info where the encoding has them
-  abbrev key_back_lem : Bool → RtrRouterKey → RtrRouterKey
-  key_back_lem b p =
+  abbrev key_back : Bool → RtrRouterKey → RtrRouterKey
+  key_back b p =
       record { version = p.version; flags = p.flags; subject_key_identifier = place_of (key_fields b) key_identifier; asn = p.asn; subject_public_key_info = place (length_of (key_fields b)) p.subject_public_key_info.len }
 
   key_back_lem : (b : Bool) (p : RtrRouterKey) → header_length E ≡ length_of (key_fields b) + p.subject_public_key_info.len
-      → Valued 2 (key_fields b) (given (values_in (RouterKey p))) E → KeyStands b (key_back_lem b p) E
+      → Valued 2 (key_fields b) (given (values_in (RouterKey p))) E → KeyStands b (key_back b p) E
   key_back_lem true p h e =
       let rest : header_length E - 34 ≡ p.subject_public_key_info.len = omega arith in
       (omega arith, e.0, refl, e.1.0, ap (place 34) rest)

@@ -13,7 +13,7 @@ use Rattle.rtr_stream.specs.Search.{End, Outcome, is_stream, over, search_from, 
 use Rattle.rtr_stream.specs.Calls.{Between, Through, Pieces, state_of}
 use Rattle.rtr_stream.specs.declared.StreamAnswer.{StreamAnswer}
 use Rattle.rtr_stream.proofs.Told.{more-told, stop-told, pdu-told}
-use Rattle.rtr_stream.proofs.Laws.{joined, cut-anywhere, by_end_lem, search-is-stream, search-takes, search_is, search-keeps-stream}
+use Rattle.rtr_stream.proofs.Laws.{joined, cut-anywhere, by_end, search-is-stream, search-takes, search_is, search-keeps-stream}
 
 -- a stream that stopped takes no byte more
 stopped-stays : (R : Reading) (H : ℕ) (p : List ℕ) (taken : ℕ) (pdus : List Found) (k : ℕ) (x : List ℕ) → on_piece R H (record { taken = taken; pdus = pdus; state = State.stopped k x }) p ≡ record { taken = taken; pdus = pdus; state = State.stopped k x }
@@ -44,7 +44,7 @@ module _ (piece : List ℕ) where
   -- what the rest of a piece comes to, by its first search's end
   by_end_lem : ℕ → List ℕ → List Found → ℕ → List ℕ → End → Listened
   by_end_lem at hold before next held end =
-      by_end_lem
+      by_end
       (λ next held rest. on_piece in_use (length hold) (record { taken = next; pdus = before; state = State.holding held }) rest)
       (λ next pdu bytes rest. on_piece in_use (length hold) (record { taken = next; pdus = before ++ record { pdu = pdu; bytes = bytes } ∷ []; state = State.holding [] }) rest)
       (λ next number values rest. on_piece in_use (length hold) (record { taken = next; pdus = before; state = State.stopped number values }) rest)

@@ -1,0 +1,9 @@
+-- `be8` is the number in one byte. Assumes nothing.
+use native.Mathlib.Nat.{add-zero}
+use native.Mathlib.Omega.{arith}
+use Rattle.rtr_codec.specs.Bytes.{number}
+use Rattle.rtr_codec.proofs.be8.Goals as goal
+
+pub returns : goal.returns
+unfolding number
+returns c = simp (add-zero) (omega arith)
