@@ -12,10 +12,10 @@
 # Nothing is installed, and no header or library of the machine's is used: tests/libc declares what the tests need of C's library. The toolchain runs on x86-64.
 kit_find() {
     local rt
-    rt=$(command -v rt) || { echo "no 'rt' on the PATH: install the Rattle toolchain (rattle-kit-13 or newer) and put its bin folder on the PATH" >&2; return 1; }
+    rt=$(command -v rt) || { echo "no 'rt' on the PATH: install the Rattle toolchain (rattle-kit-13f or newer) and put its bin folder on the PATH" >&2; return 1; }
     KIT=${RATTLE_HOME:-$(cd "$(dirname "$(readlink -f "$rt")")/.." && pwd -P)}
     TOOLS=$KIT/toolchain
-    [ -r "$TOOLS/lib/ld-linux-x86-64.so.2" ] && [ -x "$TOOLS/bin/clang" ] && [ -x "$KIT/bin/rattle-link" ] || { echo "no toolchain under $KIT: set RATTLE_HOME to the folder of the Rattle toolchain (rattle-kit-13 or newer)" >&2; return 1; }
+    [ -r "$TOOLS/lib/ld-linux-x86-64.so.2" ] && [ -x "$TOOLS/bin/clang" ] && [ -x "$KIT/bin/rattle-link" ] || { echo "no toolchain under $KIT: set RATTLE_HOME to the folder of the Rattle toolchain (rattle-kit-13f or newer)" >&2; return 1; }
     RUN=("$TOOLS/lib/ld-linux-x86-64.so.2" --library-path "$TOOLS/lib")
 }
 

@@ -1,6 +1,6 @@
 """tests/diffs --program: bin/rtr-diff and its program on files, and what both print beside what the model prints.
 
-bin/rtr-diff is run with two words and, in a folder with old.txt and new.txt, without any. The program itself (target/bin/rtr_diff, which bin/rtr-diff has then built) is run
+bin/rtr-diff is run with two words and, in a folder with old.txt and new.txt, without any. The program itself (crates/rtr_diff/out/rtr_diff, which bin/rtr-diff has then built) is run
 on the stored cases, on endless files with little memory, and on pipes. What is printed on standard output must be the model's, and no file may come or go. The exit status and
 standard error are told and not compared: no paper speaks of them.
 """
@@ -299,7 +299,7 @@ def by_pipe(runs, folder, words, rules):
 
 def main(root, folder_of_stored, before, given, rules):
     command = os.path.abspath(given.command or os.path.join(root, "bin", "rtr-diff"))
-    binary = os.path.abspath(given.binary or os.path.join(root, "target", "bin", "rtr_diff"))
+    binary = os.path.abspath(given.binary or os.path.join(root, "crates", "rtr_diff", "out", "rtr_diff"))
     if not os.access(command, os.X_OK):
         print("tests/diffs: there is no program %s" % command)
         return 2
