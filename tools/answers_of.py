@@ -179,6 +179,7 @@ class Fn:
         self.steps = {}
         self.fields = {}
         self.bad = []
+        self.goal = None
         newnames = {}
         for place, parent, (old, new), fn, fl in info["places"]:
             if old and old not in self.steps:
@@ -229,6 +230,20 @@ class Fn:
             text = text[:m.end()] + re.sub(rf"(?<![\w.'-]){re.escape(m[1])}((?:\.[\w'-]+)+)", g, text[m.end():])
         return text
 
+    def own_match(self, goal):
+        """The arm nearest above a goal's place, by its record's own name: what an arm says of the variants behind `_`."""
+        i = next((k for k, (o, n) in enumerate(self.info["needs"]) if n == goal), None)
+        if i is None or i >= len(self.info["asked_at"]):
+            return None
+        at = {p[0]: p for p in self.info["places"]}
+        place = self.info["asked_at"][i][0]
+        while place in at:
+            if norm(at[place][2][0]).startswith("match"):
+                new = at[place][2][1]
+                return f"{new}.{new}-own"
+            place = at[place][1]
+        return None
+
     def path_map(self, text):
         """c.before...STEP.x.y to c.NEW.x.y"""
         text = re.sub(r"(?<![\w.'-])(c|call|st)((?:\.before)+)(?![\w-])", r"\1", text)
@@ -238,6 +253,10 @@ class Fn:
             if not segs:
                 return m[0]
             step = norm(segs[0])
+            if re.fullmatch(r"match\d*", step) and len(segs) > 1 and re.match(r"keys|rest", segs[1]) and self.goal:
+                own = self.own_match(self.goal)
+                if own:
+                    return ".".join([head, own, *segs[1:]])
             if step in ("args", "ranges"):
                 return ".".join([head, step, *(s.replace("-", "_") for s in segs[1:])])
             if step in ("requires", "type-inv", "well-formed"):
@@ -427,10 +446,16 @@ def turn(old, info, fname, crate, out):
         par = p["params"][0] if p["params"] else "c"
         if par != "c":
             body = re.sub(rf"(?<![\w.'-]){par}(?![\w'-])", "c", body)
+        fn.goal = new
         body = alias_lets(body, None)
         body = fn.alias_map(body)
         lets, body = with_helpers(body)
         body = body.replace(".type-inv", ".type_inv")
+        body2 = re.sub(r"(c\.[\w-]+\.[\w-]+-own\.keys\d+)", r"(opened \1)", body)
+        if body2 != body:
+            body = body2
+            if not any("{opened}" in u for u in uses):
+                uses.append("use borrow.Enum.Refused.{opened}")
         # what a slice's length is said by an unnamed fact: omega finds it
         body = re.sub(r", c\.[\w.'-]+\.auto\.\d+(?=[,)])", "", body)
         body = re.sub(r"\(arith, c\.[\w.'-]+\.auto\.\d+\)", "arith", body)
