@@ -99,6 +99,79 @@ def sub_tokens(text, mapping):
     return re.sub(rf"(?<![\w.₀-₉'-]){NAME}", f, text)
 
 
+CLAUSES = {}
+
+
+def read_clauses(crates):
+    """(crate, function) to the names of its ensures, where it has several."""
+    for crate in os.listdir(crates):
+        for d, _s, fs in os.walk(os.path.join(crates, crate, "src")):
+            for f in fs:
+                if f.endswith(".rt"):
+                    text = open(os.path.join(d, f), encoding="utf8").read()
+                    for m in re.finditer(r"\bfn (\w+)[^{;]*?\)(?: -> [^\n{]*)?\n((?:[ \t]+.*\n)*?)[ \t]*\{\n", text):
+                        names = re.findall(r"^\s+ensures (\w+) \{", m[2], re.M)
+                        if names:
+                            CLAUSES[(crate, m[1])] = names
+
+
+def split_final(body):
+    """The lets in front of a term, and the term."""
+    depth, i, lets, start = 0, 0, 0, 0
+    stack = []
+    last = 0
+    for m in re.finditer(r"[(\[{]|[)\]}]|(?<![\w.'-])(?:let|in)(?![\w'-])", body):
+        w = m[0]
+        if w in "([{":
+            depth += 1
+        elif w in ")]}":
+            depth -= 1
+        elif depth == 0 and w == "let":
+            stack.append(m.start())
+        elif depth == 0 and w == "in" and stack:
+            stack.pop()
+            if not stack:
+                last = m.end()
+    return body[:last], body[last:]
+
+
+def top_commas(inner):
+    parts, depth, cur = [], 0, ""
+    for ch in inner:
+        if ch in "([{":
+            depth += 1
+        elif ch in ")]}":
+            depth -= 1
+        if ch == "," and depth == 0:
+            parts.append(cur)
+            cur = ""
+        else:
+            cur += ch
+    if cur.strip():
+        parts.append(cur)
+    return parts
+
+
+def closes(s):
+    depth = 0
+    for i, ch in enumerate(s):
+        depth += ch in "([{"
+        depth -= ch in ")]}"
+        if depth == 0:
+            return i == len(s) - 1
+    return False
+
+
+def by_clause(body, names):
+    lets, term = split_final(body)
+    s = term.strip()
+    if s.startswith("(") and closes(s):
+        parts = top_commas(s[1:-1])
+        if len(parts) == len(names):
+            return lets + " record {\n" + "".join(f"      {n} = {x.strip()};\n" for n, x in zip(names, parts)) + "    }"
+    return lets + f"\n    let promised = {s} in record {{ " + "; ".join(f"{n} = promised.{k}" for k, n in enumerate(names)) + " }"
+
+
 class Fn:
     def __init__(self, info, path):
         self.info = info
@@ -106,6 +179,7 @@ class Fn:
         self.steps = {}
         self.fields = {}
         self.bad = []
+        self.goal = None
         newnames = {}
         for place, parent, (old, new), fn, fl in info["places"]:
             if old and old not in self.steps:
@@ -116,6 +190,10 @@ class Fn:
         for i, (place, *_r) in enumerate(info["places"]):
             newnames[place] = info["places_by_name"][i]
         self.places = newnames
+        self.called = {}
+        for place, parent, (old, new), f, fl in info["places"]:
+            if f:
+                self.called[norm(old)] = f
         self.arms = {}
         for a in info["arms"]:
             if a:
@@ -124,6 +202,47 @@ class Fn:
         self.needs = {norm(o): n for o, n in info["needs"]}
         self.settled = {norm(s) for s in info["settled"]}
         self.loops = {o: (n, vs, ch) for ((o, n), vs), ch in zip(info["loops"], info["changed"])}
+
+    def after_call(self, f, rest):
+        """The fields behind a call: its clauses and what it left by their names."""
+        if rest[0] == "new" and len(rest) > 1 and f in self.info["params"]:
+            k, i = 0, 1
+            while i < len(rest) and rest[i] == "1":
+                k, i = k + 1, i + 1
+            if i < len(rest) and rest[i] == "0" and k < len(self.info["params"][f]):
+                return ["new", self.info["params"][f][k], *rest[i + 1:]]
+        parts = f.split("::")
+        names = CLAUSES.get((parts[0], parts[-1]))
+        if names and len(names) > 1 and rest[0] == "ensures" and len(rest) > 1 and rest[1].isdigit() and int(rest[1]) < len(names):
+            return ["ensures", names[int(rest[1])], *rest[2:]]
+        return rest
+
+    def alias_map(self, text):
+        """`.new` and `.ensures` behind a name that a `let` gives a call."""
+        for m in list(re.finditer(rf"let ({NAME}) = c(?:\.before)*\.([\w₀-₉'-]+)(\.ensures)? in", text)):
+            f = self.called.get(norm(m[2]))
+            if not f:
+                continue
+            pre = ["ensures"] if m[3] else []
+            def g(x):
+                segs = x[1].split(".")[1:]
+                return m[1] + "".join("." + s for s in self.after_call(f, pre + segs)[len(pre):])
+            text = text[:m.end()] + re.sub(rf"(?<![\w.'-]){re.escape(m[1])}((?:\.[\w'-]+)+)", g, text[m.end():])
+        return text
+
+    def own_match(self, goal):
+        """The arm nearest above a goal's place, by its record's own name: what an arm says of the variants behind `_`."""
+        i = next((k for k, (o, n) in enumerate(self.info["needs"]) if n == goal), None)
+        if i is None or i >= len(self.info["asked_at"]):
+            return None
+        at = {p[0]: p for p in self.info["places"]}
+        place = self.info["asked_at"][i][0]
+        while place in at:
+            if norm(at[place][2][0]).startswith("match"):
+                new = at[place][2][1]
+                return f"{new}.{new}-own"
+            place = at[place][1]
+        return None
 
     def path_map(self, text):
         """c.before...STEP.x.y to c.NEW.x.y"""
@@ -134,15 +253,22 @@ class Fn:
             if not segs:
                 return m[0]
             step = norm(segs[0])
+            if re.fullmatch(r"match\d*", step) and len(segs) > 1 and re.match(r"keys|rest", segs[1]) and self.goal:
+                own = self.own_match(self.goal)
+                if own:
+                    return ".".join([head, own, *segs[1:]])
             if step in ("args", "ranges"):
                 return ".".join([head, step, *(s.replace("-", "_") for s in segs[1:])])
-            if step in ("requires", "type-inv"):
+            if step in ("requires", "type-inv", "well-formed"):
                 return head + m[2].replace("-", "_")
             rest = segs[1:]
             for k in range(len(rest), 0, -1):
                 hit = self.arms.get((step, tuple(rest[:k])))
                 if hit:
                     return ".".join([head, hit[0], hit[1], *rest[k:]])
+            f = self.called.get(step)
+            if f and rest:
+                rest = self.after_call(f, rest)
             new = self.steps.get(step)
             if new is None:
                 self.bad.append("step " + segs[0])
@@ -320,13 +446,23 @@ def turn(old, info, fname, crate, out):
         par = p["params"][0] if p["params"] else "c"
         if par != "c":
             body = re.sub(rf"(?<![\w.'-]){par}(?![\w'-])", "c", body)
+        fn.goal = new
         body = alias_lets(body, None)
+        body = fn.alias_map(body)
         lets, body = with_helpers(body)
         body = body.replace(".type-inv", ".type_inv")
+        body2 = re.sub(r"(c\.[\w-]+\.[\w-]+-own\.keys\d+)", r"(opened \1)", body)
+        if body2 != body:
+            body = body2
+            if not any("{opened}" in u for u in uses):
+                uses.append("use borrow.Enum.Refused.{opened}")
         # what a slice's length is said by an unnamed fact: omega finds it
         body = re.sub(r", c\.[\w.'-]+\.auto\.\d+(?=[,)])", "", body)
         body = re.sub(r"\(arith, c\.[\w.'-]+\.auto\.\d+\)", "arith", body)
         body = re.sub(r"omega \(arith\)", "omega arith", body)
+        own = CLAUSES.get((crate, fname.split(".")[-1]))
+        if own and len(own) > 1 and new.startswith("returns"):
+            body = by_clause(body, own)
         c = "\n".join(p["comment"]) + "\n" if p["comment"] else ""
         sep = "\n    " if lets or "\n" in body else " "
         b2 = ("\n    ".join(lets) + "\n    " if lets else "") + body
@@ -380,6 +516,7 @@ def main(a):
     old, names, new = a[:3]
     only = set(a[3:])
     j = json.load(open(names))
+    read_clauses(os.path.dirname(os.path.normpath(new)))
     crate = os.path.basename(os.path.normpath(new))
     n = 0
     for d, _s, fs in sorted(os.walk(os.path.join(old, "proofs"))):

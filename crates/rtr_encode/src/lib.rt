@@ -1,6 +1,7 @@
 // Encoding one PDU into a lent buffer, in the order of the Rust's RtrEncode impls: one function for each kind and one over all. Payload places refer
 // to a lent slice. Every call takes every input; a refusal writes nothing, and bytes after the encoding stay.
 #![tactic(auto)]
+
 ghost use Rattle.std.specs.Prelude.{◌≡◌, [], ◌∷◌, ◌++◌, ◌+◌, ◌≤◌, ◌<◌, length, take, drop};
 ghost use Rattle.rtr_models.specs.Codes.{version_number};
 ghost use Rattle.rtr_codec.specs.Reading.{in_use};

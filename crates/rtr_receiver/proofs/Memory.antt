@@ -127,7 +127,7 @@ module _ (limit : ℕ) (s : Session) (live working : Rooms) (hold : List ℕ) wh
   pub limit-of : is_receiver limit s live working hold ≡ true → s.life.limit ≡ limit
   limit-of e = limit_is (shape_of e).4
 
-  pub Shape-is
+  pub shape_is
       : is_room limit s.live.records live ≡ true →
       is_room limit s.working.records working ≡ true →
       is_stream hold s.held ≡ true →
@@ -135,7 +135,7 @@ module _ (limit : ℕ) (s : Session) (live working : Rooms) (hold : List ℕ) wh
       has_limit limit s ≡ true →
       is_receiver limit s live working hold ≡ true
   unfolding is_receiver
-  Shape-is l w h o k = both _ _ k (both _ _ l (both _ _ w (both _ _ h o)))
+  shape_is l w h o k = both _ _ k (both _ _ l (both _ _ w (both _ _ h o)))
 
   -- where one of the five fails
   pub not-shape-limit : has_limit limit s ≡ false → is_receiver limit s live working hold ≡ false
@@ -163,7 +163,7 @@ module _ (limit : ℕ) (s : Session) (live working : Rooms) (hold : List ℕ) wh
   shape-by-working l h o k = go (is_room limit s.working.records working) refl
     where
       go : (b : Bool) → is_room limit s.working.records working ≡ b → is_receiver limit s live working hold ≡ b
-      go true e = Shape-is l e h o k
+      go true e = shape_is l e h o k
       go false e = not-shape-working e
 
   pub standing : is_receiver limit s live working hold ≡ true → leaves s live working hold ≡ in_memory limit (receiver_of s live working hold)

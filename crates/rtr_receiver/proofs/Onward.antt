@@ -158,10 +158,10 @@ module _ (limit H : ℕ) where
   after_last [] call r = refl
   after_last (c ∷ calls) call r = after_last calls call (runs.after limit H c r)
 
-  steps-stand : (calls : List Call) (m m' : Memory) (r : Receiver) → Stands limit H m r → Steps limit m calls m' → Stands limit H m' (after_all calls r)
-  steps-stand calls m m' r st Steps.none = st
-  steps-stand calls m m'' r st (Steps.more {calls = before} {call = call} {m' = m'} steps step) =
-      subst (Stands limit H m'') (after_last before call r) (step-stands limit H call m' m'' (after_all before r) (steps-stand before m m' r st steps) step)
+  steps-stand : (m : Memory) (calls : List Call) (m' : Memory) (r : Receiver) → Stands limit H m r → Steps limit m calls m' → Stands limit H m' (after_all calls r)
+  steps-stand m calls m' r st Steps.none = st
+  steps-stand m calls m'' r st (Steps.more {calls = before} {call = call} {m' = m'} steps step) =
+      subst (Stands limit H m'') (after_last before call r) (step-stands limit H call m' m'' (after_all before r) (steps-stand m before m' r st steps) step)
 
   after-feeds : (pieces : List (List ℕ)) (r : Receiver) → after_all (feeds pieces) r ≡ (feed_all limit H r pieces).receiver
   unfolding feed_all feed
@@ -174,4 +174,4 @@ pub steps-fed : (limit : ℕ) (m m' : Memory) (pieces : List (List ℕ)) → is_
 steps-fed limit m m' pieces e steps =
     let r : Receiver = receiver_of m.session m.live m.working m.hold in
     let H : ℕ = length m.hold in
-    (steps-stand limit H (feeds pieces) m m' r (stands-in-shape limit m e) steps).left ∙ ap (in_memory limit) (after-feeds limit H pieces r)
+    (steps-stand limit H m (feeds pieces) m' r (stands-in-shape limit m e) steps).left ∙ ap (in_memory limit) (after-feeds limit H pieces r)

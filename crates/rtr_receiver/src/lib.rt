@@ -2,6 +2,7 @@
 // working one, which is made live by the End of Data. Every call takes every input and tests first that the memory lent is of receiver
 // shape (22); a stop clears what is held and the working room, keeps the live room, and repeats until a reconnect.
 #![tactic(auto)]
+
 ghost use Rattle.std.specs.Prelude.{◌≡◌, ◌+◌, ◌<◌, true, cond, [], length, replicate, ◌==◌};
 ghost use Rattle.rtr_models.specs.Codes.{version_number};
 ghost use Rattle.rtr_codec.specs.Answers.{number_of};

@@ -255,7 +255,12 @@ module _ (R : Reading) (H : ℕ) where
       (search_from R H at s p).held
       (search_from R H at s p).end
   unfolding on_piece on_byte
-  search-is-stream pdus p at s = by-search _ _ _ (λ at s b rest. byte at (s ++ b ∷ []) rest (judge R H (s ++ b ∷ []))) p at s
+  search-is-stream pdus p at s =
+      by-search
+      (λ next held rest. on_piece R H (record { taken = next; pdus = pdus; state = State.holding held }) rest)
+      (λ next pdu bytes rest. on_piece R H (record { taken = next; pdus = pdus ++ record { pdu = pdu; bytes = bytes } ∷ []; state = State.holding [] }) rest)
+      (λ next number values rest. on_piece R H (record { taken = next; pdus = pdus; state = State.stopped number values }) rest)
+      (λ at s b rest. byte at (s ++ b ∷ []) rest (judge R H (s ++ b ∷ []))) p at s
     where
       byte : (at : ℕ) (s rest : List ℕ) (h : Heard) →
           on_piece R H (after (at + 1) pdus s h) rest

@@ -1,6 +1,7 @@
 // The stream: pieces of any length go in, whole PDUs come out; what is not whole yet is kept in a lent hold. Every call takes every input;
 // each byte is copied once at the most, and not at all where its PDU lies whole in the piece. Nothing here knows of a receiver.
 #![tactic(auto)]
+
 ghost use Rattle.std.specs.Prelude.{true, ◌++◌, ◌≡◌, ◌+◌, ◌-◌, ◌≤◌, ◌<◌, length, take, drop};
 ghost use Rattle.rtr_codec.specs.Answers.{number_of};
 ghost use Rattle.rtr_stream.specs.Search.{is_stream, search, search_said, stream_refusal, outcome_of};

@@ -123,13 +123,13 @@ module _ (R : Reading) where
       let q : walked level end ≡ walked f.0 f.1 = sym w ∙ f.2 in
       rw (same-level q, same_end q) f.3
 
-  counts : {left at : ℕ} {pdu : RtrPdu} {s : List ℕ} {level n : ℕ} {end : End} → read R s ≡ Verdict.accepted pdu n → Way R level end left at pdu s → level + 1 ≡ at + reads_from R (suc left) s
+  counts : {level : ℕ} {end : End} {left at : ℕ} {pdu : RtrPdu} {s : List ℕ} {n : ℕ} → read R s ≡ Verdict.accepted pdu n → Way R level end left at pdu s → level + 1 ≡ at + reads_from R (suc left) s
   counts {left} {s = s} p (stops same h) = omega (arith, reads-one left s p h)
   counts {s = s} p (deep {bytes = bytes} same e h) = omega (arith, reads_more 0 s p h, reads-zero bytes)
   counts {s = s} p (unread {left} {bytes = bytes} same e h f) = omega (arith, reads_more (suc left) s p h, reads_none (suc left) bytes f)
   counts {s = s} p (deeper {left} h f rest) = omega (arith, reads_more (suc left) s p h, counts f rest)
 
-  within : {left at : ℕ} {pdu : RtrPdu} {s : List ℕ} {level : ℕ} {end : End} → Way R level end left at pdu s → level ≤ at + left
+  within : {level : ℕ} {end : End} {left at : ℕ} {pdu : RtrPdu} {s : List ℕ} → Way R level end left at pdu s → level ≤ at + left
   within (stops same h) = omega arith
   within (deep same e h) = omega arith
   within (unread same e h f) = omega arith
@@ -150,7 +150,7 @@ module _ (R : Reading) where
   stopped {pdu = pdu} {bytes} (refused_by k) a e h = absurd (subst (Means pdu bytes) h (means pdu bytes))
   stopped {pdu = pdu} {bytes} too_deep a e h = absurd (subst (Means pdu bytes) h (means pdu bytes))
 
-  reaches : {s : List ℕ} {left at : ℕ} {pdu : RtrPdu} {bytes : List ℕ} {level : ℕ} {end : End} → Way R level end left at pdu bytes → AtLevel R s at pdu bytes → at + left ≡ 16 → EndsAt R s level end
+  reaches : {s : List ℕ} {level : ℕ} {end : End} {left at : ℕ} {pdu : RtrPdu} {bytes : List ℕ} → Way R level end left at pdu bytes → AtLevel R s at pdu bytes → at + left ≡ 16 → EndsAt R s level end
   reaches {end = end} (stops same h) a e = rw same (stopped end a (omega arith) h)
   reaches {pdu = pdu} {bytes} (deep {bytes = inside} same f h) a e = rw (f, same) (omega arith, (pdu, bytes, inside, a, h))
   reaches {pdu = pdu} {bytes} (unread {bytes = inside} {values} same f h g) a e = rw (f, same) (omega arith, (pdu, bytes, inside, values, a, h, g))

@@ -72,36 +72,36 @@ module _
       number-reads.Learnt,
     )
 
-    walk-pdu-enum-known-pdu : (t : ℕ) → walk-pdu-lts.Need-enum-known-pdu (walk-pdu-calls t) (walk-pdu-at t) walk-pdu.Post
+    walk-pdu-enum-known-pdu : (t : ℕ) → walk-pdu-lts.Need-enum_known-pdu (walk-pdu-calls t) (walk-pdu-at t) walk-pdu.Post
     walk-pdu-enum-known-pdu t c = search rules
 
-    walk-pdu-erroneous-pdu-part-requires : (t : ℕ) → walk-pdu-lts.Need-erroneous-pdu-part-requires (walk-pdu-calls t) (walk-pdu-at t) walk-pdu.Post
+    walk-pdu-erroneous-pdu-part-requires : (t : ℕ) → walk-pdu-lts.Need-erroneous_pdu_part-requires (walk-pdu-calls t) (walk-pdu-at t) walk-pdu.Post
     walk-pdu-erroneous-pdu-part-requires t c κs = search rules
 
     -- where `walk_pdu` is entered at the measure t, it calls `walk_report` below t
-    pub walk-pdu-walk-report-requires : (t : ℕ) → walk-pdu-lts.Need-walk-report-requires (walk-pdu-calls t) (walk-pdu-at t) walk-pdu.Post
+    pub walk-pdu-walk-report-requires : (t : ℕ) → walk-pdu-lts.Need-walk_report-requires (walk-pdu-calls t) (walk-pdu-at t) walk-pdu.Post
     walk-pdu-walk-report-requires t c κs =
         let enter = c.before.before.before.before.before in
         let slice = enter.args.input.now in
         let copy = copy-shorter in_use slice _ _ (enter.requires.1.1.1 ∙ ap (λ (p : RtrPdu). accepted p enter.requires.1.1.0) c.before.before.pdu.given.1) in (
-          below enter.requires.0 (part_falls enter.args.left (length slice) _ (omega (arith, copy.0, copy.1, ap length c.erroneous-pdu-part.ensures.0))),
+          below enter.requires.0 (part_falls enter.args.left (length slice) _ (omega (arith, copy.0, copy.1, ap length c.erroneous_pdu_part.ensures.0))),
           enter.requires.1.0,
         )
 
-    walk-pdu-sub-t7 : (t : ℕ) → walk-pdu-lts.Need-overflow-sub-t7 (walk-pdu-calls t) (walk-pdu-at t) walk-pdu.Post
+    walk-pdu-sub-t7 : (t : ℕ) → walk-pdu-lts.Need-sub-t7 (walk-pdu-calls t) (walk-pdu-at t) walk-pdu.Post
     walk-pdu-sub-t7 t c = omega arith
 
-    walk-pdu-pdu-type-requires : (t : ℕ) → walk-pdu-lts.Need-pdu-type-requires (walk-pdu-calls t) (walk-pdu-at t) walk-pdu.Post
+    walk-pdu-pdu-type-requires : (t : ℕ) → walk-pdu-lts.Need-pdu_type-requires (walk-pdu-calls t) (walk-pdu-at t) walk-pdu.Post
     walk-pdu-pdu-type-requires t c κs = search rules
 
     walk-pdu-returns : (t : ℕ) → walk-pdu-lts.Need-returns (walk-pdu-calls t) (walk-pdu-at t) walk-pdu.Post
     walk-pdu-returns t c =
-        c.walk-report.ensures ∙ sym (from-inside in_use _ _ _ _ _ (simp (c.before.before.before.pdu.given.1, c.before.erroneous-pdu-part.ensures.0)))
+        c.walk_report.ensures ∙ sym (from-inside in_use _ _ _ _ _ (simp (c.before.before.before.pdu.given.1, c.before.erroneous_pdu_part.ensures.0)))
 
     walk-pdu-returns-2 : (t : ℕ) → walk-pdu-lts.Need-returns-2 (walk-pdu-calls t) (walk-pdu-at t) walk-pdu.Post
-    walk-pdu-returns-2 t c = rw c.pdu-type.ensures (sym (from_end in_use _ _ _ _ _ (other-ends c.before.before.before.args.pdu _ c.before.match.keys2)))
+    walk-pdu-returns-2 t c = rw c.pdu_type.ensures (sym (from_end in_use _ _ _ _ _ (other-ends c.before.before.before.args.pdu _ c.before.match.keys2)))
 
-    walk-report-sub-level : (t : ℕ) → walk-report-lts.Need-overflow-sub-level (walk-report-calls t) (walk-report-at t) walk-report.Post
+    walk-report-sub-level : (t : ℕ) → walk-report-lts.Need-sub-level (walk-report-calls t) (walk-report-at t) walk-report.Post
     walk-report-sub-level t c = omega arith
 
     walk-report-returns : (t : ℕ) → walk-report-lts.Need-returns (walk-report-calls t) (walk-report-at t) walk-report.Post
@@ -110,24 +110,24 @@ module _
     walk-report-returns-2 : (t : ℕ) → walk-report-lts.Need-returns-2 (walk-report-calls t) (walk-report-at t) walk-report.Post
     walk-report-returns-2 t c = sym (inside-deep in_use _ _ _ c.before.if1.false c.if2.true)
 
-    walk-report-parse-rtr-pdu-requires : (t : ℕ) → walk-report-lts.Need-parse-rtr-pdu-requires (walk-report-calls t) (walk-report-at t) walk-report.Post
+    walk-report-parse-rtr-pdu-requires : (t : ℕ) → walk-report-lts.Need-parse_rtr_pdu-requires (walk-report-calls t) (walk-report-at t) walk-report.Post
     walk-report-parse-rtr-pdu-requires t c κs = search rules
 
-    walk-report-enum-known-pdu : (t : ℕ) → walk-report-lts.Need-enum-known-pdu (walk-report-calls t) (walk-report-at t) walk-report.Post
+    walk-report-enum-known-pdu : (t : ℕ) → walk-report-lts.Need-enum_known-pdu (walk-report-calls t) (walk-report-at t) walk-report.Post
     walk-report-enum-known-pdu t c = search rules
 
-    walk-report-sub-walk-pdu : (t : ℕ) → walk-report-lts.Need-overflow-sub-walk-pdu (walk-report-calls t) (walk-report-at t) walk-report.Post
+    walk-report-sub-walk-pdu : (t : ℕ) → walk-report-lts.Need-sub-walk_pdu (walk-report-calls t) (walk-report-at t) walk-report.Post
     walk-report-sub-walk-pdu t c = omega arith
 
     -- where `walk_report` is entered at the measure t, it calls `walk_pdu` below t
-    pub walk-report-walk-pdu-requires : (t : ℕ) → walk-report-lts.Need-walk-pdu-requires (walk-report-calls t) (walk-report-at t) walk-report.Post
+    pub walk-report-walk-pdu-requires : (t : ℕ) → walk-report-lts.Need-walk_pdu-requires (walk-report-calls t) (walk-report-at t) walk-report.Post
     walk-report-walk-pdu-requires t c κs =
         let enter = c.before.before.before.before.before.before.before in (
           below enter.requires.0 (level-falls enter.args.left (length enter.args.part.now) (omega (arith, c.before.before.before.before.if2.false))),
-          (omega arith, (_, sym c.before.before.before.parse-rtr-pdu.ensures ∙ ap verdict c.before.pdu.given.1)),
+          (omega arith, (_, sym c.before.before.before.parse_rtr_pdu.ensures ∙ ap verdict c.before.pdu.given.1)),
         )
 
-    walk-report-enum-known-error : (t : ℕ) → walk-report-lts.Need-enum-known-error (walk-report-calls t) (walk-report-at t) walk-report.Post
+    walk-report-enum-known-error : (t : ℕ) → walk-report-lts.Need-enum_known-error (walk-report-calls t) (walk-report-at t) walk-report.Post
     walk-report-enum-known-error t c = search rules
 
     walk-report-number-requires : (t : ℕ) → walk-report-lts.Need-number-requires (walk-report-calls t) (walk-report-at t) walk-report.Post
@@ -135,11 +135,11 @@ module _
 
     walk-report-returns-3 : (t : ℕ) → walk-report-lts.Need-returns-3 (walk-report-calls t) (walk-report-at t) walk-report.Post
     walk-report-returns-3 t c =
-        c.walk-pdu.ensures ∙ sym (inside-read in_use _ _ _ _ c.before.before.before.before.before.before.if1.false c.before.before.before.before.before.if2.false (omega arith) (sym c.before.before.before.before.parse-rtr-pdu.ensures ∙ ap verdict c.before.before.pdu.given.1))
+        c.walk_pdu.ensures ∙ sym (inside-read in_use _ _ _ _ c.before.before.before.before.before.before.if1.false c.before.before.before.before.before.if2.false (omega arith) (sym c.before.before.before.before.parse_rtr_pdu.ensures ∙ ap verdict c.before.before.pdu.given.1))
 
     walk-report-returns-4 : (t : ℕ) → walk-report-lts.Need-returns-4 (walk-report-calls t) (walk-report-at t) walk-report.Post
     walk-report-returns-4 t c =
-        sym (inside-refused in_use _ _ _ c.before.before.error.given.0.0 _ c.number.ensures c.before.before.before.before.before.before.if1.false c.before.before.before.before.before.if2.false (sym c.before.before.before.before.parse-rtr-pdu.ensures ∙ ap verdict c.before.before.error.given.1))
+        sym (inside-refused in_use _ _ _ c.before.before.error.given.0.0 _ c.number.ensures c.before.before.before.before.before.before.if1.false c.before.before.before.before.before.if2.false (sym c.before.before.before.before.parse_rtr_pdu.ensures ∙ ap verdict c.before.before.error.given.1))
 
     ends : {M : Type 1} → statement M
     ends =
@@ -166,8 +166,8 @@ module _
         (walk-report-returns-4 t))
 
 -- the cycle ends by the levels that are left
-pub +walk-pdu-walk-report-spec : {M : Type 1} → statement M
-+walk-pdu-walk-report-spec = ends (λ left size. pdu_measure left) (λ left size. report_measure left) (λ left size part h. omega arith) (λ left size h. omega arith)
+pub +walk_pdu_walk_report_spec : {M : Type 1} → statement M
++walk_pdu_walk_report_spec = ends (λ left size. pdu_measure left) (λ left size. report_measure left) (λ left size part h. omega arith) (λ left size h. omega arith)
 
 -- and by the bytes of the slice, whatever levels are left
 pub ends-by-bytes : {M : Type 1} → statement M

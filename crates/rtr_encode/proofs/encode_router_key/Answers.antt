@@ -1,0 +1,33 @@
+-- `encode_router_key` tests both places, and hands the parts on. Assumes nothing.
+use mathlib.Core.Path.{◌∙◌}
+use Rattle.rtr_models.specs.Parts.{inside, key_inside}
+use Rattle.rtr_models.specs.declared.RtrPdu.TheVariants.{RouterKey}
+use Rattle.rtr_codec.specs.Reading.{in_use}
+use Rattle.rtr_encode.proofs.Payloads.{part-is-true, refused-is-false}
+use Rattle.rtr_encode.proofs.Checks.{place-outside, part_at, key-encodes, key-inside-20}
+use Rattle.rtr_encode.proofs.encode_router_key.Goals as goal
+
+pub returns-in-Refused : goal.returns-in-Refused
+returns-in-Refused c =
+    let a = c.args in
+    rw c.outside.ensures (place-outside in_use (RouterKey a.pdu) a.input.now a.out.now (simp (refused-is-false (key_inside a.pdu.subject_key_identifier a.input.now) _ c.subject_key_identifier_answer-identifier.ensures c.in-Refused.is)))
+
+pub returns-in-Refused-info : goal.returns-in-Refused-info
+returns-in-Refused-info c =
+    let a = c.args in
+    rw c.outside-in-Refused-info.ensures
+    (place-outside in_use (RouterKey a.pdu) a.input.now a.out.now
+    (simp ((part-is-true (key_inside a.pdu.subject_key_identifier a.input.now) _ c.subject_key_identifier_answer-identifier.ensures c.in_default.is), (refused-is-false (inside a.pdu.subject_public_key_info a.input.now) _ c.subject_public_key_info_answer-info.ensures c.in-Refused-info.is))))
+
+pub encode_key_parts-requires : goal.encode_key_parts-requires
+encode_key_parts-requires c =
+    let a = c.args in
+    key-inside-20 a.pdu.subject_key_identifier a.input.now _ c.subject_key_identifier_part.ensures.0 (part-is-true (key_inside a.pdu.subject_key_identifier a.input.now) _ c.subject_key_identifier_answer-identifier.ensures c.in_default.is)
+
+pub returns : goal.returns
+returns c =
+    let a = c.args in
+    let k = part-is-true (key_inside a.pdu.subject_key_identifier a.input.now) _ c.subject_key_identifier_answer-identifier.ensures c.in_default.is in
+    let i = part-is-true (inside a.pdu.subject_public_key_info a.input.now) _ c.subject_public_key_info_answer-info.ensures c.in_default-info.is in
+    c.encode_key_parts.ensures
+    ∙ key-encodes a.pdu a.input.now a.out.now _ _ k i (part_at _ a.pdu.subject_key_identifier a.input.now _ c.subject_key_identifier_part.ensures.0 k) (part_at _ a.pdu.subject_public_key_info a.input.now _ c.subject_public_key_info_part.ensures.0 i)

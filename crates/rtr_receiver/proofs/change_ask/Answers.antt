@@ -1,0 +1,38 @@
+-- `change_ask` tests the shape, then the phase, then looks for a table. Assumes nothing.
+use Rattle.std.proofs.Common.{ap, ◌∙◌}
+use Rattle.rtr_receiver.specs.Receiver.{Receiver, serial_query, change_query}
+use Rattle.rtr_receiver.specs.Promises.{stage_of, receiver_of, change_ask_says}
+use Rattle.rtr_receiver.specs.declared.Phase.{Phase}
+use Rattle.rtr_receiver.specs.declared.LiveTable.{LiveTable}
+use Rattle.rtr_receiver.proofs.Calls.{change-else, ask-shapeless, ask-in-wrong-phase, ask-without-table, ask-written}
+use Rattle.rtr_receiver.proofs.Memory.{fails, holds}
+use borrow.Enum.Refused.{opened}
+use Rattle.rtr_receiver.proofs.change_ask.Goals as goal
+
+pub returns-then-not-is_receiver : goal.returns-then-not-is_receiver
+unfolding change_ask_says
+returns-then-not-is_receiver c =
+    let a = c.args in
+    ask-shapeless a.s.life.limit a.s a.live.now a.working.now a.hold.now (λ (r : Receiver). change_query r.stage r) a.out.now c.ask_refused.result c.ask_refused.ensures (fails c.is_receiver.ensures c.if-not-is_receiver.true-raw)
+
+pub returns-in-NoTable : goal.returns-in-NoTable
+unfolding change_ask_says
+returns-in-NoTable c =
+    let a = c.args in
+    ask-without-table a.s.life.limit a.s a.live.now a.working.now a.hold.now (λ (r : Receiver). change_query r.stage r) a.out.now c.ask_refused-in-NoTable.result c.ask_refused-in-NoTable.ensures (holds c.is_receiver.ensures c.if-not-is_receiver.false-raw)
+    (ap (λ (p : Phase). change_query (stage_of p) (receiver_of a.s a.live.now a.working.now a.hold.now)) c.in-Idle.is ∙ ap (λ (t : LiveTable). serial_query t (receiver_of a.s a.live.now a.working.now a.hold.now)) c.in-NoTable.is)
+
+pub returns-in-Known : goal.returns-in-Known
+unfolding change_ask_says
+returns-in-Known c =
+    let a = c.args in
+    ask-written a.s.life.limit a.s a.live.now a.working.now a.hold.now (λ (r : Receiver). change_query r.stage r) a.out.now c.asked.result c.encode_serial_query-answer.result Phase.AskedChange _ _ c.asked.ensures (holds c.is_receiver.ensures c.if-not-is_receiver.false-raw)
+    (ap (λ (p : Phase). change_query (stage_of p) (receiver_of a.s a.live.now a.working.now a.hold.now)) c.in-Idle.is ∙ ap (λ (t : LiveTable). serial_query t (receiver_of a.s a.live.now a.working.now a.hold.now)) c.in-Known.is)
+    c.encode_serial_query-answer.ensures
+
+pub returns-in_default : goal.returns-in_default
+unfolding change_ask_says
+returns-in_default c =
+    let a = c.args in
+    ask-in-wrong-phase a.s.life.limit a.s a.live.now a.working.now a.hold.now (λ (r : Receiver). change_query r.stage r) a.out.now c.ask_refused-in_default.result c.ask_refused-in_default.ensures (holds c.is_receiver.ensures c.if-not-is_receiver.false-raw)
+    (change-else a.s.phase (receiver_of a.s a.live.now a.working.now a.hold.now) (opened c.in_default.in_default-own.keys2))
