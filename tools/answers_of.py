@@ -70,7 +70,7 @@ def parse(block):
     eqs = []
     while i < len(block):
         l = block[i]
-        if l.startswith("    ") or l.startswith("  "):
+        if l.startswith("    ") or l.startswith("  ") or l[:1] in (")", "}", "]"):
             if not eqs:
                 return None
             eqs[-1] += "\n" + l
@@ -255,8 +255,10 @@ class Fn:
             step = norm(segs[0])
             if re.fullmatch(r"match\d*", step) and len(segs) > 1 and re.match(r"keys|rest", segs[1]) and self.goal:
                 own = self.own_match(self.goal)
-                if own:
+                if own and own.startswith("in_default"):
                     return ".".join([head, own, *segs[1:]])
+                if own:
+                    return ".".join([head, own.split(".")[0], "is", *segs[2:]])
             if step in ("args", "ranges"):
                 return ".".join([head, step, *(s.replace("-", "_") for s in segs[1:])])
             if step in ("requires", "type-inv", "well-formed"):
@@ -457,6 +459,7 @@ def turn(old, info, fname, crate, out):
             if not any("{opened}" in u for u in uses):
                 uses.append("use borrow.Enum.Refused.{opened}")
         # what a slice's length is said by an unnamed fact: omega finds it
+        body = re.sub(r"\n\s*c\.[\w.'-]+\.auto\.\d+,(?=\n)", "", body)
         body = re.sub(r", c\.[\w.'-]+\.auto\.\d+(?=[,)])", "", body)
         body = re.sub(r"\(arith, c\.[\w.'-]+\.auto\.\d+\)", "arith", body)
         body = re.sub(r"omega \(arith\)", "omega arith", body)

@@ -141,7 +141,7 @@ module _ (q : Route) (a : Record) (e : a ≡ target_of q) (l : q.length < 256) w
         each i m = go (plain (record_at s i)) refl
           where
             go : (b : Bool) → plain (record_at s i) ≡ b → strength a (record_at s i) ≤ first
-            go true p = w.all-plain q loose asks u i m p
+            go true p = w.all_plain q loose asks u i m p
             go false p = none-loose s count h q a asks least loose u o first i m p
 
     pub walk-and-run : (second r : ℕ) → Ran loose a s count second → first ≤ r → second ≤ r → ((n : ℕ) → first ≤ n → second ≤ n → r ≤ n) → r ≡ strongest a (records count s)
@@ -151,5 +151,5 @@ module _ (q : Route) (a : Record) (e : a ≡ target_of q) (l : q.length < 256) w
         each i m = go (plain (record_at s i)) refl
           where
             go : (b : Bool) → plain (record_at s i) ≡ b → strength a (record_at s i) ≤ r
-            go true p = omega (arith, w.all-plain q loose asks u i m p)
+            go true p = omega (arith, w.all_plain q loose asks u i m p)
             go false p = omega (arith, v.all-loose q least asks u i m p)

@@ -11,7 +11,7 @@ use Rattle.rtr_codec.specs.Reading.{Reading, in_use}
 use Rattle.rtr_codec.specs.Read.{Verdict, read}
 use Rattle.rtr_walk.specs.Walk.{End, WalkVerdict, deepest, encapsulated, walk_from, walk, walk_said}
 use Rattle.rtr_walk.specs.Walk.End.{too_deep}
-use Rattle.rtr_walk.specs.Walk.WalkVerdict.{walked, refused}
+use Rattle.rtr_walk.specs.Walk.WalkVerdict.{walked}
 use Rattle.rtr_walk.specs.Cost.{Cost, Handed, Falling, handed, called, reading, handed_cost, pdu_cost, read_cost, report_cost, walk_cost, pdu_measure, report_measure, reads_said, frames_said}
 use Rattle.rtr_walk.specs.Cost.Handed.{nobody, part}
 use Rattle.rtr_walk.specs.Cost.Falling.{none, call}

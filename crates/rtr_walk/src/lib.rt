@@ -1,6 +1,7 @@
 // The nest walk: how deep an Error Report's copies of PDUs go, and where they end. Sixteen levels below the first at the most, so the
 // stack is bounded whatever the input; nothing is written, and no call has a condition.
 #![tactic(auto)]
+
 ghost use Rattle.std.specs.Prelude.{◌≡◌, ◌-◌, ◌≤◌};
 ghost use Rattle.rtr_codec.specs.Reading.{in_use};
 ghost use Rattle.rtr_walk.specs.Walk.{walk, walk_from, walk_said};

@@ -81,34 +81,33 @@ module _
     -- where `walk_pdu` is entered at the measure t, it calls `walk_report` below t
     pub walk-pdu-walk-report-requires : (t : ℕ) → walk-pdu-lts.Need-walk_report-requires (walk-pdu-calls t) (walk-pdu-at t) walk-pdu.Post
     walk-pdu-walk-report-requires t c κs =
-        let enter = c.before.before.before.before.before in
-        let slice = enter.args.input.now in
-        let copy = copy-shorter in_use slice _ _ (enter.requires.1.1.1 ∙ ap (λ (p : RtrPdu). accepted p enter.requires.1.1.0) c.before.before.pdu.given.1) in (
-          below enter.requires.0 (part_falls enter.args.left (length slice) _ (omega (arith, copy.0, copy.1, ap length c.erroneous_pdu_part.ensures.0))),
-          enter.requires.1.0,
+        let slice = c.args.input.now in
+        let copy = copy-shorter in_use slice _ _ (c.requires.1.1.1 ∙ ap (λ (p : RtrPdu). accepted p c.requires.1.1.0) c.in-ErrorReport.is) in (
+          below c.requires.0 (part_falls c.args.left (length slice) _ (omega (arith, copy.0, copy.1, ap length c.erroneous_pdu_part.ensures.0))),
+          c.requires.1.0,
         )
 
-    walk-pdu-sub-t7 : (t : ℕ) → walk-pdu-lts.Need-sub-t7 (walk-pdu-calls t) (walk-pdu-at t) walk-pdu.Post
-    walk-pdu-sub-t7 t c = omega arith
+    walk-pdu-overflow-sub-result : (t : ℕ) → walk-pdu-lts.Need-overflow_sub-result (walk-pdu-calls t) (walk-pdu-at t) walk-pdu.Post
+    walk-pdu-overflow-sub-result t c = omega arith
 
     walk-pdu-pdu-type-requires : (t : ℕ) → walk-pdu-lts.Need-pdu_type-requires (walk-pdu-calls t) (walk-pdu-at t) walk-pdu.Post
     walk-pdu-pdu-type-requires t c κs = search rules
 
-    walk-pdu-returns : (t : ℕ) → walk-pdu-lts.Need-returns (walk-pdu-calls t) (walk-pdu-at t) walk-pdu.Post
-    walk-pdu-returns t c =
-        c.walk_report.ensures ∙ sym (from-inside in_use _ _ _ _ _ (simp (c.before.before.before.pdu.given.1, c.before.erroneous_pdu_part.ensures.0)))
+    walk-pdu-returns-in-error-report : (t : ℕ) → walk-pdu-lts.Need-returns-in-ErrorReport (walk-pdu-calls t) (walk-pdu-at t) walk-pdu.Post
+    walk-pdu-returns-in-error-report t c =
+        c.walk_report.ensures ∙ sym (from-inside in_use _ _ _ _ _ (simp (c.in-ErrorReport.is, c.erroneous_pdu_part.ensures.0)))
 
-    walk-pdu-returns-2 : (t : ℕ) → walk-pdu-lts.Need-returns-2 (walk-pdu-calls t) (walk-pdu-at t) walk-pdu.Post
-    walk-pdu-returns-2 t c = rw c.pdu_type.ensures (sym (from_end in_use _ _ _ _ _ (other-ends c.before.before.before.args.pdu _ c.before.match.keys2)))
+    walk-pdu-returns-in-default : (t : ℕ) → walk-pdu-lts.Need-returns-in_default (walk-pdu-calls t) (walk-pdu-at t) walk-pdu.Post
+    walk-pdu-returns-in-default t c = rw c.pdu_type.ensures (sym (from_end in_use _ _ _ _ _ (other-ends c.args.pdu _ c.in_default.in_default-own.keys2)))
 
-    walk-report-sub-level : (t : ℕ) → walk-report-lts.Need-sub-level (walk-report-calls t) (walk-report-at t) walk-report.Post
-    walk-report-sub-level t c = omega arith
+    walk-report-overflow-sub-level : (t : ℕ) → walk-report-lts.Need-overflow_sub-level (walk-report-calls t) (walk-report-at t) walk-report.Post
+    walk-report-overflow-sub-level t c = omega arith
 
-    walk-report-returns : (t : ℕ) → walk-report-lts.Need-returns (walk-report-calls t) (walk-report-at t) walk-report.Post
-    walk-report-returns t c = sym (inside-empty in_use _ _ _ c.if1.true)
+    walk-report-returns-then-part-eq0 : (t : ℕ) → walk-report-lts.Need-returns-then-part-eq0 (walk-report-calls t) (walk-report-at t) walk-report.Post
+    walk-report-returns-then-part-eq0 t c = sym (inside-empty in_use _ _ _ c.if-part-eq0.true)
 
-    walk-report-returns-2 : (t : ℕ) → walk-report-lts.Need-returns-2 (walk-report-calls t) (walk-report-at t) walk-report.Post
-    walk-report-returns-2 t c = sym (inside-deep in_use _ _ _ c.before.if1.false c.if2.true)
+    walk-report-returns-then-left-eq0 : (t : ℕ) → walk-report-lts.Need-returns-then-left-eq0 (walk-report-calls t) (walk-report-at t) walk-report.Post
+    walk-report-returns-then-left-eq0 t c = sym (inside-deep in_use _ _ _ c.if-part-eq0.false c.if-left-eq0.true)
 
     walk-report-parse-rtr-pdu-requires : (t : ℕ) → walk-report-lts.Need-parse_rtr_pdu-requires (walk-report-calls t) (walk-report-at t) walk-report.Post
     walk-report-parse-rtr-pdu-requires t c κs = search rules
@@ -116,16 +115,15 @@ module _
     walk-report-enum-known-pdu : (t : ℕ) → walk-report-lts.Need-enum_known-pdu (walk-report-calls t) (walk-report-at t) walk-report.Post
     walk-report-enum-known-pdu t c = search rules
 
-    walk-report-sub-walk-pdu : (t : ℕ) → walk-report-lts.Need-sub-walk_pdu (walk-report-calls t) (walk-report-at t) walk-report.Post
-    walk-report-sub-walk-pdu t c = omega arith
+    walk-report-overflow-sub-left : (t : ℕ) → walk-report-lts.Need-overflow_sub-left (walk-report-calls t) (walk-report-at t) walk-report.Post
+    walk-report-overflow-sub-left t c = omega arith
 
     -- where `walk_report` is entered at the measure t, it calls `walk_pdu` below t
     pub walk-report-walk-pdu-requires : (t : ℕ) → walk-report-lts.Need-walk_pdu-requires (walk-report-calls t) (walk-report-at t) walk-report.Post
-    walk-report-walk-pdu-requires t c κs =
-        let enter = c.before.before.before.before.before.before.before in (
-          below enter.requires.0 (level-falls enter.args.left (length enter.args.part.now) (omega (arith, c.before.before.before.before.if2.false))),
-          (omega arith, (_, sym c.before.before.before.parse_rtr_pdu.ensures ∙ ap verdict c.before.pdu.given.1)),
-        )
+    walk-report-walk-pdu-requires t c κs = (
+      below c.requires.0 (level-falls c.args.left (length c.args.part.now) (omega (arith, c.if-left-eq0.false))),
+      (omega arith, (_, sym c.parse_rtr_pdu.ensures ∙ ap verdict c.in-Read.is)),
+    )
 
     walk-report-enum-known-error : (t : ℕ) → walk-report-lts.Need-enum_known-error (walk-report-calls t) (walk-report-at t) walk-report.Post
     walk-report-enum-known-error t c = search rules
@@ -133,13 +131,13 @@ module _
     walk-report-number-requires : (t : ℕ) → walk-report-lts.Need-number-requires (walk-report-calls t) (walk-report-at t) walk-report.Post
     walk-report-number-requires t c κs = search rules
 
-    walk-report-returns-3 : (t : ℕ) → walk-report-lts.Need-returns-3 (walk-report-calls t) (walk-report-at t) walk-report.Post
-    walk-report-returns-3 t c =
-        c.walk_pdu.ensures ∙ sym (inside-read in_use _ _ _ _ c.before.before.before.before.before.before.if1.false c.before.before.before.before.before.if2.false (omega arith) (sym c.before.before.before.before.parse_rtr_pdu.ensures ∙ ap verdict c.before.before.pdu.given.1))
+    walk-report-returns-in-read : (t : ℕ) → walk-report-lts.Need-returns-in-Read (walk-report-calls t) (walk-report-at t) walk-report.Post
+    walk-report-returns-in-read t c =
+        c.walk_pdu.ensures ∙ sym (inside-read in_use _ _ _ _ c.if-part-eq0.false c.if-left-eq0.false (omega arith) (sym c.parse_rtr_pdu.ensures ∙ ap verdict c.in-Read.is))
 
-    walk-report-returns-4 : (t : ℕ) → walk-report-lts.Need-returns-4 (walk-report-calls t) (walk-report-at t) walk-report.Post
-    walk-report-returns-4 t c =
-        sym (inside-refused in_use _ _ _ c.before.before.error.given.0.0 _ c.number.ensures c.before.before.before.before.before.before.if1.false c.before.before.before.before.before.if2.false (sym c.before.before.before.before.parse_rtr_pdu.ensures ∙ ap verdict c.before.before.error.given.1))
+    walk-report-returns-in-refused : (t : ℕ) → walk-report-lts.Need-returns-in-Refused (walk-report-calls t) (walk-report-at t) walk-report.Post
+    walk-report-returns-in-refused t c =
+        sym (inside-refused in_use _ _ _ c.in-Refused.error _ c.number.ensures c.if-part-eq0.false c.if-left-eq0.false (sym c.parse_rtr_pdu.ensures ∙ ap verdict c.in-Refused.is))
 
     ends : {M : Type 1} → statement M
     ends =
@@ -148,22 +146,22 @@ module _
         (walk-pdu-enum-known-pdu t)
         (walk-pdu-erroneous-pdu-part-requires t)
         (walk-pdu-walk-report-requires t)
-        (walk-pdu-sub-t7 t)
+        (walk-pdu-overflow-sub-result t)
         (walk-pdu-pdu-type-requires t)
-        (walk-pdu-returns t)
-        (walk-pdu-returns-2 t))
+        (walk-pdu-returns-in-error-report t)
+        (walk-pdu-returns-in-default t))
         (λ t. walk-report-lts.spec (walk-report-calls t) (walk-report-at t) walk-report.Post
-        (walk-report-sub-level t)
-        (walk-report-returns t)
-        (walk-report-returns-2 t)
+        (walk-report-overflow-sub-level t)
+        (walk-report-returns-then-part-eq0 t)
+        (walk-report-returns-then-left-eq0 t)
         (walk-report-parse-rtr-pdu-requires t)
         (walk-report-enum-known-pdu t)
-        (walk-report-sub-walk-pdu t)
+        (walk-report-overflow-sub-left t)
         (walk-report-walk-pdu-requires t)
         (walk-report-enum-known-error t)
         (walk-report-number-requires t)
-        (walk-report-returns-3 t)
-        (walk-report-returns-4 t))
+        (walk-report-returns-in-read t)
+        (walk-report-returns-in-refused t))
 
 -- the cycle ends by the levels that are left
 pub +walk_pdu_walk_report_spec : {M : Type 1} → statement M

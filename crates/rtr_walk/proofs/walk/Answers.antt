@@ -1,7 +1,6 @@
 -- `walk` gives what the walk of the reading in use says: level 0 is refused, or walked from with all levels left. Assumes nothing.
 use mathlib.Core.Path.{sym, ap, ◌∙◌}
 use native.Mathlib.Omega.{arith}
-use borrow.Author.Rules.{rules}
 use Rattle.rtr_codec.specs.Reading.{in_use}
 use Rattle.rtr_codec.specs.Answers.{verdict}
 use Rattle.rtr_walk.proofs.Steps.{walk-read, walk_refused}

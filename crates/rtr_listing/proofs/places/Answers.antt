@@ -1,0 +1,44 @@
+-- `places` makes the definition's tests in its order. Assumes nothing.
+use borrow.Author.Tests.{lt-ltb, le-ltb}
+use Rattle.rtr_listing.specs.Listing.{places}
+use Rattle.rtr_listing.proofs.places.Goals as goal
+
+pub returns-then-n-lt10 : goal.returns-then-n-lt10
+unfolding places
+returns-then-n-lt10 c = simp (lt-ltb _ _ c.if-n-lt10.true)
+
+pub returns-then-n-lt100 : goal.returns-then-n-lt100
+unfolding places
+returns-then-n-lt100 c = simp (lt-ltb _ _ c.if-n-lt100.true, le-ltb _ _ c.if-n-lt10.false)
+
+pub returns-then-n-lt1000 : goal.returns-then-n-lt1000
+unfolding places
+returns-then-n-lt1000 c = simp (lt-ltb _ _ c.if-n-lt1000.true, le-ltb _ _ c.if-n-lt100.false, le-ltb _ _ c.if-n-lt10.false)
+
+pub returns-then-n-lt10000 : goal.returns-then-n-lt10000
+unfolding places
+returns-then-n-lt10000 c = simp (lt-ltb _ _ c.if-n-lt10000.true, le-ltb _ _ c.if-n-lt1000.false, le-ltb _ _ c.if-n-lt100.false, le-ltb _ _ c.if-n-lt10.false)
+
+pub returns-then-n-lt100000 : goal.returns-then-n-lt100000
+unfolding places
+returns-then-n-lt100000 c = simp (lt-ltb _ _ c.if-n-lt100000.true, le-ltb _ _ c.if-n-lt10000.false, le-ltb _ _ c.if-n-lt1000.false, le-ltb _ _ c.if-n-lt100.false, le-ltb _ _ c.if-n-lt10.false)
+
+pub returns-then-n-lt1000000 : goal.returns-then-n-lt1000000
+unfolding places
+returns-then-n-lt1000000 c = simp (lt-ltb _ _ c.if-n-lt1000000.true, le-ltb _ _ c.if-n-lt100000.false, le-ltb _ _ c.if-n-lt10000.false, le-ltb _ _ c.if-n-lt1000.false, le-ltb _ _ c.if-n-lt100.false, le-ltb _ _ c.if-n-lt10.false)
+
+pub returns-then-n-lt10000000 : goal.returns-then-n-lt10000000
+unfolding places
+returns-then-n-lt10000000 c = simp (lt-ltb _ _ c.if-n-lt10000000.true, le-ltb _ _ c.if-n-lt1000000.false, le-ltb _ _ c.if-n-lt100000.false, le-ltb _ _ c.if-n-lt10000.false, le-ltb _ _ c.if-n-lt1000.false, le-ltb _ _ c.if-n-lt100.false, le-ltb _ _ c.if-n-lt10.false)
+
+pub returns-then-n-lt100000000 : goal.returns-then-n-lt100000000
+unfolding places
+returns-then-n-lt100000000 c = simp (lt-ltb _ _ c.if-n-lt100000000.true, le-ltb _ _ c.if-n-lt10000000.false, le-ltb _ _ c.if-n-lt1000000.false, le-ltb _ _ c.if-n-lt100000.false, le-ltb _ _ c.if-n-lt10000.false, le-ltb _ _ c.if-n-lt1000.false, le-ltb _ _ c.if-n-lt100.false, le-ltb _ _ c.if-n-lt10.false)
+
+pub returns-then-n-lt1000000000 : goal.returns-then-n-lt1000000000
+unfolding places
+returns-then-n-lt1000000000 c = simp (lt-ltb _ _ c.if-n-lt1000000000.true, le-ltb _ _ c.if-n-lt100000000.false, le-ltb _ _ c.if-n-lt10000000.false, le-ltb _ _ c.if-n-lt1000000.false, le-ltb _ _ c.if-n-lt100000.false, le-ltb _ _ c.if-n-lt10000.false, le-ltb _ _ c.if-n-lt1000.false, le-ltb _ _ c.if-n-lt100.false, le-ltb _ _ c.if-n-lt10.false)
+
+pub returns : goal.returns
+unfolding places
+returns c = simp (le-ltb _ _ c.if-n-lt1000000000.false, le-ltb _ _ c.if-n-lt100000000.false, le-ltb _ _ c.if-n-lt10000000.false, le-ltb _ _ c.if-n-lt1000000.false, le-ltb _ _ c.if-n-lt100000.false, le-ltb _ _ c.if-n-lt10000.false, le-ltb _ _ c.if-n-lt1000.false, le-ltb _ _ c.if-n-lt100.false, le-ltb _ _ c.if-n-lt10.false)

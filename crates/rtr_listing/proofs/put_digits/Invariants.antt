@@ -1,0 +1,17 @@
+-- `put_digits` writes the last digit first: at the loop's head i digits of `rest` are still to be written, and with them the output is the one
+-- that is promised. The measure is i. Assumes nothing.
+use Prim.Native.Nat.{ℕ, suc, ◌+◌, ◌-◌, ◌/◌, ◌≤◌}
+use mathlib.Core.Path.{◌≡◌, refl, sym, ap, ◌∙◌}
+use native.Mathlib.Nat.{mod-lt}
+use native.Mathlib.Omega.{arith}
+use lib.ListN.{length, set, length-set}
+use Rattle.rtr_base.specs.Over.{over}
+use Rattle.rtr_listing.specs.Listing.{digits}
+use Rattle.rtr_listing.proofs.Digits.{digits-length, digits_more, digits-done}
+use Rattle.rtr_listing.proofs.put_digits.Given as goal
+
+abbrev pub invariant-loop-i : goal.invariant-loop-i
+invariant-loop-i l = (over l.out l.at (digits l.base l.i l.rest) ≡ over l.initial.out l.at (digits l.base l.k l.n)) × (l.i ≤ l.k) × (length l.out ≡ length l.initial.out)
+
+abbrev pub decreases-loop-i : goal.decreases-loop-i
+decreases-loop-i l = l.i

@@ -1,0 +1,9 @@
+-- `put_number`: as many digits as the number has. Assumes nothing.
+use borrow.Author.Rules.{rules}
+use Rattle.rtr_listing.proofs.put_number.Goals as goal
+
+pub put_counted-requires : goal.put_counted-requires
+put_counted-requires c = rw c.places.ensures c.requires
+
+pub returns : goal.returns
+returns c = rw c.places.ensures at c.put_counted.ensures

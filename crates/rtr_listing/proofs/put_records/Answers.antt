@@ -1,0 +1,53 @@
+use Prim.Native.Nat.{◌-◌, ◌≤◌}
+use mathlib.Core.List.{◌++◌}
+use mathlib.Core.Path.{◌≡◌, refl, sym, ap, ◌∙◌}
+use native.Mathlib.Numerals.{add-one}
+use native.Mathlib.Omega.{arith}
+use borrow.Author.Rules.{rules}
+use lib.ListN.{length}
+use Rattle.rtr_room.specs.Room.{records}
+use Rattle.rtr_room.specs.declared.Record.{Record}
+use Rattle.rtr_listing.specs.Listing.{record_lines, all_lines}
+use Rattle.rtr_listing.specs.Private.{Put}
+use Rattle.rtr_listing.proofs.Puts.{put-nothing, put_then}
+use Rattle.rtr_listing.proofs.Lines.{all_none, all-next, next-within, the-record, never-outside}
+use Rattle.rtr_listing.proofs.put_records.Goals as goal
+
+pub loop-i-init : goal.loop-i-init
+loop-i-init c =
+    let a = c.args in
+    (rw (all_none a.live.now) (put-nothing a.out.now a.at), omega arith, refl)
+
+pub put_record-next-requires : goal.put_record-next-requires
+put_record-next-requires c =
+    let a = c.args in
+    let l = c.loop-i in
+    let record_is = the-record a.live.now l.i _ _ (omega arith) c.get.ensures c.in-Found.is in
+    omega (
+      arith,
+      l.invariant.0.place,
+      next-within a.live.now l.i a.count (omega arith),
+      ap (λ (r : Record). length (record_lines r)) record_is,
+    )
+
+pub returns-in-Outside : goal.returns-in-Outside
+returns-in-Outside c =
+    absurd
+    (never-outside c.args.live.now c.loop-i.i _ (omega arith) c.get.ensures c.in-Outside.is)
+
+pub loop-i-preserved : goal.loop-i-preserved
+loop-i-preserved c =
+    let a = c.args in
+    let l = c.loop-i in
+    let record_is = the-record a.live.now l.i _ _ (omega arith) c.get.ensures c.in-Found.is in
+    let lines = ap (λ (r : Record). all_lines (records l.i a.live.now) ++ record_lines r) record_is ∙ sym (all-next l.i a.live.now) in (
+      rw (add-one, ← lines) (put_then (omega arith) l.invariant.0 c.put_record-next.ensures),
+      omega arith,
+      omega arith,
+    )
+
+pub returns : goal.returns
+returns c =
+    let a = c.args in
+    let all : c.loop-i.i ≡ a.count = omega arith in
+    rw all at c.loop-i.invariant.0

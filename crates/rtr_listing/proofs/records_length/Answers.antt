@@ -1,0 +1,35 @@
+use Prim.Native.Nat.{◌-◌, ◌*◌, ◌≤◌}
+use mathlib.Core.Path.{◌≡◌, sym, ap}
+use native.Mathlib.Numerals.{add-one}
+use native.Mathlib.Omega.{arith}
+use borrow.Author.Rules.{rules}
+use lib.ListN.{length}
+use Rattle.rtr_room.specs.Room.{records}
+use Rattle.rtr_room.specs.declared.Record.{Record}
+use Rattle.rtr_listing.specs.Listing.{record_lines, all_lines}
+use Rattle.rtr_listing.proofs.Lines.{all_none, all-next-length, the-record, never-outside}
+use Rattle.rtr_listing.proofs.records_length.Goals as goal
+
+pub loop-i-init : goal.loop-i-init
+loop-i-init c = (sym (ap length (all_none c.args.live.now)), omega arith, omega arith)
+
+pub returns-in-Outside : goal.returns-in-Outside
+returns-in-Outside c =
+    absurd
+    (never-outside c.args.live.now c.loop-i.i _ (omega arith) c.get.ensures c.in-Outside.is)
+
+pub loop-i-preserved : goal.loop-i-preserved
+loop-i-preserved c =
+    let a = c.args in
+    let l = c.loop-i in
+    let record_is = the-record a.live.now l.i _ _ (omega arith) c.get.ensures c.in-Found.is in
+    let grown = all-next-length l.i a.live.now in (
+      rw add-one (omega (arith, grown, ap (λ (r : Record). length (record_lines r)) record_is)),
+      omega arith,
+      omega arith,
+    )
+
+pub returns : goal.returns
+returns c =
+    let all : c.loop-i.i ≡ c.args.count = omega arith in
+    rw (← all) (c.loop-i.invariant.0, c.loop-i.invariant.2)

@@ -1,0 +1,42 @@
+-- `validate_all`: the refusals in their turn, then every route's state. Assumes nothing.
+use mathlib.Core.Path.{sym, ap, ◌∙◌}
+use borrow.Author.Rules.{rules}
+use borrow.Author.Tests.{not-true, not-false}
+use Rattle.rtr_receiver.specs.History.{has_table}
+use Rattle.rtr_origin.proofs.Answers.{live-room}
+use Rattle.rtr_origin.proofs.PeerAnswers.{shapeless-list, not-in-sixes, untabled-list, short-list, whole-list}
+use Rattle.rtr_origin.proofs.peer.validate_all.Goals as goal
+
+pub returns-then-not-is_receiver : goal.returns-then-not-is_receiver
+returns-then-not-is_receiver c =
+    let a = c.args in
+    shapeless-list a.s.life.limit a.s a.live.now a.working.now a.hold.now a.routes.now a.states.now (sym c.is_receiver.ensures ∙ not-true _ c.if-not-is_receiver.true-raw)
+
+pub returns-then-routes-ne0 : goal.returns-then-routes-ne0
+returns-then-routes-ne0 c =
+    let a = c.args in
+    not-in-sixes a.s.life.limit a.s a.live.now a.working.now a.hold.now a.routes.now a.states.now (sym c.is_receiver.ensures ∙ not-false _ c.if-not-is_receiver.false-raw) c.if-routes-ne0.true
+
+pub returns-then-states-needed : goal.returns-then-states-needed
+returns-then-states-needed c =
+    let a = c.args in
+    let shape = sym c.is_receiver.ensures ∙ not-false _ c.if-not-is_receiver.false-raw in
+    short-list a.s.life.limit a.s a.live.now a.working.now a.hold.now a.routes.now a.states.now shape c.if-routes-ne0.false (ap has_table c.in-Known.is) c.if-states-needed.true
+
+pub fill_states-requires : goal.fill_states-requires
+fill_states-requires c =
+    let a = c.args in
+    let shape = sym c.is_receiver.ensures ∙ not-false _ c.if-not-is_receiver.false-raw in
+    (live-room a.s.life.limit a.s a.live.now a.working.now a.hold.now shape, c.if-states-needed.false)
+
+pub returns-in-NoTable : goal.returns-in-NoTable
+returns-in-NoTable c =
+    let a = c.args in
+    let shape = sym c.is_receiver.ensures ∙ not-false _ c.if-not-is_receiver.false-raw in
+    untabled-list a.s.life.limit a.s a.live.now a.working.now a.hold.now a.routes.now a.states.now shape c.if-routes-ne0.false c.in-NoTable.is
+
+pub returns-else-states-needed : goal.returns-else-states-needed
+returns-else-states-needed c =
+    let a = c.args in
+    let shape = sym c.is_receiver.ensures ∙ not-false _ c.if-not-is_receiver.false-raw in
+    whole-list a.s.life.limit a.s a.live.now a.working.now a.hold.now a.routes.now a.states.now shape c.if-routes-ne0.false (ap has_table c.in-Known.is) _ c.if-states-needed.false c.fill_states.ensures

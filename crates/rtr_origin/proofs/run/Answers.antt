@@ -1,0 +1,103 @@
+use Prim.Native.Nat.{ℕ, ◌-◌, ◌≤◌, ◌<◌}
+use mathlib.Core.Path.{◌≡◌, sym, ap, ◌∙◌}
+use native.Mathlib.Omega.{arith}
+use borrow.Author.Rules.{rules}
+use borrow.Author.Tests.{leb-true}
+use Rattle.rtr_room.specs.Table.{family_of, rank}
+use Rattle.rtr_room.specs.Room.{records, record_at}
+use Rattle.rtr_room.specs.declared.Record.{Record}
+use Rattle.rtr_origin.specs.Origin.{words, agree}
+use Rattle.rtr_origin.specs.Judged.{strength, strongest, probe_of}
+use Rattle.rtr_origin.proofs.Judging.{each_within, strength-within, few-in-common, one-more-from}
+use Rattle.rtr_origin.proofs.Tabled.{size}
+use Rattle.rtr_origin.proofs.Engine.{run_ends}
+use Rattle.rtr_origin.proofs.run.Goals as goal
+
+pub rank_of-i-requires : goal.rank_of-i-requires
+rank_of-i-requires c = c.requires.0
+
+pub loop-i-init : goal.loop-i-init
+loop-i-init c =
+    let a = c.args in (
+      c.rank_of-i.ensures.0 ∙ ap (λ (r : Record). rank r (records a.count a.live.now)) c.probe.ensures,
+      omega arith,
+      λ j l m. absurd (omega arith),
+      omega arith,
+    )
+
+pub record_of-x-requires : goal.record_of-x-requires
+record_of-x-requires c = (let a = c.args in omega (arith, size a.live.now a.count c.requires.0))
+
+pub returns-then-family : goal.returns-then-family
+returns-then-family c =
+    let a = c.args in
+    let at-loop = c.loop-i in
+    record {
+      there = at-loop.invariant.3;
+      all-loose = λ q least k u m l e.
+          run_ends a.live.now a.count c.requires.0 q a.a k least a.loose u c.requires.1 _ at-loop.i at-loop.best at-loop.invariant.0 at-loop.invariant.2 m l e at-loop.invariant.1
+          (λ n f g. c.if-family.true (c.family.ensures ∙ ap family_of c.record_of-x.ensures ∙ f ∙ sym c.family-in-loop-i.ensures));
+    }
+
+pub returns-then-bits-loose : goal.returns-then-bits-loose
+returns-then-bits-loose c =
+    let a = c.args in
+    let at-loop = c.loop-i in
+    record {
+      there = at-loop.invariant.3;
+      all-loose = λ q least k u m l e.
+          run_ends a.live.now a.count c.requires.0 q a.a k least a.loose u c.requires.1 _ at-loop.i at-loop.best at-loop.invariant.0 at-loop.invariant.2 m l e at-loop.invariant.1
+          (λ n f g.
+          omega (
+            arith,
+            c.if-bits-loose.true,
+            leb-true a.loose c.common-bits.result (sym (c.common-bits.ensures.exactly a.loose c.requires.1)
+                ∙ ap (λ (x : Record). agree a.loose (words x) (words a.a)) c.record_of-x.ensures ∙ g),
+          ));
+    }
+
+pub loop-i-preserved-then-prefix_length-bits : goal.loop-i-preserved-then-prefix_length-bits
+loop-i-preserved-then-prefix_length-bits c =
+    let at-loop = c.loop-i in
+    let a = c.args in
+    let none = few-in-common a.a _ _ _ c.common-bits.ensures c.prefix_length.ensures c.if-prefix_length-bits.true ∙ ap (strength a.a) c.record_of-x.ensures in (
+      at-loop.invariant.0,
+      omega (arith, at-loop.invariant.1),
+      one-more-from (λ k. strength a.a (record_at a.live.now k)) _ at-loop.i at-loop.best at-loop.best at-loop.invariant.2 (omega arith) (omega (arith, none)),
+      at-loop.invariant.3,
+    )
+
+pub judge_alike-more-requires : goal.judge_alike-more-requires
+judge_alike-more-requires c = (sym c.family.ensures ∙ c.if-family.false ∙ c.family-in-loop-i.ensures, c.common-bits.ensures)
+
+pub returns-then-more-eq2 : goal.returns-then-more-eq2
+returns-then-more-eq2 c =
+    let a = c.args in
+    let at-loop = c.loop-i in
+    let told = c.judge_alike-more.ensures ∙ ap (strength a.a) c.record_of-x.ensures in
+    record {
+      there = omega (arith, told, c.if-more-eq2.true, each_within a.a a.live.now a.count at-loop.i (omega arith));
+      all-loose = λ q least k u m l e. strength-within a.a (record_at a.live.now m);
+    }
+
+pub loop-i-preserved : goal.loop-i-preserved
+loop-i-preserved c =
+    let a = c.args in
+    let at-loop = c.loop-i in
+    let told = c.judge_alike-more.ensures ∙ ap (strength a.a) c.record_of-x.ensures in (
+      at-loop.invariant.0,
+      omega (arith, at-loop.invariant.1),
+      one-more-from (λ k. strength a.a (record_at a.live.now k)) _ at-loop.i at-loop.best c.higher-best.result at-loop.invariant.2 c.higher-best.ensures.0 (omega (arith, told, c.higher-best.ensures.1)),
+      c.higher-best.ensures.2 _ at-loop.invariant.3 (omega (arith, told, each_within a.a a.live.now a.count at-loop.i (omega arith))),
+    )
+
+pub returns : goal.returns
+returns c =
+    let a = c.args in
+    let at-loop = c.loop-i in
+    record {
+      there = at-loop.invariant.3;
+      all-loose = λ q least k u m l e.
+          run_ends a.live.now a.count c.requires.0 q a.a k least a.loose u c.requires.1 _ at-loop.i at-loop.best at-loop.invariant.0 at-loop.invariant.2 m l e at-loop.invariant.1
+          (λ n f g. omega (arith, c.loop-i-test.false));
+    }

@@ -1,0 +1,25 @@
+-- `validate_by_scan`: the refusals, then the state of the strongest record. Assumes nothing.
+use mathlib.Core.Path.{ap, ◌∙◌}
+use Rattle.rtr_receiver.specs.Contents.{contents}
+use Rattle.rtr_origin.specs.Promises.RouteSays.{state}
+use Rattle.rtr_origin.proofs.Answers.{shut-is, open_is, live-room, as-named}
+use Rattle.rtr_origin.proofs.Tabled.{size}
+use borrow.Author.Rules.{rules}
+use Rattle.rtr_origin.proofs.validate_by_scan.Goals as goal
+
+pub scan-requires : goal.scan-requires
+scan-requires c =
+    let a = c.args in
+    size a.live.now a.s.live.records (live-room a.s.life.limit a.s a.live.now a.working.now a.hold.now (open_is a.s.life.limit a.s a.live.now a.working.now a.hold.now a.q _ c.in-Open.is c.barred.ensures).0)
+
+pub returns-in-Shut : goal.returns-in-Shut
+returns-in-Shut c =
+    let a = c.args in
+    shut-is a.s.life.limit a.s a.live.now a.working.now a.hold.now a.q _ _ c.in-Shut.is c.barred.ensures
+
+pub returns-in-Open : goal.returns-in-Open
+returns-in-Open c =
+    let a = c.args in
+    let t = c.as_record in
+    ap state (as-named a.q t.result t.ensures.0 t.ensures.1 (contents a.s.live a.live.now) _ _ c.name.ensures c.scan.ensures)
+    ∙ (open_is a.s.life.limit a.s a.live.now a.working.now a.hold.now a.q _ c.in-Open.is c.barred.ensures).1
