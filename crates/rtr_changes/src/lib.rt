@@ -1,5 +1,6 @@
 // What changed between two tables, each in its room: place after place, the records of one that do not stand in the other. Any numbers and counts are taken.
 #![tactic(auto)]
+
 ghost use Rattle.std.specs.Prelude.{◌+◌, ◌*◌, ◌≤◌, ◌≡◌, length};
 ghost use Rattle.rtr_room.specs.Room.{record_at, stands, limit_of};
 ghost use Rattle.rtr_changes.specs.Changes.{next_only, only_said, only_number};

@@ -1,6 +1,7 @@
 // The listing of a table as lines of text: a head (the stop, and what the last End of Data said) and five lines for each record. Every call takes
 // every input; a refusal writes nothing, and bytes after what is written stay.
 #![tactic(auto)]
+
 ghost use Rattle.std.specs.Prelude.{◌≡◌, ◌+◌, ◌*◌, ◌≤◌, ◌<◌, length};
 ghost use Rattle.rtr_encode.specs.Answers.{number_of};
 ghost use Rattle.rtr_room.specs.Room.{records};

@@ -1,6 +1,7 @@
 // Session records as plain numbers, both ways, for a host that has no Rattle types: 24 numbers are a session, five are what a table says. What is
 // read back is written again and compared, so numbers that are nobody's are told from every other. PDUs: rtr_pdu_numbers.
 #![tactic(auto)]
+
 ghost use Rattle.std.specs.Prelude.{cond, ◌≡◌, ◌%◌, ◌≤◌, eqb, length, get_or};
 ghost use Rattle.rtr_codec.specs.Answers.{refusal};
 ghost use Rattle.rtr_stream.specs.Search.{stream_refusal};

@@ -1,5 +1,6 @@
 // Whether a route is good: its RFC 6811 state by the live table. Two calls with one promise: a scan, and one that uses the table's order; a third, for a list of routes, is in peer.rt.
 #![tactic(auto)]
+
 use rtr_models::Ipv6Addr;
 use rtr_receiver::{LiveTable, Session, is_receiver};
 use rtr_room::{LookUp, Record, look_up};

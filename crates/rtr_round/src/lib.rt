@@ -1,6 +1,7 @@
 // Demand 2 of the calls. Reading and encoding undo each other, and where they do not: proofs/RoundTrip has it of the definitions, and the functions below make the calls on lent memory, so that
 // proofs/Calls can say it of what the calls leave. No crate calls them.
 #![tactic(auto)]
+
 ghost use Rattle.rtr_round.specs.Calls.{Recoded, Sent};
 
 use rtr_codec::{ReadAnswer, RtrError, parse_rtr_pdu};

@@ -2,6 +2,7 @@
 // held side by side. They are in Rattle so that the compiler sees call and caller at once, as it does the Rust's; the receiver's loops are C (bench/ours.c). Proved
 // safe and ending; it promises nothing of its sums, which the bench compares.
 #![tactic(auto)]
+
 use rtr_codec::{ReadAnswer, parse_rtr_pdu};
 use rtr_encode::{EncodeAnswer, encode};
 use rtr_models::*;

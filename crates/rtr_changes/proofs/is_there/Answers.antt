@@ -1,9 +1,5 @@
 -- `is_there`: the count is within the numbers, so the look_up says whether the record stands there. Assumes nothing.
-use mathlib.Core.Path.{◌≡◌}
-use borrow.Author.Rules.{rules}
-use Rattle.rtr_room.specs.Room.{stands, found}
-use Rattle.rtr_room.specs.declared.LookUp.{LookUp}
-use Rattle.rtr_changes.proofs.Asking.{is_there, there-told}
+use Rattle.rtr_changes.proofs.Asking.{there-told}
 use Rattle.rtr_changes.proofs.is_there.Goals as goal
 
 pub returns-in-At : goal.returns-in-At

@@ -1,10 +1,8 @@
-use Prim.Native.Nat.{ℕ, ◌-◌}
+use Prim.Native.Nat.{ℕ}
 use mathlib.Core.List.{List}
 use mathlib.Core.Path.{◌≡◌, sym, ap, ◌∙◌}
-use native.Mathlib.Omega.{arith}
 use borrow.Author.Tests.{not-true, not-false}
 use Rattle.rtr_room.specs.Room.{record_at, stands}
-use Rattle.rtr_changes.specs.Changes.{first_only, next_only}
 use Rattle.rtr_changes.proofs.Places.{over_first, over-second, starts, goes_on, finds, ends}
 use Rattle.rtr_changes.proofs.next_only.Goals as goal
 

@@ -1,12 +1,7 @@
 -- `next_only`: at the loop's head what is found from place i on is what is to be found. The measure is how many places are left. Assumes nothing.
-use Prim.Native.Nat.{ℕ, ◌-◌}
-use mathlib.Core.List.{List}
-use mathlib.Core.Path.{◌≡◌, sym, ap, ◌∙◌}
-use native.Mathlib.Omega.{arith}
-use borrow.Author.Tests.{not-true, not-false}
-use Rattle.rtr_room.specs.Room.{record_at, stands}
+use Prim.Native.Nat.{◌-◌}
+use mathlib.Core.Path.{◌≡◌}
 use Rattle.rtr_changes.specs.Changes.{first_only, next_only}
-use Rattle.rtr_changes.proofs.Places.{over_first, over-second, starts, goes_on, finds, ends}
 use Rattle.rtr_changes.proofs.next_only.Given as goal
 
 abbrev pub invariant-loop-i : goal.invariant-loop-i

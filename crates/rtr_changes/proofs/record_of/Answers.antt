@@ -1,9 +1,6 @@
 -- `record_of`: the six numbers are all there, so the record is found. Assumes nothing.
-use mathlib.Core.Path.{◌≡◌, ◌∙◌}
-use borrow.Author.Rules.{rules}
-use Rattle.rtr_room.specs.Room.{record_at}
-use Rattle.rtr_room.specs.declared.RecordFound.{RecordFound}
-use Rattle.rtr_changes.proofs.Asking.{record_in, record-told}
+use mathlib.Core.Path.{◌∙◌}
+use Rattle.rtr_changes.proofs.Asking.{record-told}
 use Rattle.rtr_changes.proofs.record_of.Goals as goal
 
 pub returns-in-Found : goal.returns-in-Found

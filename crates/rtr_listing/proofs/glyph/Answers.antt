@@ -1,5 +1,4 @@
 -- `glyph`: by the test of the digit. Assumes nothing.
-use borrow.Author.Rules.{rules}
 use borrow.Author.Tests.{lt-ltb, le-ltb}
 use Rattle.rtr_listing.proofs.glyph.Goals as goal
 

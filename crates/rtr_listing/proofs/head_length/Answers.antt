@@ -1,6 +1,5 @@
 -- `head_length`: the lines written aside say how long they are. Assumes nothing.
 use native.Mathlib.Omega.{arith}
-use borrow.Author.Rules.{rules}
 use Rattle.rtr_listing.proofs.Lines.{head-at-most}
 use Rattle.rtr_listing.proofs.head_length.Goals as goal
 

@@ -1,6 +1,5 @@
 -- `head_lines` refuses by 9 where the output is shorter than the lines, else it writes them at the front. Assumes nothing.
 use mathlib.Core.Path.{sym, ap, ◌∙◌}
-use borrow.Author.Rules.{rules}
 use Rattle.rtr_listing.specs.Listing.{head_lines}
 use Rattle.rtr_listing.specs.Promises.{puts}
 use Rattle.rtr_listing.specs.declared.Head.{Head}

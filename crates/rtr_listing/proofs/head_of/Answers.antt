@@ -1,5 +1,4 @@
 -- `head_of`: the stop's number is the phase's; the rest is taken from the session. Assumes nothing.
-use borrow.Author.Rules.{rules}
 use Rattle.rtr_listing.proofs.head_of.Goals as goal
 
 pub returns : goal.returns

@@ -1,6 +1,5 @@
 -- `is_listed`: a limit that no receiver may have is refused first; with a table, or without a record, the room rules decide. Assumes nothing.
 use mathlib.Core.Path.{sym, ◌∙◌}
-use borrow.Author.Rules.{rules}
 use Rattle.rtr_listing.proofs.Calls.{fails, holds, own-limit, not-own-limit, other-limit, by-rules, by-rules-empty, without-table}
 use Rattle.rtr_listing.proofs.is_listed.Goals as goal
 

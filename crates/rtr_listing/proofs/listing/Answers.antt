@@ -1,7 +1,6 @@
 -- `listing` adds up what the head and the records need, refuses by 22 and by 9, and else writes the head and then the records. Assumes nothing.
 use mathlib.Core.Path.{ap, ◌∙◌}
 use native.Mathlib.Omega.{arith}
-use borrow.Author.Rules.{rules}
 use mathlib.Core.List.{◌++◌}
 use lib.ListN.{length-append}
 use Rattle.rtr_room.specs.Room.{records}

@@ -8,7 +8,6 @@ use Rattle.rtr_listing.specs.Listing.{places, decimal, line_of}
 use Rattle.rtr_listing.proofs.Calls.{too_short, wrote}
 use Rattle.rtr_listing.proofs.Digits.{digits-length, places-at-most}
 use Rattle.rtr_listing.proofs.Lines.{line-length}
-use borrow.Author.Rules.{rules}
 use Rattle.rtr_listing.proofs.number_line.Goals as goal
 
 -- so many bytes are needed

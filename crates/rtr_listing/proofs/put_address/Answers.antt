@@ -1,7 +1,6 @@
 -- `put_address`: the first number alone in family 4, else all four, one behind the other. Assumes nothing.
 use mathlib.Core.Path.{sym, ◌∙◌}
 use native.Mathlib.Omega.{arith}
-use borrow.Author.Rules.{rules}
 use Rattle.rtr_listing.proofs.Puts.{put_then}
 use Rattle.rtr_listing.proofs.Digits.{digits-length}
 use Rattle.rtr_listing.proofs.Lines.{four-address, four-length, other-address, other_length}

@@ -1,6 +1,5 @@
 -- `put_address_line`: the name, the address and the line feed, one behind the other. Assumes nothing.
 use native.Mathlib.Omega.{arith}
-use borrow.Author.Rules.{rules}
 use Rattle.rtr_listing.specs.Listing.{address_of, line_of}
 use Rattle.rtr_listing.proofs.Puts.{put_then}
 use Rattle.rtr_listing.proofs.Lines.{line-length}

@@ -1,6 +1,5 @@
 -- `put_counted`: the name, the digits and the line feed, one behind the other. Assumes nothing.
 use native.Mathlib.Omega.{arith}
-use borrow.Author.Rules.{rules}
 use Rattle.rtr_listing.specs.Listing.{digits, line_of}
 use Rattle.rtr_listing.proofs.Puts.{put_then}
 use Rattle.rtr_listing.proofs.Digits.{digits-length}

@@ -1,8 +1,8 @@
-use Prim.Native.Nat.{ℕ, suc, ◌+◌, ◌-◌, ◌/◌, ◌≤◌}
+use Prim.Native.Nat.{ℕ, suc, ◌+◌, ◌-◌, ◌/◌}
 use mathlib.Core.Path.{◌≡◌, refl, sym, ap, ◌∙◌}
 use native.Mathlib.Nat.{mod-lt}
 use native.Mathlib.Omega.{arith}
-use lib.ListN.{length, set, length-set}
+use lib.ListN.{set, length-set}
 use Rattle.rtr_base.specs.Over.{over}
 use Rattle.rtr_listing.specs.Listing.{digits}
 use Rattle.rtr_listing.proofs.Digits.{digits-length, digits_more, digits-done}

@@ -1,13 +1,10 @@
 -- `put_digits` writes the last digit first: at the loop's head i digits of `rest` are still to be written, and with them the output is the one
 -- that is promised. The measure is i. Assumes nothing.
-use Prim.Native.Nat.{ℕ, suc, ◌+◌, ◌-◌, ◌/◌, ◌≤◌}
-use mathlib.Core.Path.{◌≡◌, refl, sym, ap, ◌∙◌}
-use native.Mathlib.Nat.{mod-lt}
-use native.Mathlib.Omega.{arith}
-use lib.ListN.{length, set, length-set}
+use Prim.Native.Nat.{◌≤◌}
+use mathlib.Core.Path.{◌≡◌}
+use lib.ListN.{length}
 use Rattle.rtr_base.specs.Over.{over}
 use Rattle.rtr_listing.specs.Listing.{digits}
-use Rattle.rtr_listing.proofs.Digits.{digits-length, digits_more, digits-done}
 use Rattle.rtr_listing.proofs.put_digits.Given as goal
 
 abbrev pub invariant-loop-i : goal.invariant-loop-i

@@ -1,7 +1,6 @@
 -- `put_head`: the stop's line, and behind it the table's lines or that there is none. Assumes nothing.
 use mathlib.Core.Path.{ap}
 use native.Mathlib.Omega.{arith}
-use borrow.Author.Rules.{rules}
 use lib.ListN.{length}
 use Rattle.rtr_receiver.specs.declared.LiveTable.{LiveTable}
 use Rattle.rtr_listing.specs.Listing.{table_lines, head_lines}

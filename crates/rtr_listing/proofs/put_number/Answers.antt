@@ -1,5 +1,4 @@
 -- `put_number`: as many digits as the number has. Assumes nothing.
-use borrow.Author.Rules.{rules}
 use Rattle.rtr_listing.proofs.put_number.Goals as goal
 
 pub put_counted-requires : goal.put_counted-requires

@@ -1,6 +1,5 @@
 -- `put_record`: the five lines, one behind the other. Assumes nothing.
 use native.Mathlib.Omega.{arith}
-use borrow.Author.Rules.{rules}
 use Rattle.rtr_listing.specs.Listing.{text, record_lines}
 use Rattle.rtr_listing.proofs.Puts.{put_then}
 use Rattle.rtr_listing.proofs.Lines.{same_number, record-length}

@@ -1,14 +1,11 @@
-use Prim.Native.Nat.{◌-◌, ◌≤◌}
 use mathlib.Core.List.{◌++◌}
 use mathlib.Core.Path.{◌≡◌, refl, sym, ap, ◌∙◌}
 use native.Mathlib.Numerals.{add-one}
 use native.Mathlib.Omega.{arith}
-use borrow.Author.Rules.{rules}
 use lib.ListN.{length}
 use Rattle.rtr_room.specs.Room.{records}
 use Rattle.rtr_room.specs.declared.Record.{Record}
 use Rattle.rtr_listing.specs.Listing.{record_lines, all_lines}
-use Rattle.rtr_listing.specs.Private.{Put}
 use Rattle.rtr_listing.proofs.Puts.{put-nothing, put_then}
 use Rattle.rtr_listing.proofs.Lines.{all_none, all-next, next-within, the-record, never-outside}
 use Rattle.rtr_listing.proofs.put_records.Goals as goal

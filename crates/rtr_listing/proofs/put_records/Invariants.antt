@@ -1,18 +1,11 @@
 -- `put_records`: at the loop's head the lines of the first i records are written, and `next` is behind them. The measure is how many records are
 -- left. Each is in the room, so the way out in the middle is never taken. Assumes nothing.
 use Prim.Native.Nat.{◌-◌, ◌≤◌}
-use mathlib.Core.List.{◌++◌}
-use mathlib.Core.Path.{◌≡◌, refl, sym, ap, ◌∙◌}
-use native.Mathlib.Numerals.{add-one}
-use native.Mathlib.Omega.{arith}
-use borrow.Author.Rules.{rules}
+use mathlib.Core.Path.{◌≡◌}
 use lib.ListN.{length}
 use Rattle.rtr_room.specs.Room.{records}
-use Rattle.rtr_room.specs.declared.Record.{Record}
-use Rattle.rtr_listing.specs.Listing.{record_lines, all_lines}
+use Rattle.rtr_listing.specs.Listing.{all_lines}
 use Rattle.rtr_listing.specs.Private.{Put}
-use Rattle.rtr_listing.proofs.Puts.{put-nothing, put_then}
-use Rattle.rtr_listing.proofs.Lines.{all_none, all-next, next-within, the-record, never-outside}
 use Rattle.rtr_listing.proofs.put_records.Given as goal
 
 abbrev pub invariant-loop-i : goal.invariant-loop-i

@@ -1,8 +1,7 @@
 -- `put_table`: the six lines, one behind the other. Assumes nothing.
 use native.Mathlib.Omega.{arith}
-use borrow.Author.Rules.{rules}
 use Rattle.rtr_listing.specs.Listing.{field_lines, table_lines}
-use Rattle.rtr_listing.proofs.Puts.{put_then, put_keeps}
+use Rattle.rtr_listing.proofs.Puts.{put_then}
 use Rattle.rtr_listing.proofs.Lines.{table-length}
 use Rattle.rtr_listing.proofs.put_table.Goals as goal
 

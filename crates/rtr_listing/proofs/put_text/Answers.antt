@@ -1,8 +1,6 @@
-use Prim.Native.Nat.{◌≤◌, ◌-◌}
-use mathlib.Core.Path.{◌≡◌}
 use native.Mathlib.Omega.{arith}
-use lib.ListN.{length, length-set}
-use lib.Seq.{paste, paste-zero}
+use lib.ListN.{length-set}
+use lib.Seq.{paste-zero}
 use Rattle.rtr_base.proofs.Copies.{copied-one-more}
 use Rattle.rtr_base.proofs.Overs.{copied-whole}
 use Rattle.rtr_listing.proofs.put_text.Goals as goal

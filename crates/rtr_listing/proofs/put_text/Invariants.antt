@@ -2,11 +2,8 @@
 -- left of the text. Assumes nothing.
 use Prim.Native.Nat.{◌≤◌, ◌-◌}
 use mathlib.Core.Path.{◌≡◌}
-use native.Mathlib.Omega.{arith}
-use lib.ListN.{length, length-set}
-use lib.Seq.{paste, paste-zero}
-use Rattle.rtr_base.proofs.Copies.{copied-one-more}
-use Rattle.rtr_base.proofs.Overs.{copied-whole}
+use lib.ListN.{length}
+use lib.Seq.{paste}
 use Rattle.rtr_listing.proofs.put_text.Given as goal
 
 abbrev pub invariant-loop-i : goal.invariant-loop-i

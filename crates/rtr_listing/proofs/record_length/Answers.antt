@@ -1,6 +1,5 @@
 -- `record_length`: the lines written aside say how long they are. Assumes nothing.
 use native.Mathlib.Omega.{arith}
-use borrow.Author.Rules.{rules}
 use Rattle.rtr_listing.proofs.Lines.{record-at-most}
 use Rattle.rtr_listing.proofs.record_length.Goals as goal
 

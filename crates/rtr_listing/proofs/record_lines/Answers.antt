@@ -1,6 +1,5 @@
 -- `record_lines` refuses by 9 where the output is shorter than the lines, else it writes them at the front. Assumes nothing.
 use mathlib.Core.Path.{sym}
-use borrow.Author.Rules.{rules}
 use Rattle.rtr_listing.specs.Listing.{record_lines}
 use Rattle.rtr_listing.proofs.Calls.{too_short, wrote}
 use Rattle.rtr_listing.proofs.record_lines.Goals as goal

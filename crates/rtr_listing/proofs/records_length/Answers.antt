@@ -1,12 +1,9 @@
-use Prim.Native.Nat.{◌-◌, ◌*◌, ◌≤◌}
 use mathlib.Core.Path.{◌≡◌, sym, ap}
 use native.Mathlib.Numerals.{add-one}
 use native.Mathlib.Omega.{arith}
-use borrow.Author.Rules.{rules}
 use lib.ListN.{length}
-use Rattle.rtr_room.specs.Room.{records}
 use Rattle.rtr_room.specs.declared.Record.{Record}
-use Rattle.rtr_listing.specs.Listing.{record_lines, all_lines}
+use Rattle.rtr_listing.specs.Listing.{record_lines}
 use Rattle.rtr_listing.proofs.Lines.{all_none, all-next-length, the-record, never-outside}
 use Rattle.rtr_listing.proofs.records_length.Goals as goal
 

@@ -1,15 +1,10 @@
 -- `records_length`: at the loop's head `sum` is the length of the first i records' lines. The measure is how many records are left. Each is in the
 -- room, so the way out in the middle is never taken. Assumes nothing.
 use Prim.Native.Nat.{◌-◌, ◌*◌, ◌≤◌}
-use mathlib.Core.Path.{◌≡◌, sym, ap}
-use native.Mathlib.Numerals.{add-one}
-use native.Mathlib.Omega.{arith}
-use borrow.Author.Rules.{rules}
+use mathlib.Core.Path.{◌≡◌}
 use lib.ListN.{length}
 use Rattle.rtr_room.specs.Room.{records}
-use Rattle.rtr_room.specs.declared.Record.{Record}
-use Rattle.rtr_listing.specs.Listing.{record_lines, all_lines}
-use Rattle.rtr_listing.proofs.Lines.{all_none, all-next-length, the-record, never-outside}
+use Rattle.rtr_listing.specs.Listing.{all_lines}
 use Rattle.rtr_listing.proofs.records_length.Given as goal
 
 abbrev pub invariant-loop-i : goal.invariant-loop-i

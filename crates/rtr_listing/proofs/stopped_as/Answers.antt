@@ -1,6 +1,5 @@
 -- `stopped_as`: the number of the stop, and 0 in the other phases. Assumes nothing.
 use mathlib.Core.Path.{sym}
-use borrow.Author.Rules.{rules}
 use Rattle.rtr_listing.proofs.Calls.{not_stopped}
 use borrow.Enum.Refused.{opened}
 use Rattle.rtr_listing.proofs.stopped_as.Goals as goal

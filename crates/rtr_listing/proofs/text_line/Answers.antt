@@ -4,7 +4,6 @@ use Rattle.rtr_listing.specs.Listing.{line_of}
 use Rattle.rtr_listing.proofs.Calls.{too_short, wrote}
 use Rattle.rtr_listing.proofs.Lines.{line-length}
 use Rattle.rtr_listing.proofs.Puts.{put_then}
-use borrow.Author.Rules.{rules}
 use Rattle.rtr_listing.proofs.text_line.Goals as goal
 
 pub returns-then-out-needed : goal.returns-then-out-needed

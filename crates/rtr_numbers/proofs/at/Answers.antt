@@ -1,7 +1,6 @@
 -- `at` gives the number there, or 0 behind the end. Assumes nothing.
 use mathlib.Core.Path.{sym}
 use lib.ListN.{get_or-eq_default}
-use borrow.Author.Rules.{rules}
 use Rattle.rtr_numbers.proofs.at.Goals as goal
 
 pub returns : goal.returns

@@ -1,5 +1,4 @@
 -- `error_numbers` goes by the refusal. Assumes nothing.
-use borrow.Author.Rules.{rules}
 use Rattle.rtr_numbers.proofs.error_numbers.Goals as goal
 
 pub returns-in-IncompletePdu : goal.returns-in-IncompletePdu

@@ -6,7 +6,6 @@ use Rattle.rtr_codec.specs.Answers.{refusal}
 use Rattle.rtr_numbers.specs.Numbers.{value_of}
 use Rattle.rtr_numbers.specs.declared.PhaseNumbers.{PhaseNumbers}
 use Rattle.rtr_numbers.proofs.Values.{stop-value, no-more-values}
-use borrow.Author.Rules.{rules}
 use Rattle.rtr_numbers.proofs.error_value.Goals as goal
 
 pub returns-in-0 : goal.returns-in-0

@@ -1,12 +1,7 @@
 -- `is_alike` compares the lengths, then number by number: at the loop's head those before i are the same. The measure is what is left. Assumes nothing.
 use Prim.Native.Nat.{ℕ, ◌≤◌, ◌<◌, ◌-◌}
-use mathlib.Core.Path.{◌≡◌, ap}
-use native.Mathlib.Omega.{arith}
-use borrow.Author.Count.{below_more}
-use mathlib.Core.List.{List}
+use mathlib.Core.Path.{◌≡◌}
 use lib.ListN.{length, get_or}
-use lib.Seq.{ext_get_or}
-use Rattle.rtr_numbers.proofs.Lists.{alike_of, alike-not}
 use Rattle.rtr_numbers.proofs.is_alike.Given as goal
 
 abbrev pub invariant-loop-i : goal.invariant-loop-i

@@ -2,7 +2,6 @@
 use mathlib.Core.Path.{sym, ap, ◌∙◌}
 use Rattle.rtr_models.specs.Codes.{code_found}
 use Rattle.rtr_numbers.specs.Back.{code_or}
-use borrow.Author.Rules.{rules}
 use Rattle.rtr_numbers.proofs.loose_code.Goals as goal
 
 pub returns-in-Known : goal.returns-in-Known

@@ -1,7 +1,6 @@
 -- `loose_error` goes by the number. Assumes nothing.
 use borrow.Author.Tests.{ne_eqb}
 use Rattle.rtr_numbers.specs.Back.{loose_error}
-use borrow.Author.Rules.{rules}
 use Rattle.rtr_numbers.proofs.loose_error.Goals as goal
 
 pub returns-in-1 : goal.returns-in-1

@@ -2,7 +2,6 @@
 use mathlib.Core.Path.{sym, ◌∙◌}
 use borrow.Author.Tests.{eq-eqb, ne_eqb}
 use Rattle.rtr_numbers.specs.Back.{loose_note}
-use borrow.Author.Rules.{rules}
 use Rattle.rtr_numbers.proofs.loose_note.Goals as goal
 
 pub returns-then-at-eq0 : goal.returns-then-at-eq0

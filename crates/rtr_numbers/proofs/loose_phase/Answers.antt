@@ -2,7 +2,6 @@
 use mathlib.Core.Path.{sym, ◌∙◌}
 use borrow.Author.Tests.{ne_eqb}
 use Rattle.rtr_numbers.specs.Back.{loose_phase}
-use borrow.Author.Rules.{rules}
 use Rattle.rtr_numbers.proofs.loose_phase.Goals as goal
 
 pub returns-in-0 : goal.returns-in-0

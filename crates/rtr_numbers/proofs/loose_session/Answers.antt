@@ -1,7 +1,6 @@
 -- `loose_session` guesses part by part. Assumes nothing.
 use mathlib.Core.Path.{ap, ◌∙◌}
 use Rattle.rtr_numbers.specs.Back.{loose_version, loose_session}
-use borrow.Author.Rules.{rules}
 use Rattle.rtr_numbers.proofs.loose_session.Goals as goal
 
 pub returns : goal.returns

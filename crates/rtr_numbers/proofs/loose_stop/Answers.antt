@@ -1,7 +1,6 @@
 -- `loose_stop` goes by the number. Assumes nothing.
 use borrow.Author.Tests.{ne_eqb}
 use Rattle.rtr_numbers.specs.Back.{loose_stop}
-use borrow.Author.Rules.{rules}
 use Rattle.rtr_numbers.proofs.loose_stop.Goals as goal
 
 pub returns-in-12 : goal.returns-in-12

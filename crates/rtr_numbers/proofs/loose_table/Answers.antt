@@ -3,7 +3,6 @@ use mathlib.Core.Path.{sym, ap, ◌∙◌}
 use borrow.Author.Tests.{eq-eqb, ne_eqb}
 use Rattle.rtr_receiver.specs.declared.LiveTable.{LiveTable}
 use Rattle.rtr_numbers.specs.Back.{loose_table}
-use borrow.Author.Rules.{rules}
 use Rattle.rtr_numbers.proofs.loose_table.Goals as goal
 
 pub returns-then-at-eq0 : goal.returns-then-at-eq0

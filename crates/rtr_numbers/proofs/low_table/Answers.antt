@@ -1,5 +1,4 @@
 -- `low_table` takes each number by its remainder. Assumes nothing.
-use borrow.Author.Rules.{rules}
 use Rattle.rtr_numbers.proofs.low_table.Goals as goal
 
 pub returns : goal.returns

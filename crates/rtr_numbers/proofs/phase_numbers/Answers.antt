@@ -1,5 +1,4 @@
 -- `phase_numbers` goes by the phase. Assumes nothing.
-use borrow.Author.Rules.{rules}
 use Rattle.rtr_numbers.proofs.phase_numbers.Goals as goal
 
 pub returns-in-Idle : goal.returns-in-Idle

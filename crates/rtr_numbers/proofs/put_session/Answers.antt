@@ -4,7 +4,6 @@ use Rattle.rtr_numbers.proofs.Owned.{session-owned}
 use Rattle.rtr_numbers.proofs.Laws.{set-reads-back}
 use Rattle.rtr_numbers.specs.Numbers.{session_size, numbers_of}
 use mathlib.Core.Path.{refl}
-use borrow.Author.Rules.{rules}
 use Rattle.rtr_numbers.proofs.put_session.Goals as goal
 
 pub returns : goal.returns

@@ -4,7 +4,6 @@ use mathlib.Core.List.{[], ◌∷◌}
 use Rattle.rtr_receiver.specs.declared.Table.{Table}
 use Rattle.rtr_numbers.specs.Numbers.{numbers_of}
 use Rattle.rtr_numbers.specs.declared.PhaseNumbers.{PhaseNumbers}
-use borrow.Author.Rules.{rules}
 use Rattle.rtr_numbers.proofs.session_numbers.Goals as goal
 
 pub returns : goal.returns

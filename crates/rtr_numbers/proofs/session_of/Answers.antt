@@ -4,7 +4,6 @@ use Rattle.rtr_numbers.specs.Numbers.{session_numbers}
 use Rattle.rtr_numbers.specs.Back.{session_if}
 use Rattle.rtr_numbers.specs.declared.SessionFound.{SessionFound}
 use Rattle.rtr_numbers.proofs.Founds.{guess-by-test}
-use borrow.Author.Rules.{rules}
 use Rattle.rtr_numbers.proofs.session_of.Goals as goal
 
 pub returns-then-is_alike : goal.returns-then-is_alike

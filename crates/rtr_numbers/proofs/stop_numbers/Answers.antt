@@ -1,5 +1,4 @@
 -- `stop_numbers` goes by the stop. Assumes nothing.
-use borrow.Author.Rules.{rules}
 use Rattle.rtr_numbers.proofs.stop_numbers.Goals as goal
 
 pub returns-in-Stream : goal.returns-in-Stream

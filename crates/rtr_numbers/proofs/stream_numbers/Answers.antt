@@ -1,5 +1,4 @@
 -- `stream_numbers` goes by the refusal. Assumes nothing.
-use borrow.Author.Rules.{rules}
 use Rattle.rtr_numbers.proofs.stream_numbers.Goals as goal
 
 pub returns-in-Read : goal.returns-in-Read

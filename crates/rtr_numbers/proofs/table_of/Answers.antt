@@ -4,7 +4,6 @@ use Rattle.rtr_numbers.specs.Numbers.{table_numbers_of}
 use Rattle.rtr_numbers.specs.Back.{table_if}
 use Rattle.rtr_numbers.specs.declared.TableFound.{TableFound}
 use Rattle.rtr_numbers.proofs.Founds.{guess-by-test}
-use borrow.Author.Rules.{rules}
 use Rattle.rtr_numbers.proofs.table_of.Goals as goal
 
 pub returns-then-is_alike : goal.returns-then-is_alike

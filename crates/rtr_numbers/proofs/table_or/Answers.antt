@@ -1,7 +1,6 @@
 -- `table_or` goes by the case. Assumes nothing.
 use mathlib.Core.Path.{sym, ap}
 use Rattle.rtr_numbers.specs.Numbers.{table_or}
-use borrow.Author.Rules.{rules}
 use Rattle.rtr_numbers.proofs.table_or.Goals as goal
 
 pub returns-in-NoTable : goal.returns-in-NoTable

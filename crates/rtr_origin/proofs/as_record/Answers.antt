@@ -1,7 +1,6 @@
 -- `as_record`: each family has its first number, and the length is a byte. Assumes nothing.
 use native.Mathlib.Omega.{arith}
 use Rattle.rtr_origin.proofs.Judging.{target-four, target-six}
-use borrow.Author.Rules.{rules}
 use Rattle.rtr_origin.proofs.as_record.Goals as goal
 
 pub returns-in-IPv4 : goal.returns-in-IPv4

@@ -3,7 +3,6 @@ use mathlib.Core.Path.{sym, ap, ◌∙◌}
 use borrow.Author.Tests.{not-true, not-false}
 use Rattle.rtr_receiver.specs.History.{has_table}
 use Rattle.rtr_origin.proofs.Answers.{bar-22, bar-21, bar-23, bar-none}
-use borrow.Author.Rules.{rules}
 use Rattle.rtr_origin.proofs.barred.Goals as goal
 
 pub returns-then-not-is_receiver : goal.returns-then-not-is_receiver

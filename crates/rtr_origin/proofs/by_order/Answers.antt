@@ -2,7 +2,6 @@
 use native.Mathlib.Omega.{arith}
 use Rattle.rtr_room.specs.Room.{records}
 use Rattle.rtr_origin.proofs.Answers.{as-named, valid-by-walk, walk-alone, walk-and-run}
-use borrow.Author.Rules.{rules}
 use Rattle.rtr_origin.proofs.by_order.Goals as goal
 
 pub returns-then-first-eq2 : goal.returns-then-first-eq2

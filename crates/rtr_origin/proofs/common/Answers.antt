@@ -4,7 +4,6 @@ use Prim.Native.Nat.{◌+◌}
 use mathlib.Core.Path.{refl}
 use native.Mathlib.Omega.{arith}
 use Rattle.rtr_origin.proofs.Bits.{common-here, common-next, common-all}
-use borrow.Author.Rules.{rules}
 use Rattle.rtr_origin.proofs.common.Goals as goal
 
 pub returns-then-x-y : goal.returns-then-x-y

@@ -4,7 +4,6 @@ use native.Mathlib.Omega.{arith}
 use lib.Dec.{leb}
 use Prim.Native.Nat.{ℕ}
 use Rattle.rtr_origin.proofs.Judging.{other-family, longer, as-common}
-use borrow.Author.Rules.{rules}
 use Rattle.rtr_origin.proofs.covers.Goals as goal
 
 pub returns-then-family : goal.returns-then-family

@@ -1,7 +1,6 @@
 -- `cut_word`: no bits, all of them, or some: then dropped and put back as zeros. Assumes nothing.
 use native.Mathlib.Omega.{arith}
 use Rattle.rtr_origin.proofs.Bits.{cut-none, cut-whole, cut-part}
-use borrow.Author.Rules.{rules}
 use Rattle.rtr_origin.proofs.cut_word.Goals as goal
 
 pub returns-then-bits-eq0 : goal.returns-then-bits-eq0

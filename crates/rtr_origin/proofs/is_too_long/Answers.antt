@@ -2,7 +2,6 @@
 use mathlib.Core.Path.{ap}
 use Rattle.rtr_origin.specs.Origin.{longest_in}
 use Rattle.rtr_origin.proofs.Answers.{over}
-use borrow.Author.Rules.{rules}
 use Rattle.rtr_origin.proofs.is_too_long.Goals as goal
 
 pub returns-in-IPv4 : goal.returns-in-IPv4

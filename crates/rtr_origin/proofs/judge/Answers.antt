@@ -2,7 +2,6 @@
 use mathlib.Core.Path.{sym, ◌∙◌}
 use borrow.Author.Tests.{not-true, not-false}
 use Rattle.rtr_origin.proofs.Judging.{uncovered}
-use borrow.Author.Rules.{rules}
 use Rattle.rtr_origin.proofs.judge.Goals as goal
 
 pub returns-then-not-covers : goal.returns-then-not-covers

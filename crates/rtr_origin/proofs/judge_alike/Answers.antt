@@ -4,7 +4,6 @@ use native.Mathlib.Omega.{arith}
 use borrow.Author.Tests.{le-leb}
 use Rattle.rtr_room.specs.Table.{prefix_of}
 use Rattle.rtr_origin.proofs.Judging.{few-in-common, longer, as-common, uncovered}
-use borrow.Author.Rules.{rules}
 use Rattle.rtr_origin.proofs.judge_alike.Goals as goal
 
 pub returns-then-own-bits : goal.returns-then-own-bits

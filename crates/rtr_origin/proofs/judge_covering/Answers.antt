@@ -1,7 +1,6 @@
 -- `judge_covering`: the tests of a match, one after the other. Assumes nothing.
 use native.Mathlib.Omega.{arith}
 use Rattle.rtr_origin.proofs.Judging.{over-max, other-origin, as-zero, matched}
-use borrow.Author.Rules.{rules}
 use Rattle.rtr_origin.proofs.judge_covering.Goals as goal
 
 pub returns-then-prefix_length-max_length : goal.returns-then-prefix_length-max_length

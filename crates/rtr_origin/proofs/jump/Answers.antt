@@ -5,7 +5,6 @@ use native.Mathlib.Omega.{arith}
 use Rattle.rtr_room.specs.Table.{rank}
 use Rattle.rtr_room.specs.Room.{records}
 use Rattle.rtr_room.specs.declared.Record.{Record}
-use borrow.Author.Rules.{rules}
 use Rattle.rtr_origin.proofs.Tabled.{size}
 use Rattle.rtr_origin.proofs.jump.Goals as goal
 

@@ -1,6 +1,5 @@
 -- `probe`: each word with the bits that are left for it. Assumes nothing.
 use Rattle.rtr_origin.proofs.Bits.{probe-is}
-use borrow.Author.Rules.{rules}
 use Rattle.rtr_origin.proofs.probe.Goals as goal
 
 pub returns : goal.returns

@@ -1,6 +1,5 @@
 -- `rank_of`: on the room of a table a look_up finds the rank, whether the record is in or not. Assumes nothing.
 use Rattle.rtr_origin.proofs.Tabled.{ranked-at, ranked-missing, ranked-never}
-use borrow.Author.Rules.{rules}
 use Rattle.rtr_origin.proofs.rank_of.Goals as goal
 
 pub returns-in-At : goal.returns-in-At

@@ -1,7 +1,6 @@
 -- `route_of`: six numbers, of IPv4, of IPv6 or of neither. Assumes nothing.
 use mathlib.Core.Path.{sym, ◌∙◌}
 use Rattle.rtr_origin.proofs.Numbers.{not-six, found-four, found-six, found_none}
-use borrow.Author.Rules.{rules}
 use Rattle.rtr_origin.proofs.route_of.Goals as goal
 
 pub returns-then-numbers-ne6 : goal.returns-then-numbers-ne6

@@ -1,13 +1,11 @@
-use Prim.Native.Nat.{ℕ, ◌-◌, ◌≤◌, ◌<◌}
-use mathlib.Core.Path.{◌≡◌, sym, ap, ◌∙◌}
+use mathlib.Core.Path.{sym, ap, ◌∙◌}
 use native.Mathlib.Omega.{arith}
-use borrow.Author.Rules.{rules}
 use borrow.Author.Tests.{leb-true}
 use Rattle.rtr_room.specs.Table.{family_of, rank}
 use Rattle.rtr_room.specs.Room.{records, record_at}
 use Rattle.rtr_room.specs.declared.Record.{Record}
 use Rattle.rtr_origin.specs.Origin.{words, agree}
-use Rattle.rtr_origin.specs.Judged.{strength, strongest, probe_of}
+use Rattle.rtr_origin.specs.Judged.{strength}
 use Rattle.rtr_origin.proofs.Judging.{each_within, strength-within, few-in-common, one-more-from}
 use Rattle.rtr_origin.proofs.Tabled.{size}
 use Rattle.rtr_origin.proofs.Engine.{run_ends}

@@ -1,9 +1,7 @@
-use Prim.Native.Nat.{ℕ, ◌-◌, ◌≤◌, ◌<◌}
 use mathlib.Core.Path.{ap, ◌∙◌}
 use native.Mathlib.Omega.{arith}
-use borrow.Author.Rules.{rules}
-use Rattle.rtr_room.specs.Room.{records, record_at}
-use Rattle.rtr_origin.specs.Judged.{strength, strongest}
+use Rattle.rtr_room.specs.Room.{record_at}
+use Rattle.rtr_origin.specs.Judged.{strength}
 use Rattle.rtr_origin.proofs.Judging.{each_within, all-within, strongest-within, one_more}
 use Rattle.rtr_origin.proofs.scan.Goals as goal
 

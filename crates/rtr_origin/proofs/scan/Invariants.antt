@@ -1,12 +1,8 @@
 -- `scan`: no record before the place speaks stronger than what was found, and that is no more than the strongest. The measure is what is left.
 -- Assumes nothing.
 use Prim.Native.Nat.{ℕ, ◌-◌, ◌≤◌, ◌<◌}
-use mathlib.Core.Path.{ap, ◌∙◌}
-use native.Mathlib.Omega.{arith}
-use borrow.Author.Rules.{rules}
 use Rattle.rtr_room.specs.Room.{records, record_at}
 use Rattle.rtr_origin.specs.Judged.{strength, strongest}
-use Rattle.rtr_origin.proofs.Judging.{each_within, all-within, strongest-within, one_more}
 use Rattle.rtr_origin.proofs.scan.Given as goal
 
 abbrev pub invariant-loop-i : goal.invariant-loop-i

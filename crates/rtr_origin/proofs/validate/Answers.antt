@@ -3,7 +3,6 @@ use mathlib.Core.Path.{ap, ◌∙◌}
 use Rattle.rtr_receiver.specs.Contents.{contents}
 use Rattle.rtr_origin.specs.Promises.RouteSays.{state}
 use Rattle.rtr_origin.proofs.Answers.{shut-is, open_is, live-room, under_none}
-use borrow.Author.Rules.{rules}
 use Rattle.rtr_origin.proofs.validate.Goals as goal
 
 pub by_order-requires : goal.by_order-requires

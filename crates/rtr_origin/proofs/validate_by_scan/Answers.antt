@@ -4,7 +4,6 @@ use Rattle.rtr_receiver.specs.Contents.{contents}
 use Rattle.rtr_origin.specs.Promises.RouteSays.{state}
 use Rattle.rtr_origin.proofs.Answers.{shut-is, open_is, live-room, as-named}
 use Rattle.rtr_origin.proofs.Tabled.{size}
-use borrow.Author.Rules.{rules}
 use Rattle.rtr_origin.proofs.validate_by_scan.Goals as goal
 
 pub scan-requires : goal.scan-requires

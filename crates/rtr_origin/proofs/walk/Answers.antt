@@ -1,17 +1,14 @@
-use Prim.Native.Nat.{ℕ, ◌+◌, ◌-◌, ◌*◌, ◌≤◌}
+use Prim.Native.Nat.{ℕ, ◌+◌, ◌-◌, ◌*◌}
 use mathlib.Core.Path.{sym, ap, ◌∙◌, subst}
 use native.Mathlib.Omega.{arith}
-use borrow.Author.Rules.{rules}
 use Rattle.rtr_room.specs.Table.{family_of, rank}
 use Rattle.rtr_room.specs.Room.{records, record_at}
 use Rattle.rtr_room.specs.declared.Record.{Record}
-use Rattle.rtr_origin.specs.Private.{Under}
 use Rattle.rtr_origin.specs.Origin.{words}
-use Rattle.rtr_origin.specs.Judged.{Asks, Common, strength, strongest, probe_of}
-use Rattle.rtr_origin.specs.declared.Route.{Route}
+use Rattle.rtr_origin.specs.Judged.{Common, strength, probe_of}
 use Rattle.rtr_origin.proofs.Judging.{each_within, strength-within}
 use Rattle.rtr_origin.proofs.Tabled.{size}
-use Rattle.rtr_origin.proofs.Engine.{Going, starts, covered, ends-at-family, jumped}
+use Rattle.rtr_origin.proofs.Engine.{starts, covered, ends-at-family, jumped}
 use Rattle.rtr_origin.proofs.walk.Goals as goal
 
 pub high_probe-requires : goal.high_probe-requires

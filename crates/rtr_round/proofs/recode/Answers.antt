@@ -1,21 +1,18 @@
 -- `recode` makes the two calls and keeps what they promise; that a slice's elements are bytes is what the lent slice itself tells. Assumes nothing.
 use mathlib.Core.Path.{refl, sym, ap, ◌∙◌}
 use native.Mathlib.Omega.{arith}
-use borrow.Author.Rules.{rules}
 use Rattle.rtr_codec.specs.Answers.{verdict}
 use Rattle.rtr_round.proofs.recode.Goals as goal
 
 pub returns-in-Read : goal.returns-in-Read
-returns-in-Read c =
-    (
+returns-in-Read c = (
   λ i. omega (arith, c.shared_slice_known-1.given i),
   ap verdict (sym c.in-Read.is) ∙ c.parse_rtr_pdu.ensures,
   c.encode.ensures,
 )
 
 pub returns-in-Refused : goal.returns-in-Refused
-returns-in-Refused c =
-    (
+returns-in-Refused c = (
   λ i. omega (arith, c.shared_slice_known-1.given i),
   ap verdict (sym c.in-Refused.is) ∙ c.parse_rtr_pdu.ensures,
   refl,

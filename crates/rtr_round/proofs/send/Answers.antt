@@ -2,7 +2,6 @@
 use mathlib.Core.List.{List}
 use Prim.Native.Nat.{ℕ}
 use mathlib.Core.Path.{◌≡◌, sym, ap}
-use borrow.Author.Rules.{rules}
 use borrow.Author.Tests.{leb-true}
 use denote.Laws.{Is}
 use denote.Enum.Declared as enum

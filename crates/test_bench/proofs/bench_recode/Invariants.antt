@@ -1,5 +1,5 @@
 -- `bench_recode`: what is left of the bytes falls. Assumes nothing.
-use Rattle.std.proofs.Common.{◌≡◌, ◌-◌, ◌≤◌, length, rules}
+use Rattle.std.proofs.Common.{◌≡◌, ◌-◌, ◌≤◌, length}
 use Rattle.test_bench.proofs.bench_recode.Given as goal
 
 abbrev pub invariant-loop-at : goal.invariant-loop-at

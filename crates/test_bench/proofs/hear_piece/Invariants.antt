@@ -1,5 +1,5 @@
 -- `hear_piece`: the turns fall. Assumes nothing.
-use Rattle.std.proofs.Common.{◌≡◌, length, rules}
+use Rattle.std.proofs.Common.{◌≡◌, length}
 use Rattle.test_bench.proofs.hear_piece.Given as goal
 
 abbrev pub invariant-loop-turns : goal.invariant-loop-turns

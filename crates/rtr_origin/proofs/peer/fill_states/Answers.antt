@@ -1,12 +1,10 @@
-use Prim.Native.Nat.{ℕ, ◌+◌, ◌-◌, ◌*◌, ◌≤◌}
+use Prim.Native.Nat.{ℕ, ◌+◌, ◌-◌, ◌*◌}
 use mathlib.Core.Path.{◌≡◌, refl, sym, ap, ◌∙◌}
 use native.Mathlib.Omega.{arith}
-use lib.ListN.{length, take, drop, length-set}
+use lib.ListN.{take, drop, length-set}
 use Rattle.rtr_base.proofs.Overs.{over_nothing}
 use Rattle.rtr_base.specs.Over.{over}
-use Rattle.rtr_room.specs.Room.{records}
-use Rattle.rtr_origin.specs.Peer.{states_from, route_count}
-use Rattle.rtr_origin.specs.Survey.{state_by}
+use Rattle.rtr_origin.specs.Peer.{route_count}
 use Rattle.rtr_origin.proofs.Tabled.{size}
 use Rattle.rtr_origin.proofs.Lists.{states-none, filled_next}
 use Rattle.rtr_origin.proofs.peer.fill_states.Goals as goal

@@ -1,5 +1,4 @@
 -- `is_plain`: the record has all bits in common with itself cut at its length. Assumes nothing.
-use borrow.Author.Rules.{rules}
 use Rattle.rtr_origin.proofs.Surveys.{plain_by}
 use Rattle.rtr_origin.proofs.peer.is_plain.Goals as goal
 

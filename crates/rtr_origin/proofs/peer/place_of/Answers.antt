@@ -1,6 +1,5 @@
 -- `place_of`: what was looked at once is low enough for the route, so the engine gives its state. Assumes nothing.
 use mathlib.Core.Path.{ap, ◌∙◌}
-use borrow.Author.Rules.{rules}
 use Rattle.rtr_room.specs.Room.{records}
 use Rattle.rtr_origin.specs.Survey.{bounds_for}
 use Rattle.rtr_origin.specs.declared.peer.Families.{Families}

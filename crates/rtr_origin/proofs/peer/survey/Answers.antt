@@ -1,9 +1,6 @@
-use Prim.Native.Nat.{◌-◌, ◌≤◌}
 use mathlib.Core.Path.{◌≡◌}
 use native.Mathlib.Numerals.{add-one}
 use native.Mathlib.Omega.{arith}
-use borrow.Author.Rules.{rules}
-use Rattle.rtr_origin.specs.Survey.{bounds_of}
 use Rattle.rtr_origin.proofs.Surveys.{looked-at-none, looked-at-one-more}
 use Rattle.rtr_origin.proofs.peer.survey.Goals as goal
 

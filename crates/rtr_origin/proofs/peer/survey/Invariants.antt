@@ -1,11 +1,7 @@
 -- `survey`: at the loop's head both families' numbers are those of the first i records. The measure is how many records are left. Assumes nothing.
 use Prim.Native.Nat.{◌-◌, ◌≤◌}
 use mathlib.Core.Path.{◌≡◌}
-use native.Mathlib.Numerals.{add-one}
-use native.Mathlib.Omega.{arith}
-use borrow.Author.Rules.{rules}
 use Rattle.rtr_origin.specs.Survey.{bounds_of}
-use Rattle.rtr_origin.proofs.Surveys.{looked-at-none, looked-at-one-more}
 use Rattle.rtr_origin.proofs.peer.survey.Given as goal
 
 abbrev pub invariant-loop-i : goal.invariant-loop-i

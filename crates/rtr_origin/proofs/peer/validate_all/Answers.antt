@@ -1,6 +1,5 @@
 -- `validate_all`: the refusals in their turn, then every route's state. Assumes nothing.
 use mathlib.Core.Path.{sym, ap, ◌∙◌}
-use borrow.Author.Rules.{rules}
 use borrow.Author.Tests.{not-true, not-false}
 use Rattle.rtr_receiver.specs.History.{has_table}
 use Rattle.rtr_origin.proofs.Answers.{live-room}

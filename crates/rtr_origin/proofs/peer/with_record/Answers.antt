@@ -1,6 +1,5 @@
 -- `with_record`: a record of the family lowers what is higher than its length. Assumes nothing.
 use mathlib.Core.Path.{ap, sym, ◌∙◌}
-use borrow.Author.Rules.{rules}
 use Rattle.rtr_origin.specs.Survey.{lower_of}
 use Rattle.rtr_origin.proofs.Surveys.{of-another-family, of-a-plain-one, of-a-loose-one}
 use Rattle.rtr_origin.proofs.peer.with_record.Goals as goal
