@@ -4,7 +4,7 @@
 #   kit_find             sets KIT (RATTLE_HOME, or the folder above rt's), TOOLS and RUN; false, with a reason on standard error, where there is none
 #   "${RUN[@]}" PROGRAM  runs a program under the kit's own loader and C library
 #   kit_cc OUT WORD..    compiles the .c files among the words for x86-64 (other words go to the compiler), links them with the .a files, and writes OUT
-#   kit_archives NAME..  crates/NAME/out/libNAME.a of static libraries, by `rt lib`; one that is there is taken where neither the kit nor a file that it comes from has changed
+#   kit_archives NAME..  crates/NAME/out/libNAME.a of static libraries, by `rt lib --cpu x86-64`; one that is there is taken where neither the kit nor a file that it comes from has changed
 #   kit_main NAME        sets PROGRAM: crates/NAME/out/NAME, a crate with a `main`, by `rt run`; false, with a reason in NAME's name, where that cannot be done
 #   kit_driver OUT       builds tests/driver over rtr_c and test_calls
 #   kit_program NAME     sets PROGRAM: out/bin/NAME, which is bin/NAME.c over rtr_c, built where it or rtr_c is new; false, with a reason in NAME's name, where that cannot be done
@@ -61,6 +61,7 @@ kit_note() { # NAME FILE
 }
 
 # `rt` says on its line `logic=` whether a crate is proved, and builds nothing that is not. Two static libraries are proved side by side; where both stand on a crate that is still to be built, one waits.
+# For the first x86-64 and not for rt's own choice, x86-64-v2: a static library does not look what processor it is on.
 kit_archives() (
     cd "$(kit_top)" || exit 1
     wanted=()
@@ -70,7 +71,7 @@ kit_archives() (
     trap 'rm -rf "$logs"' EXIT
     for name in "${wanted[@]}"; do
         rm -f "crates/$name/out/lib$name.a" "out/stamps/lib$name.a"
-        { (cd "crates/$name" && rt lib) >"$logs/$name" 2>&1 </dev/null && grep -q '^logic=proved' "$logs/$name" && kit_note "$name" "lib$name.a" && touch "$logs/$name.done"; } &
+        { (cd "crates/$name" && rt lib --cpu x86-64) >"$logs/$name" 2>&1 </dev/null && grep -q '^logic=proved' "$logs/$name" && kit_note "$name" "lib$name.a" && touch "$logs/$name.done"; } &
     done
     wait
     for name in "${wanted[@]}"; do
