@@ -127,7 +127,7 @@ def built(folder, name, source, library):
 
 
 def in_kit(program):
-    """Words that run an x86-64 program, whatever the machine."""
+    """Words that run a program under the kit's own loader."""
     found = subprocess.run(["bash", "-c", '. "$0/bin/kit.sh"; kit_find || exit 2; printf "%s\\n" "${RUN[@]}"', ROOT], stdout=subprocess.PIPE, text=True)
     return found.stdout.splitlines() + [program]
 
