@@ -431,7 +431,12 @@ def turn(old, info, fname, crate, out):
     hs2 = [(n, fn.path_map(helped(t)), fn.path_map(helped(b)), p) for n, t, b, p in hs if n not in pure]
 
     def with_helpers(body):
-        body = fn.path_map(helped(body))
+        while True:
+            was = body
+            body = given_lets(alias_lets(helped(body), None))
+            if body == was:
+                break
+        body = fn.path_map(fn.alias_map(body))
         need, todo = set(), [body]
         while todo:
             x = todo.pop()

@@ -19,8 +19,7 @@ put_ipv4-requires c =
     let four : pdu ≡ sent_ipv4 c.args.version flags c.args.r = let a = c.args in
     prefix-four a.version (sided a.announced a.r) (sym c.family.ensures ∙ c.if-family-eq4.true)
     ∙ ap (λ (n : ℕ). sent_ipv4 a.version n a.r) (sym c.flags_of-flags.ensures) in
-    let st = c in
-    subst (λ (x : RtrPdu). Fits st.args.out.now st.args.at (encoding in_use x [])) four st.pre
+    subst (λ (x : RtrPdu). Fits c.args.out.now c.args.at (encoding in_use x [])) four c.requires
 
 pub returns-then-family-eq4 : goal.returns-then-family-eq4
 returns-then-family-eq4 c =
@@ -39,8 +38,7 @@ put_ipv6-requires c =
     let other : pdu ≡ sent_ipv6 c.args.version flags c.args.r = let a = c.args in
     prefix-other a.version (sided a.announced a.r) (λ e. c.if-family-eq4.false (c.family.ensures ∙ e))
     ∙ ap (λ (n : ℕ). sent_ipv6 a.version n a.r) (sym c.flags_of-flags.ensures) in
-    let st = c in
-    subst (λ (x : RtrPdu). Fits st.args.out.now st.args.at (encoding in_use x [])) other st.pre
+    subst (λ (x : RtrPdu). Fits c.args.out.now c.args.at (encoding in_use x [])) other c.requires
 
 pub returns : goal.returns
 returns c =

@@ -24,10 +24,9 @@ pub put_prefix-next-requires : goal.put_prefix-next-requires
 put_prefix-next-requires c =
     let searched : SearchSays c.args.a.now c.args.a_count c.args.b.now c.args.b_count c.loop-i.i c.next_only.result = record { first = c.requires.0.0; second = c.requires.0.1; says = c.next_only.ensures } in
     let l = c.loop-i in
-    let st = c in
-    let a = st.args in
+    let a = c.args in
     subst (λ (r : Record). Fits l.out l.next (prefix_part a.version a.announced r)) (sym c.record_of.ensures)
-    (side-fits l.invariant.2 c.in-At.p _ (found-next searched _ c.in-At.is).rest st.pre.1 l.invariant.1)
+    (side-fits l.invariant.2 c.in-At.p _ (found-next searched _ c.in-At.is).rest c.requires.1 l.invariant.1)
 
 pub overflow_add-i : goal.overflow_add-i
 overflow_add-i c =
@@ -45,15 +44,14 @@ loop-i-preserved c =
     let searched : SearchSays c.args.a.now c.args.a_count c.args.b.now c.args.b_count c.loop-i.i c.next_only.result = record { first = c.requires.0.0; second = c.requires.0.1; says = c.next_only.ensures } in
     let l = c.loop-i in
     let x = found-next searched _ c.in-At.is in
-    let st = c in
-    let a = st.args in
+    let a = c.args in
     let wrote = c.put_prefix-next in
     let made = c.record_of.ensures in
     let put = subst (λ (r : Record). Put l.out l.next (prefix_part a.version a.announced r) wrote.result wrote.new.out) made wrote.ensures in
     rw add-one (
       omega (arith, x.below),
       omega (arith, wrote.auto.out, l.invariant.1),
-      side-goes-on l.invariant.2 c.in-At.p _ x.rest _ _ (omega (arith, st.pre.1)) put,
+      side-goes-on l.invariant.2 c.in-At.p _ x.rest _ _ (omega (arith, c.requires.1)) put,
     )
 
 pub returns-in-Nothing : goal.returns-in-Nothing

@@ -45,12 +45,11 @@ loop-i-preserved c =
     let searched : SearchSays c.args.a.now c.args.a_count c.args.b.now c.args.b_count c.loop-i.i c.next_only.result = record { first = c.requires.0.0; second = c.requires.0.1; says = c.next_only.ensures } in
     let l = c.loop-i in
     let x = found-next searched _ c.in-At.is in
-    let st = c in
-    let left = drop (suc c.in-At.p) (s st) in
-    let r = record_at st.args.a.now c.in-At.p in
-    let sum_is : (v : RtrProtocolVersion) (announced : Bool) → l.sum + c.prefix_size-sum.result + length (side_bytes v announced left (t st)) ≡ length (side_bytes v announced (s st) (t st)) =
+    let left = drop (suc c.in-At.p) s in
+    let r = record_at c.args.a.now c.in-At.p in
+    let sum_is : (v : RtrProtocolVersion) (announced : Bool) → l.sum + c.prefix_size-sum.result + length (side_bytes v announced left t) ≡ length (side_bytes v announced s t) =
     λ v announced.
-    let whole = ap length (side-next v announced (drop l.i (s st)) (t st) left r x.rest) ∙ length-append (prefix_part v announced r) (side_bytes v announced left (t st)) in
+    let whole = ap length (side-next v announced (drop l.i s) t left r x.rest) ∙ length-append (prefix_part v announced r) (side_bytes v announced left t) in
     let made = ap (λ (e : Record). length (prefix_part v announced e)) c.record_of.ensures in
     omega (arith, l.invariant.2 v announced, whole, made, c.prefix_size-sum.ensures.0 v announced) in
     rw add-one (omega (arith, x.below), omega (arith, l.invariant.1, c.prefix_size-sum.ensures.1, x.behind), sum_is)
@@ -59,7 +58,7 @@ pub returns-in-Nothing : goal.returns-in-Nothing
 returns-in-Nothing c =
     let s : List Record = records c.args.a_count c.args.a.now in
     let t : List Record = records c.args.b_count c.args.b.now in
-    let ended : (i sum : ℕ) → invariant-loop c.args.a.now c.args.a_count c.args.b.now c.args.b_count 0 0 sum i → without (drop i s) t ≡ [] → ((v : RtrProtocolVersion) (announced : Bool) → sum ≡ length (side_bytes v announced s t)) × (sum ≤ 32 * c.args.a_count) = λ i sum inv none. (λ v announced. omega (arith, inv.2 v announced, ap length (side-none v announced (drop i s) t none)), omega (arith, inv.0, inv.1)) in
+    let ended : (i sum : ℕ) → (i ≤ c.args.a_count) × (sum ≤ 32 * i) × ((v : RtrProtocolVersion) (announced : Bool) → sum + length (side_bytes v announced (drop i (records c.args.a_count c.args.a.now)) (records c.args.b_count c.args.b.now)) ≡ length (side_bytes v announced (records c.args.a_count c.args.a.now) (records c.args.b_count c.args.b.now))) → without (drop i s) t ≡ [] → ((v : RtrProtocolVersion) (announced : Bool) → sum ≡ length (side_bytes v announced s t)) × (sum ≤ 32 * c.args.a_count) = λ i sum inv none. (λ v announced. omega (arith, inv.2 v announced, ap length (side-none v announced (drop i s) t none)), omega (arith, inv.0, inv.1)) in
     let searched : SearchSays c.args.a.now c.args.a_count c.args.b.now c.args.b_count c.loop-i.i c.next_only.result = record { first = c.requires.0.0; second = c.requires.0.1; says = c.next_only.ensures } in
     ended _ _ c.loop-i.invariant (none_left searched c.in-Nothing.is)
 
@@ -72,6 +71,6 @@ pub returns : goal.returns
 returns c =
     let s : List Record = records c.args.a_count c.args.a.now in
     let t : List Record = records c.args.b_count c.args.b.now in
-    let ended : (i sum : ℕ) → invariant-loop c.args.a.now c.args.a_count c.args.b.now c.args.b_count 0 0 sum i → without (drop i s) t ≡ [] → ((v : RtrProtocolVersion) (announced : Bool) → sum ≡ length (side_bytes v announced s t)) × (sum ≤ 32 * c.args.a_count) = λ i sum inv none. (λ v announced. omega (arith, inv.2 v announced, ap length (side-none v announced (drop i s) t none)), omega (arith, inv.0, inv.1)) in
+    let ended : (i sum : ℕ) → (i ≤ c.args.a_count) × (sum ≤ 32 * i) × ((v : RtrProtocolVersion) (announced : Bool) → sum + length (side_bytes v announced (drop i (records c.args.a_count c.args.a.now)) (records c.args.b_count c.args.b.now)) ≡ length (side_bytes v announced (records c.args.a_count c.args.a.now) (records c.args.b_count c.args.b.now))) → without (drop i s) t ≡ [] → ((v : RtrProtocolVersion) (announced : Bool) → sum ≡ length (side_bytes v announced s t)) × (sum ≤ 32 * c.args.a_count) = λ i sum inv none. (λ v announced. omega (arith, inv.2 v announced, ap length (side-none v announced (drop i s) t none)), omega (arith, inv.0, inv.1)) in
     let l = c.loop-i in
     ended l.i _ l.invariant (none-behind c.args.a.now _ l.i t c.requires.0.0 c.loop-i-test.false)

@@ -109,11 +109,8 @@ returns c =
     let sum : 8 + length gone + length come + length last ≡ needed = let v = c.args.version in
     omega (arith, c.side_length-withdrawn.ensures.0 v false, c.side_length-announced.ensures.0 v true, c.end_size.ensures.0 c.args.end) in
     let long : length run ≡ needed = omega (arith, run_long c.args.version c.args.end old new, sum) in
-    let side = c in
-    let response = c side in
-    let sized = c response in
-    let a = (c sized).args in
-    wrote (run sized) a.out.now _ _ _ (long sized) response.before.before.if1.left
+    let a = c.args in
+    wrote run a.out.now _ _ _ long c.if-out-needed.false
     (subst (λ (b : List ℕ). Put a.out.now 0 b c.put_end.result c.put_end.new.out)
-    (sym (run_is a.version a.end (old sized) (new sized)))
-    (put_then (omega arith) (put_then (omega arith) (put_then (omega arith) response.put-response.ensures side.put-side.ensures) c.put_side-at_end.ensures) c.put_end.ensures))
+    (sym (run_is a.version a.end old new))
+    (put_then (omega arith) (put_then (omega arith) (put_then (omega arith) c.put_response-at_first.ensures c.put_side-at_second.ensures) c.put_side-at_end.ensures) c.put_end.ensures))
