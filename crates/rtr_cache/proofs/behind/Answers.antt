@@ -2,7 +2,6 @@
 use mathlib.Core.Path.{sym, ap}
 use native.Mathlib.Omega.{arith}
 use Rattle.rtr_cache.specs.Private.{behind_of}
-use borrow.Author.Rules.{rules}
 use Rattle.rtr_cache.proofs.behind.Goals as goal
 
 pub overflow_add-result : goal.overflow_add-result

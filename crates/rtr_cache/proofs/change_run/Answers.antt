@@ -9,7 +9,6 @@ use Rattle.rtr_receiver.specs.Fits.{TableNumbersFit}
 use Rattle.rtr_cache.specs.Serves.{RoomFits}
 use Rattle.rtr_cache.proofs.Laws.{lent-rules, lent-within, change-refused, change-lent}
 use Rattle.rtr_cache.proofs.Owned.{table-owned}
-use borrow.Author.Rules.{rules}
 use Rattle.rtr_cache.proofs.change_run.Goals as goal
 
 pub returns-then-not-is_lent : goal.returns-then-not-is_lent

@@ -8,7 +8,6 @@ use Rattle.rtr_codec.specs.Reading.{in_use}
 use Rattle.rtr_encode.specs.Encode.{encoding}
 use Rattle.rtr_cache.specs.Cache.{sent_end}
 use Rattle.rtr_cache.proofs.NoPayload.{end-v0-long, end-v1-long}
-use borrow.Author.Rules.{rules}
 use Rattle.rtr_cache.proofs.end_size.Goals as goal
 
 pub returns-in-V0 : goal.returns-in-V0

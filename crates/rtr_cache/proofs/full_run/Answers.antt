@@ -15,7 +15,6 @@ use Rattle.rtr_cache.specs.Cache.{run_bytes, is_lent}
 use Rattle.rtr_cache.specs.Serves.{RoomFits}
 use Rattle.rtr_cache.proofs.Laws.{full-is-change-from-none, lent-rules, lent-within, full-refused, full-lent}
 use Rattle.rtr_cache.proofs.Owned.{table-owned}
-use borrow.Author.Rules.{rules}
 use Rattle.rtr_cache.proofs.full_run.Goals as goal
 
 pub returns-then-not-is_lent : goal.returns-then-not-is_lent

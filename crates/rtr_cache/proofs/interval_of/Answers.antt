@@ -2,7 +2,6 @@
 use mathlib.Core.Path.{sym, ap}
 use Rattle.rtr_models.specs.declared.RtrProtocolVersion.{RtrProtocolVersion}
 use Rattle.rtr_cache.specs.Cache.{interval_of}
-use borrow.Author.Rules.{rules}
 use Rattle.rtr_cache.proofs.interval_of.Goals as goal
 
 pub returns-in-V1 : goal.returns-in-V1

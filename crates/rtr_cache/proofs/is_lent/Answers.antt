@@ -3,7 +3,6 @@ use borrow.Author.Tests.{eq-eqb, ne_eqb}
 use Rattle.rtr_room.specs.Room.{limit_of}
 use Rattle.rtr_receiver.specs.Promises.{record_limit}
 use Rattle.rtr_cache.specs.Cache.{is_lent}
-use borrow.Author.Rules.{rules}
 use Rattle.rtr_cache.proofs.is_lent.Goals as goal
 
 pub returns-then-limit-ne-RECORD_LIMIT : goal.returns-then-limit-ne-RECORD_LIMIT

@@ -3,7 +3,6 @@ use mathlib.Core.Path.{sym, ◌∙◌}
 use native.Mathlib.Omega.{arith}
 use Rattle.rtr_cache.specs.Private.{sided}
 use Rattle.rtr_cache.proofs.NoPayload.{prefix-four-long, prefix-other-long}
-use borrow.Author.Rules.{rules}
 use Rattle.rtr_cache.proofs.prefix_size.Goals as goal
 
 pub returns-then-family-eq4 : goal.returns-then-family-eq4

@@ -7,7 +7,6 @@ use Rattle.rtr_encode.specs.Encode.{encoding}
 use Rattle.rtr_cache.specs.Cache.{sent_ipv4}
 use Rattle.rtr_cache.proofs.NoPayload.{no-payload-ipv4}
 use Rattle.rtr_cache.proofs.Parts.{Part, put-part, wrote-part}
-use borrow.Author.Rules.{rules}
 use Rattle.rtr_cache.proofs.put_ipv4.Goals as goal
 
 pub behind-requires : goal.behind-requires

@@ -9,7 +9,6 @@ use Rattle.rtr_listing.specs.Private.{Fits, Put}
 use Rattle.rtr_cache.specs.Cache.{sent_ipv4, sent_ipv6, sent_prefix}
 use Rattle.rtr_cache.specs.Private.{sided}
 use Rattle.rtr_cache.proofs.NoPayload.{prefix-four, prefix-other}
-use borrow.Author.Rules.{rules}
 use Rattle.rtr_cache.proofs.put_prefix.Goals as goal
 
 pub put_ipv4-requires : goal.put_ipv4-requires

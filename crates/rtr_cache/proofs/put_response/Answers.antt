@@ -8,7 +8,6 @@ use Rattle.rtr_encode.specs.Encode.{encoding}
 use Rattle.rtr_cache.specs.Cache.{sent_response}
 use Rattle.rtr_cache.proofs.NoPayload.{no-payload-response}
 use Rattle.rtr_cache.proofs.Parts.{Part, put-part, wrote-part}
-use borrow.Author.Rules.{rules}
 use Rattle.rtr_cache.proofs.put_response.Goals as goal
 
 pub behind-requires : goal.behind-requires

@@ -1,15 +1,11 @@
-use Prim.Native.Nat.{◌-◌, ◌≤◌}
-use mathlib.Core.Path.{◌≡◌, refl, sym, subst}
+use mathlib.Core.Path.{refl, sym, subst}
 use native.Mathlib.Numerals.{add-one}
 use native.Mathlib.Omega.{arith}
-use borrow.Author.Rules.{rules}
-use lib.ListN.{length}
-use Rattle.rtr_room.specs.Room.{records}
 use Rattle.rtr_room.specs.declared.Record.{Record}
 use Rattle.rtr_listing.specs.Private.{Fits, Put}
 use Rattle.rtr_cache.proofs.RunParts.{prefix_part}
 use Rattle.rtr_cache.proofs.Search.{SearchSays, none-behind, found-next, has-record, none_left, never-refused}
-use Rattle.rtr_cache.proofs.Sides.{Side, side-starts, side-fits, side-goes-on, side-ends}
+use Rattle.rtr_cache.proofs.Sides.{side-starts, side-fits, side-goes-on, side-ends}
 use Rattle.rtr_cache.proofs.put_side.Goals as goal
 
 pub loop-i-init : goal.loop-i-init

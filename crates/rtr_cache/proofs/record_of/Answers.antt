@@ -5,7 +5,6 @@ use native.Mathlib.Omega.{arith}
 use Rattle.rtr_room.specs.declared.Record.{Record}
 use Rattle.rtr_room.specs.declared.RecordFound.{RecordFound}
 use Rattle.rtr_room.proofs.Laws.{found_inside}
-use borrow.Author.Rules.{rules}
 use Rattle.rtr_cache.proofs.record_of.Goals as goal
 
 found-is : (i : ℕ) (r r' : Record) → RecordFound.Found r ≡ RecordFound.Found r' → r' ≡ r

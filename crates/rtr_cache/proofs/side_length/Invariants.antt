@@ -1,23 +1,15 @@
 -- `side_length`: at the loop's head `sum` and what is left make the whole. The measure is how many places are left. Assumes nothing.
-use Prim.Native.Nat.{ℕ, suc, ◌+◌, ◌-◌, ◌*◌, ◌≤◌}
+use Prim.Native.Nat.{◌+◌, ◌-◌, ◌*◌, ◌≤◌}
 use mathlib.Core.Bool.{Bool}
-use mathlib.Core.List.{List, []}
-use mathlib.Core.Path.{◌≡◌, ap, ◌∙◌}
-use native.Mathlib.Numerals.{add-one}
-use native.Mathlib.Omega.{arith}
-use borrow.Author.Rules.{rules}
-use lib.ListN.{length, drop, length-append}
+use mathlib.Core.Path.{◌≡◌}
+use lib.ListN.{length, drop}
 use Rattle.rtr_models.specs.declared.RtrProtocolVersion.{RtrProtocolVersion}
-use Rattle.rtr_room.specs.Room.{records, record_at}
-use Rattle.rtr_room.specs.declared.Record.{Record}
-use Rattle.rtr_changes.specs.Changes.{without}
+use Rattle.rtr_room.specs.Room.{records}
 use Rattle.rtr_cache.specs.Private.{side_bytes}
-use Rattle.rtr_cache.proofs.RunParts.{prefix_part, side-none, side-next}
-use Rattle.rtr_cache.proofs.Search.{SearchSays, none-behind, found-next, has-record, none_left, never-refused}
 use Rattle.rtr_cache.proofs.side_length.Given as goal
 
 abbrev pub invariant-loop-i : goal.invariant-loop-i
-invariant-loop-i l =     (l.i ≤ l.a_count) × (l.sum ≤ 32 * l.i) × ((v : RtrProtocolVersion) (announced : Bool)
+invariant-loop-i l = (l.i ≤ l.a_count) × (l.sum ≤ 32 * l.i) × ((v : RtrProtocolVersion) (announced : Bool)
     → l.sum + length (side_bytes v announced (drop l.i (records l.a_count l.a)) (records l.b_count l.b)) ≡ length (side_bytes v announced (records l.a_count l.a) (records l.b_count l.b)))
 
 abbrev pub decreases-loop-i : goal.decreases-loop-i

@@ -15,7 +15,6 @@ use Rattle.rtr_cache.specs.Cache.{run_bytes}
 use Rattle.rtr_cache.specs.Private.{side_bytes}
 use Rattle.rtr_cache.proofs.NoPayload.{response-long}
 use Rattle.rtr_cache.proofs.RunParts.{end_part, run_is, run_long}
-use borrow.Author.Rules.{rules}
 use Rattle.rtr_cache.proofs.write_run.Goals as goal
 
 pub returns-then-out-needed : goal.returns-then-out-needed

@@ -5,7 +5,6 @@ use native.Mathlib.Omega.{arith}
 use lib.ListN.{length}
 use Rattle.rtr_diffs.specs.Diffs.{change_lines}
 use Rattle.rtr_diffs.proofs.Texts.{change-at-most}
-use borrow.Author.Rules.{rules}
 use Rattle.rtr_diffs.proofs.change_length.Goals as goal
 
 pub put_change-requires : goal.put_change-requires

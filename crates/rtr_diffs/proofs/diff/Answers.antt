@@ -10,7 +10,6 @@ use Rattle.rtr_listed.proofs.Calls.{WasListed, room-left, was-listed, was-refuse
 use Rattle.rtr_diffs.specs.Diffs.{refusal_lines}
 use Rattle.rtr_diffs.specs.Private.{NewRead}
 use Rattle.rtr_diffs.proofs.Files.{room-ruled, count-within, records-are, old-listed, old-refused, old-off-size, new-off-size}
-use borrow.Author.Rules.{rules}
 use Rattle.rtr_diffs.proofs.diff.Goals as goal
 
 pub returns-then-old_room : goal.returns-then-old_room

@@ -8,7 +8,6 @@ use Rattle.rtr_listing.specs.Promises.{puts}
 use Rattle.rtr_listed.proofs.Calls.{WasListed, room-left, was-listed, was-refused}
 use Rattle.rtr_diffs.specs.Diffs.{refusal_lines}
 use Rattle.rtr_diffs.proofs.Files.{room-ruled, count-within, new-listed, new-refused}
-use borrow.Author.Rules.{rules}
 use Rattle.rtr_diffs.proofs.diff_new.Goals as goal
 
 pub write_changes-requires : goal.write_changes-requires

@@ -6,7 +6,6 @@ use native.Mathlib.Omega.{arith}
 use Rattle.rtr_listing.specs.Private.{Put}
 use Rattle.rtr_listing.proofs.Puts.{put_then}
 use Rattle.rtr_diffs.proofs.Texts.{word-length, change-is, change-length-is}
-use borrow.Author.Rules.{rules}
 use Rattle.rtr_diffs.proofs.put_change.Goals as goal
 
 pub put_word-next-requires : goal.put_word-next-requires

@@ -2,7 +2,6 @@
 use native.Mathlib.Omega.{arith}
 use Rattle.rtr_listing.specs.Listing.{decimal, line_of}
 use Rattle.rtr_diffs.proofs.Parts.{part-behind, put-part}
-use borrow.Author.Rules.{rules}
 use Rattle.rtr_diffs.proofs.put_number.Goals as goal
 
 pub behind-requires : goal.behind-requires

@@ -2,7 +2,6 @@
 use native.Mathlib.Omega.{arith}
 use Rattle.rtr_listing.specs.Listing.{record_lines}
 use Rattle.rtr_diffs.proofs.Parts.{part-behind, put-part}
-use borrow.Author.Rules.{rules}
 use Rattle.rtr_diffs.proofs.put_record.Goals as goal
 
 pub behind-requires : goal.behind-requires

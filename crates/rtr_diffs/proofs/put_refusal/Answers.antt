@@ -6,7 +6,6 @@ use native.Mathlib.Omega.{arith}
 use Rattle.rtr_listing.specs.Private.{Put}
 use Rattle.rtr_listing.proofs.Puts.{put_then}
 use Rattle.rtr_diffs.proofs.Texts.{refusal_is, refusal-parts}
-use borrow.Author.Rules.{rules}
 use Rattle.rtr_diffs.proofs.put_refusal.Goals as goal
 
 pub put_number-at_file-requires : goal.put_number-at_file-requires

@@ -1,10 +1,9 @@
-use Prim.Native.Nat.{ℕ, ◌-◌, ◌≤◌}
+use Prim.Native.Nat.{ℕ}
 use mathlib.Core.List.{List, []}
 use mathlib.Core.Path.{◌≡◌, refl, sym, subst}
 use native.Mathlib.Numerals.{add-one}
 use native.Mathlib.Omega.{arith}
-use borrow.Author.Rules.{rules}
-use lib.ListN.{length, drop}
+use lib.ListN.{drop}
 use Rattle.rtr_room.specs.Room.{records}
 use Rattle.rtr_room.specs.declared.Record.{Record}
 use Rattle.rtr_room.proofs.Laws.{rules-size}
@@ -15,7 +14,7 @@ use Rattle.rtr_changes.proofs.Laws.{room-of-rules, next-at, next-nothing, next-n
 use Rattle.rtr_changes.proofs.Places.{NextAt}
 use Rattle.rtr_listing.specs.Private.{Fits, Put}
 use Rattle.rtr_diffs.specs.Diffs.{change_lines}
-use Rattle.rtr_diffs.proofs.Sides.{Side, side-starts, side-fits, side-goes-on, side-ends}
+use Rattle.rtr_diffs.proofs.Sides.{side-starts, side-fits, side-goes-on, side-ends}
 use Rattle.rtr_diffs.proofs.put_side.Goals as goal
 
 pub loop-i-init : goal.loop-i-init

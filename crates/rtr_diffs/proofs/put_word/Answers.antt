@@ -6,7 +6,6 @@ use Rattle.rtr_listing.specs.Listing.{text, line_of}
 use Rattle.rtr_listing.specs.Private.{Put}
 use Rattle.rtr_diffs.specs.Diffs.{change_word}
 use Rattle.rtr_diffs.proofs.Texts.{word-length}
-use borrow.Author.Rules.{rules}
 use Rattle.rtr_diffs.proofs.put_word.Goals as goal
 
 pub put_line-requires : goal.put_line-requires

@@ -8,7 +8,6 @@ use Rattle.rtr_listing.specs.Private.{Put}
 use Rattle.rtr_listing.proofs.Puts.{put_then}
 use Rattle.rtr_listing.proofs.Calls.{too_short, wrote}
 use Rattle.rtr_diffs.proofs.Texts.{both-sides, both-lengths}
-use borrow.Author.Rules.{rules}
 use Rattle.rtr_diffs.proofs.write_changes.Goals as goal
 
 pub returns-then-out-needed : goal.returns-then-out-needed

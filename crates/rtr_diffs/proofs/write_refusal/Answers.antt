@@ -5,7 +5,6 @@ use native.Mathlib.Omega.{arith}
 use Rattle.rtr_listing.proofs.Calls.{too_short, wrote}
 use Rattle.rtr_diffs.specs.Diffs.{refusal_lines}
 use Rattle.rtr_diffs.proofs.Texts.{refusal-short}
-use borrow.Author.Rules.{rules}
 use Rattle.rtr_diffs.proofs.write_refusal.Goals as goal
 
 pub put_refusal-needed-requires : goal.put_refusal-needed-requires
