@@ -167,6 +167,8 @@ def by_clause(body, names):
     s = term.strip()
     if s.startswith("(") and closes(s):
         parts = top_commas(s[1:-1])
+        while len(parts) < len(names) and parts[-1].strip().startswith("(") and closes(parts[-1].strip()):
+            parts[-1:] = top_commas(parts[-1].strip()[1:-1])
         if len(parts) == len(names):
             return lets + " record {\n" + "".join(f"      {n} = {x.strip()};\n" for n, x in zip(names, parts)) + "    }"
     return lets + f"\n    let promised = {s} in record {{ " + "; ".join(f"{n} = promised.{k}" for k, n in enumerate(names)) + " }"
@@ -213,8 +215,13 @@ class Fn:
                 return ["auto" if rest[0] == "auto" else "new", self.info["params"][f][k], *rest[i + 1:]]
         parts = f.split("::")
         names = CLAUSES.get((parts[0], parts[-1]))
-        if names and len(names) > 1 and rest[0] == "ensures" and len(rest) > 1 and rest[1].isdigit() and int(rest[1]) < len(names):
-            return ["ensures", names[int(rest[1])], *rest[2:]]
+        if names and len(names) > 1 and rest[0] == "ensures" and len(rest) > 1 and rest[1].isdigit():
+            k, i = 0, 1
+            while k < len(names) - 1 and i < len(rest) and rest[i] == "1":
+                k, i = k + 1, i + 1
+            if k < len(names) - 1 and i < len(rest) and rest[i] == "0":
+                i += 1
+            return ["ensures", names[k], *rest[i:]]
         return rest
 
     def alias_map(self, text):
