@@ -26,7 +26,7 @@ pub fn feed_in_place(
     hold: &mut [u8],
     piece: &[u8],
 ) -> Done
-    ensures { FedAs session.entry.now.life.limit session.entry.now live.old working.old hold.old piece.now (record { session = session.exit.now; done = result }) live.new working.new hold.new }
+    ensures { FedAs session.old.life.limit session.old live.old working.old hold.old piece.now (record { session = session.new; done = result }) live.new working.new hold.new }
 {
     let fed = feed(*session, live, working, hold, piece);
     *session = fed.session;
@@ -42,7 +42,7 @@ pub fn feed_times(
     piece: &[u8],
     count: u32,
 )
-    ensures { FedTimes piece.now (record { session = session.entry.now; live = live.old; working = working.old; hold = hold.old }) count (record { session = session.exit.now; live = live.new; working = working.new; hold = hold.new }) }
+    ensures { FedTimes piece.now (record { session = session.old; live = live.old; working = working.old; hold = hold.old }) count (record { session = session.new; live = live.new; working = working.new; hold = hold.new }) }
 {
     let mut left = count;
     while left > 0 {
@@ -59,7 +59,7 @@ pub fn full_ask_in_place(
     hold: &[u8],
     out: &mut [u8],
 ) -> AskAnswer
-    ensures { ask_said (record { session = session.exit.now; answer = result }) live.now working.now hold.now out.new ≡ full_ask_says session.entry.now.life.limit session.entry.now live.now working.now hold.now out.old }
+    ensures { ask_said (record { session = session.new; answer = result }) live.now working.now hold.now out.new ≡ full_ask_says session.old.life.limit session.old live.now working.now hold.now out.old }
 {
     let asked = full_ask(*session, live, working, hold, out);
     *session = asked.session;
@@ -74,7 +74,7 @@ pub fn change_ask_in_place(
     hold: &[u8],
     out: &mut [u8],
 ) -> AskAnswer
-    ensures { ask_said (record { session = session.exit.now; answer = result }) live.now working.now hold.now out.new ≡ change_ask_says session.entry.now.life.limit session.entry.now live.now working.now hold.now out.old }
+    ensures { ask_said (record { session = session.new; answer = result }) live.now working.now hold.now out.new ≡ change_ask_says session.old.life.limit session.old live.now working.now hold.now out.old }
 {
     let asked = change_ask(*session, live, working, hold, out);
     *session = asked.session;
@@ -88,7 +88,7 @@ pub fn reconnect_in_place(
     working: &mut [u32],
     hold: &[u8],
 ) -> ReconnectAnswer
-    ensures { reconnect_said (record { session = session.exit.now; answer = result }) live.now working.new hold.now ≡ reconnect_says session.entry.now.life.limit session.entry.now live.now working.old hold.now }
+    ensures { reconnect_said (record { session = session.new; answer = result }) live.now working.new hold.now ≡ reconnect_says session.old.life.limit session.old live.now working.old hold.now }
 {
     let connected = reconnect(*session, live, working, hold);
     *session = connected.session;
