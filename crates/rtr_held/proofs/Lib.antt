@@ -1,2 +1,3 @@
--- What the record's calls and the run's promise leaves one result (`Unique`), and what many feeds come to (`Times`).
+-- Both are for readers and other crates: what each call's promise fixes, and what many feeds come to.
 pub mod Times
+pub mod Unique

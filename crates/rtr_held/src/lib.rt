@@ -4,6 +4,7 @@
 // The calls ending in `_through` take the record by value and lend it: whoever calls them needs no walk by hand. The run reader keeps captured bytes
 // together with a place in them; `read_run`, `rest_at` and `done_at` are the same over plain parameters, as `rtr_codec::read_at` is.
 #![tactic(auto)]
+
 ghost use Rattle.std.specs.Prelude.{◌≡◌, ◌-◌, leb, length};
 ghost use Rattle.rtr_codec.specs.Reading.{in_use};
 ghost use Rattle.rtr_codec.specs.Run.{read_at, run_said};

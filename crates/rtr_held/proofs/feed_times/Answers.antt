@@ -21,9 +21,9 @@ pub loop-left-preserved : goal.loop-left-preserved
 loop-left-preserved c = record {
   rest = omega arith;
   done =
-    one_more c.args.piece.now (record { session = c.args.session.now; live = c.args.live.now; working = c.args.working.now; hold = c.args.hold.now })
-    (record { session = c.loop-left.session; live = c.loop-left.live; working = c.loop-left.working; hold = c.loop-left.hold })
-    (record { session = c.feed_in_place-done.new.session; live = c.feed_in_place-done.new.live; working = c.feed_in_place-done.new.working; hold = c.feed_in_place-done.new.hold })
-    c.args.count c.loop-left.left (omega arith) c.loop-left.invariant.rest c.loop-left.invariant.done
-    (Step.fed c.feed_in_place-done.new.session c.feed_in_place-done.result _ _ _ c.feed_in_place-done.ensures.1 c.feed_in_place-done.ensures.0);
+      one_more c.args.piece.now (record { session = c.args.session.now; live = c.args.live.now; working = c.args.working.now; hold = c.args.hold.now })
+      (record { session = c.loop-left.session; live = c.loop-left.live; working = c.loop-left.working; hold = c.loop-left.hold })
+      (record { session = c.feed_in_place-done.new.session; live = c.feed_in_place-done.new.live; working = c.feed_in_place-done.new.working; hold = c.feed_in_place-done.new.hold })
+      c.args.count c.loop-left.left (omega arith) c.loop-left.invariant.rest c.loop-left.invariant.done
+      (Step.fed c.feed_in_place-done.new.session c.feed_in_place-done.result _ _ _ c.feed_in_place-done.ensures.1 c.feed_in_place-done.ensures.0);
 }
