@@ -1,8 +1,8 @@
 // A session record that is lent: a long-running host keeps one, lends it to each call, and finds it updated in place. Each call takes the record apart,
 // makes the receiver's by-value call and puts the record that comes back in its place, so it promises what that call promises, of the record at exit.
 // `feed_times` is such a host's loop: one record, lent once for all its feeds.
-// The calls ending in `_through` take the record by value and lend it: whoever calls them needs no walk by hand. The run reader keeps captured bytes
-// together with a place in them; `read_run`, `rest_at` and `done_at` are the same over plain parameters, as `rtr_codec::read_at` is.
+// The calls ending in `_through` take the record by value and lend it. The run reader keeps captured bytes together with a place in them; `read_run`,
+// `rest_at` and `done_at` are the same over plain parameters, as `rtr_codec::read_at` is.
 #![tactic(auto)]
 
 ghost use Rattle.std.specs.Prelude.{◌≡◌, ◌-◌, leb, length};
