@@ -51,6 +51,7 @@ times-join piece m y z n (suc k) first (FedTimes.more {m = x} fed step) = subst 
 
 -- ---- What is fixed
 
+-- a slice that is lent to be read, and one that is lent to be written, at a value
 abbrev shared : List ℕ → Bor (List ℕ)
 shared xs = record { ref_ptr = (0, 0); now = xs }
 
