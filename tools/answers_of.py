@@ -167,6 +167,8 @@ def by_clause(body, names):
     s = term.strip()
     if s.startswith("(") and closes(s):
         parts = top_commas(s[1:-1])
+        while len(parts) < len(names) and parts[-1].strip().startswith("(") and closes(parts[-1].strip()):
+            parts[-1:] = top_commas(parts[-1].strip()[1:-1])
         if len(parts) == len(names):
             return lets + " record {\n" + "".join(f"      {n} = {x.strip()};\n" for n, x in zip(names, parts)) + "    }"
     return lets + f"\n    let promised = {s} in record {{ " + "; ".join(f"{n} = promised.{k}" for k, n in enumerate(names)) + " }"
@@ -205,16 +207,21 @@ class Fn:
 
     def after_call(self, f, rest):
         """The fields behind a call: its clauses and what it left by their names."""
-        if rest[0] == "new" and len(rest) > 1 and f in self.info["params"]:
+        if rest[0] in ("new", "last", "auto") and len(rest) > 1 and f in self.info["params"]:
             k, i = 0, 1
             while i < len(rest) and rest[i] == "1":
                 k, i = k + 1, i + 1
             if i < len(rest) and rest[i] == "0" and k < len(self.info["params"][f]):
-                return ["new", self.info["params"][f][k], *rest[i + 1:]]
+                return ["auto" if rest[0] == "auto" else "new", self.info["params"][f][k], *rest[i + 1:]]
         parts = f.split("::")
         names = CLAUSES.get((parts[0], parts[-1]))
-        if names and len(names) > 1 and rest[0] == "ensures" and len(rest) > 1 and rest[1].isdigit() and int(rest[1]) < len(names):
-            return ["ensures", names[int(rest[1])], *rest[2:]]
+        if names and len(names) > 1 and rest[0] == "ensures" and len(rest) > 1 and rest[1].isdigit():
+            k, i = 0, 1
+            while k < len(names) - 1 and i < len(rest) and rest[i] == "1":
+                k, i = k + 1, i + 1
+            if k < len(names) - 1 and i < len(rest) and rest[i] == "0":
+                i += 1
+            return ["ensures", names[k], *rest[i:]]
         return rest
 
     def alias_map(self, text):
@@ -259,15 +266,21 @@ class Fn:
                     return ".".join([head, own, *segs[1:]])
                 if own:
                     return ".".join([head, own.split(".")[0], "is", *segs[2:]])
+            if step == "pre":
+                step = segs[0] = "requires"
+            if step == "good":
+                step = segs[0] = "well-formed"
             if step in ("args", "ranges"):
                 return ".".join([head, step, *(s.replace("-", "_") for s in segs[1:])])
             if step in ("requires", "type-inv", "well-formed"):
-                return head + m[2].replace("-", "_")
+                return ".".join([head, *segs]).replace("-", "_")
             rest = segs[1:]
             for k in range(len(rest), 0, -1):
                 hit = self.arms.get((step, tuple(rest[:k])))
                 if hit:
                     return ".".join([head, hit[0], hit[1], *rest[k:]])
+            if step not in self.steps and step.endswith("-lem") and step[:-4] in self.steps:
+                step = step[:-4]
             f = self.called.get(step)
             if f and rest:
                 rest = self.after_call(f, rest)
@@ -290,6 +303,25 @@ def alias_lets(body, aliases):
             return body
         body = body[:m.start()] + body[m.end():]
         body = re.sub(rf"(?<![\w.'-]){re.escape(m[1])}(?![\w₀-₉'-])", "c", body)
+
+
+def given_lets(body):
+    """Drops `let x = c.step.given.0 in` and puts the path for x."""
+    while True:
+        m = re.search(rf"let ({NAME}) = (c(?:\.before)*\.[\w₀-₉'-]+\.given(?:\.\d+)*) in\s*", body)
+        if not m:
+            return body
+        body = body[:m.start()] + body[m.end():]
+        body = re.sub(rf"(?<![\w.'-]){re.escape(m[1])}(?![\w₀-₉'-])", m[2], body)
+
+
+def no_auto(body):
+    """What a slice's length is said by an unnamed fact: omega finds it."""
+    body = re.sub(r"\n\s*c\.[\w.'-]+\.auto\.\d+,(?=\n)", "", body)
+    body = re.sub(r", c\.[\w.'-]+\.auto\.\d+(?=[,)])(?=[^()]*\))", lambda m: m[0] if False else "", body) if "omega (arith" in body else body
+    body = re.sub(r"\(arith, c\.[\w.'-]+\.auto\.\d+\)", "arith", body)
+    body = re.sub(r"c\.[\w.'-]+\.auto\.\d+", "(omega arith)", body)
+    return re.sub(r"omega \(arith\)", "omega arith", body)
 
 
 def helper_lets(sections):
@@ -332,7 +364,10 @@ def turn(old, info, fname, crate, out):
             inner = [l[2:] if l.startswith("  ") else l for l in b[b.index(first) + 1:]]
             for bb in decls("\n".join(inner)):
                 p = parse(bb)
-                if not p or p["body"] is None or p["params"]:
+                if p and p["body"] is not None and p["params"]:
+                    p["body"] = "λ " + " ".join(p["params"]) + ". " + p["body"]
+                    p["params"] = []
+                if not p or p["body"] is None:
                     fn.bad.append("helper " + bb[0])
                     loose.append("\n".join(bb))
                     continue
@@ -359,7 +394,9 @@ def turn(old, info, fname, crate, out):
             if m and p["body"] is not None and p["params"]:
                 par = p["params"][0]
                 r = lambda t, par=par: re.sub(rf"(?<![\w.'-]){par}(?![\w'-])", "c", t)
-                if len(p["params"]) == 1:
+                if len(p["params"]) > 1:
+                    p["body"] = "λ " + " ".join(p["params"][1:]) + ". " + p["body"]
+                if len(p["params"]) >= 1:
                     helpers.append((p["name"], re.sub(rf"(?<![\w.'-]){m[1]}(?![\w'-])", "c", m[2]), r(p["body"]), p))
                     continue
             fn.bad.append("over tie: " + p["name"])
@@ -369,25 +406,44 @@ def turn(old, info, fname, crate, out):
     # bodies
     hs = []
     for name, ty, body, p in helpers:
-        body = alias_lets(body.strip(), None)
+        body = fn.alias_map(given_lets(alias_lets(body.strip(), None)))
         hs.append((name, re.sub(r"(?<![\w.'-])c((?:\.before)+)(?![\w-])", "c", ty), re.sub(r"(?<![\w.'-])c((?:\.before)+)(?![\w-])", "c", body), p))
-    pure = {n for n, t, b, p in hs if re.fullmatch(r"c", b)}
+    pure = set()
 
     def helped(body):
         body = re.sub(r"(?<![\w.'-])c((?:\.before)+)(?![\w-])", "c", body)
-        for n in pure:
-            body = re.sub(rf"\({re.escape(n)} c\)", "c", body)
-            body = re.sub(rf"(?<![\w.'-]){re.escape(n)} c(?![\w'-])", "c", body)
-            body = re.sub(rf"(?<![\w.'-]){re.escape(n)}(?=\.)", "c", body)
+        while True:
+            was = body
+            for n in pure:
+                body = re.sub(rf"\({re.escape(n)} c\)", "c", body)
+                body = re.sub(rf"(?<![\w.'-]){re.escape(n)} c(?![\w'-])", "c", body)
+                body = re.sub(rf"(?<![\w.'-]){re.escape(n)}(?=\.)", "c", body)
+                body = re.sub(rf"(?<![\w.'-]){re.escape(n)}(?![\w'-])", "c", body)
+            body = re.sub(r"\(c\)", "c", body)
+            body = re.sub(r"(?<![\w.'-])c((?:\.before)+)(?![\w-])", "c", body)
+            body = re.sub(r"(?<![\w.'-])c c(?![\w'.-])", "c", body)
+            if was == body:
+                break
         for n, t, b, p in hs:
             body = re.sub(rf"\({re.escape(n)} c\)", n, body)
             body = re.sub(rf"(?<![\w.'-]){re.escape(n)} c(?![\w.'-])", n, body)
         return body
 
+    while True:
+        more = {n for n, t, b, p in hs if n not in pure and helped(b) == "c"}
+        if not more:
+            break
+        pure |= more
+
     hs2 = [(n, fn.path_map(helped(t)), fn.path_map(helped(b)), p) for n, t, b, p in hs if n not in pure]
 
     def with_helpers(body):
-        body = fn.path_map(helped(body))
+        while True:
+            was = body
+            body = given_lets(alias_lets(helped(body), None))
+            if body == was:
+                break
+        body = fn.path_map(fn.alias_map(body))
         need, todo = set(), [body]
         while todo:
             x = todo.pop()
@@ -450,6 +506,7 @@ def turn(old, info, fname, crate, out):
             body = re.sub(rf"(?<![\w.'-]){par}(?![\w'-])", "c", body)
         fn.goal = new
         body = alias_lets(body, None)
+        body = given_lets(body)
         body = fn.alias_map(body)
         lets, body = with_helpers(body)
         body = body.replace(".type-inv", ".type_inv")
@@ -458,11 +515,8 @@ def turn(old, info, fname, crate, out):
             body = body2
             if not any("{opened}" in u for u in uses):
                 uses.append("use borrow.Enum.Refused.{opened}")
-        # what a slice's length is said by an unnamed fact: omega finds it
-        body = re.sub(r"\n\s*c\.[\w.'-]+\.auto\.\d+,(?=\n)", "", body)
-        body = re.sub(r", c\.[\w.'-]+\.auto\.\d+(?=[,)])", "", body)
-        body = re.sub(r"\(arith, c\.[\w.'-]+\.auto\.\d+\)", "arith", body)
-        body = re.sub(r"omega \(arith\)", "omega arith", body)
+        body = no_auto(body)
+        lets = [no_auto(x) for x in lets]
         own = CLAUSES.get((crate, fname.split(".")[-1]))
         if own and len(own) > 1 and new.startswith("returns"):
             body = by_clause(body, own)

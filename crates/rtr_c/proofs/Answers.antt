@@ -120,7 +120,7 @@ listing-answers session live out = by-found (session_of session) refl
         ListingAnswers session live out (encode_left (listing_says s.life.limit s live out))
     by-room s e t true q =
         let fits = leb-true (length (text_of s live)) (length out) q in
-        let left = listing.listed-is s.life.limit s live out t ∙ listing.written-is (text_of s live) out fits in
+        let left = listing.listed-is s.life.limit s live out t ∙ listing.written_is (text_of s live) out fits in
         subst (ListingAnswers session live out) (sym (ap encode_left left)) (ListingAnswers.whole s e (no-reason s t) fits)
     by-room s e t false q =
         let less = leb-false (length (text_of s live)) (length out) q in

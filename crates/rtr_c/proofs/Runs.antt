@@ -19,7 +19,7 @@ use Rattle.rtr_receiver.specs.declared.LiveTable.{LiveTable}
 use Rattle.rtr_receiver.specs.declared.Session.{Session}
 use Rattle.rtr_receiver.proofs.Laws.{shape-kept, feed-counts, limit-for-life, next-step}
 use Rattle.rtr_receiver.proofs.Shaped as receiver
-use Rattle.rtr_receiver.proofs.Runs.{history, no_table}
+use Rattle.rtr_receiver.proofs.Runs.{history, no_table_lem}
 use Rattle.rtr_numbers.specs.Numbers.{table_number}
 use Rattle.rtr_numbers.specs.Back.{session_of}
 use Rattle.rtr_numbers.specs.declared.SessionFound.{SessionFound}
@@ -156,7 +156,7 @@ c-no-table {version} {H} {calls} {c} v e r =
     let same : b.spoken ≡ v = cc (b.spoken-is, e) in
     let one : finished record_limit H b.spoken (history_of calls) ≡ finished record_limit H v (history_of calls) = ap (λ (x : RtrProtocolVersion). finished record_limit H x (history_of calls)) same in
     let six : get_or c.session 6 0 ≡ table_number s.table = (table-held c s b.known_is).known in
-    let law = no_table record_limit H b.spoken calls (memory_of c s) b.run in
+    let law = no_table_lem record_limit H b.spoken calls (memory_of c s) b.run in
     (λ q. sym one ∙ law.0 (none s.table (sym six ∙ q)), λ q. six ∙ ap table_number (law.1 (one ∙ q)))
   where
     none : (t : LiveTable) → table_number t ≡ 0 → t ≡ LiveTable.NoTable

@@ -1,6 +1,7 @@
 // The static library for hosts: numbers and slices only, C ABI (include/hingemoss.h). A slice is a pointer and a length. Each call is a
 // thin one over the crates below; every input has its answer, and a refused call changes nothing but the numbers that it answers with.
 #![tactic(auto)]
+
 ghost use Rattle.std.specs.Prelude.{true, ◌≡◌};
 ghost use Rattle.rtr_codec.specs.Read.{read};
 ghost use Rattle.rtr_codec.specs.Reading.{in_use};

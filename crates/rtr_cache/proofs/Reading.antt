@@ -112,17 +112,21 @@ reads-forward : {s : List ℕ} {at end : ℕ} {pdus : List RtrPdu} → ReadsAs s
 reads-forward ReadsAs.over = omega arith
 reads-forward (ReadsAs.next e rest) = omega (arith, reads-forward rest)
 
+-- the same, of two places and two ends that are equal
+once : (s : List ℕ) (at at' end end' : ℕ) (ps qs : List RtrPdu) → at ≡ at' → end ≡ end' → ReadsAs s at ps end → ReadsAs s at' qs end' → ps ≡ qs
+once s at at' end end' ps qs p q ReadsAs.over ReadsAs.over = refl
+once s at at' end end' ps qs p q ReadsAs.over (ReadsAs.next {n = n} {pdu = pdu} e rest) = absurd (omega (arith, moves-on s at' n pdu e, reads-forward rest))
+once s at at' end end' ps qs p q (ReadsAs.next {n = n} {pdu = pdu} e rest) ReadsAs.over = absurd (omega (arith, moves-on s at n pdu e, reads-forward rest))
+once s at at' end end' ps qs p q (ReadsAs.next {n = n} {pdu = pdu} {pdus = more} e rest) (ReadsAs.next {n = n'} {pdu = pdu'} {pdus = more'} e' rest') =
+    let same : accepted pdu n ≡ accepted pdu' n' = ap (λ (x : Step). x.answer) (sym e ∙ ap (λ (k : ℕ). read_at in_use s k) p ∙ e') in
+    let pdus : pdu ≡ pdu' = cc in
+    let lengths : n ≡ n' = cc in
+    let later : more ≡ more' = once s (at + n) (at' + n') end end' more more' (omega arith) q rest rest' in
+    λ i. pdus i ∷ later i
+
 -- what is read from one place to another is one list of PDUs
 pub reads-as-once : (s : List ℕ) (at end : ℕ) (ps qs : List RtrPdu) → ReadsAs s at ps end → ReadsAs s at qs end → ps ≡ qs
-reads-as-once s at end ps qs ReadsAs.over ReadsAs.over = refl
-reads-as-once s at end ps qs ReadsAs.over (ReadsAs.next {n = n} {pdu = pdu} e rest) = absurd (omega (arith, moves-on s at n pdu e, reads-forward rest))
-reads-as-once s at end ps qs (ReadsAs.next {n = n} {pdu = pdu} e rest) ReadsAs.over = absurd (omega (arith, moves-on s at n pdu e, reads-forward rest))
-reads-as-once s at end ps qs (ReadsAs.next {n = n} {pdu = pdu} {pdus = more} e rest) (ReadsAs.next {n = n'} {pdu = pdu'} {pdus = more'} e' rest') =
-    let same : accepted pdu n ≡ accepted pdu' n' = ap (λ (x : Step). x.answer) (sym e ∙ e') in
-    let pdus : pdu ≡ pdu' = cc in
-    let lengths : n' ≡ n = cc in
-    let later : more ≡ more' = reads-as-once s (at + n) end more more' rest (subst (λ (k : ℕ). ReadsAs s (at + k) more' end) lengths rest') in
-    λ i. pdus i ∷ later i
+reads-as-once s at end ps qs a b = once s at at end end ps qs refl refl a b
 
 -- ---- to a history
 

@@ -1,6 +1,7 @@
 // The cache's side: a table, or what changed from one table to another, as the run of PDUs that a cache answers with. Tables are lent as rooms and only read. A refusal writes
 // nothing, and what stands behind a run in the output stays.
 #![tactic(auto)]
+
 ghost use Rattle.std.specs.Prelude.{[], ◌≡◌, ◌+◌, ◌*◌, ◌≤◌, ◌<◌, length};
 ghost use Rattle.rtr_codec.specs.Reading.{in_use};
 ghost use Rattle.rtr_encode.specs.Answers.{number_of};

@@ -1,5 +1,6 @@
 // What changed between two listings, as a text. The call takes every two texts; a refused file is told in the text.
 #![tactic(auto)]
+
 ghost use Rattle.std.specs.Prelude.{◌++◌, ◌≡◌, ◌+◌, ◌*◌, ◌≤◌, ◌<◌, length};
 ghost use Rattle.rtr_receiver.specs.Promises.{record_limit};
 ghost use Rattle.rtr_room.specs.Room.{records, record_at};

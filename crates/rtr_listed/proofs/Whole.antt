@@ -9,7 +9,6 @@ use borrow.Author.Tests.{eqb-true, eqb-false, eq-eqb, ne_eqb}
 use lib.Dec.{eqb}
 use lib.ListN.{length, drop, get_or, replicate}
 use lib.Seq.{drop-cons, drop-length}
-use Rattle.rtr_room.specs.Room.{room}
 use Rattle.rtr_room.specs.declared.Record.{Record}
 use Rattle.rtr_room.proofs.Laws.Tests.{first_of, second-of}
 use Rattle.rtr_listing.specs.declared.Head.{Head}

@@ -1,5 +1,6 @@
 // A listing read back: the stop's number, the table's numbers and its records, into a lent room; or the number of the first line that does not fit or is missing. The call takes every text.
 #![tactic(auto)]
+
 ghost use Rattle.std.specs.Prelude.{true, ◌&&◌, ◌||◌, List, [], ◌∷◌, ◌++◌, ◌≡◌, ◌+◌, ◌*◌, ◌≤◌, ◌<◌, eqb, leb, length, drop, replicate};
 ghost use Rattle.rtr_receiver.specs.Promises.{record_limit};
 ghost use Rattle.rtr_room.specs.Room.{records, is_room, limit_of};

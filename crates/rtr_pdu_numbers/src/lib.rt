@@ -1,6 +1,7 @@
 // PDUs as plain numbers, both ways, for a host that has no Rattle types: 12 numbers are a PDU. What is read back is written again and
 // compared, so numbers that are nobody's are told from every other. Sessions: rtr_numbers.
 #![tactic(auto)]
+
 ghost use Rattle.std.specs.Prelude.{cond, ◌≡◌, ◌%◌, eqb, length, get_or};
 ghost use Rattle.rtr_numbers.specs.Back.{loose_version};
 ghost use Rattle.rtr_pdu_numbers.specs.Numbers.{pdu_numbers, end_seconds};

@@ -1,0 +1,25 @@
+-- `hingemoss_change_ask` finds the session, asks, and writes the session back. Assumes nothing.
+use mathlib.Core.Path.{refl}
+use Rattle.rtr_receiver.specs.declared.Session.{Session}
+use Rattle.rtr_receiver.specs.Promises.{change_ask_says}
+use Rattle.rtr_c.specs.Calls.{change_ask_c}
+use Rattle.rtr_c.proofs.Steps.{stays-session, leads-change, leads-none, ask-known, ask-unknown}
+use Rattle.rtr_c.proofs.hingemoss_change_ask.Goals as goal
+
+pub returns-in-Known : goal.returns-in-Known
+unfolding change_ask_c
+returns-in-Known c =
+    record {
+      out_after = ask-known c.args.session.now c.session_of-found.result c.session_of-found.ensures (λ (s : Session). change_ask_says s.life.limit s c.args.live.now c.args.working.now c.args.hold.now c.args.out.now) c.args.live.now c.args.working.now c.args.hold.now c.args.out.now _ c.change_ask-asked.result _ _ _ c.in-Known.is c.change_ask-asked.ensures c.ask_number.ensures c.put_session.ensures.value.1;
+      session_unchanged = stays-session c.args.session.now c.session_of-found.result c.session_of-found.ensures _ _ _ c.in-Known.is c.put_session.ensures.numbers_after;
+      leads_on = leads-change c.args.session.now c.session_of-found.result c.session_of-found.ensures c.args.live.now c.args.working.now c.args.hold.now _ c.in-Known.is c.args.out.now c.change_ask-asked.result _ _ c.change_ask-asked.ensures c.put_session.ensures.numbers_after;
+    }
+
+pub returns-in-Unknown : goal.returns-in-Unknown
+unfolding change_ask_c
+returns-in-Unknown c =
+    record {
+      out_after = ask-unknown c.args.session.now c.session_of-found.result c.session_of-found.ensures (λ (s : Session). change_ask_says s.life.limit s c.args.live.now c.args.working.now c.args.hold.now c.args.out.now) c.args.live.now c.args.working.now c.args.hold.now c.args.out.now c.in-Unknown.is;
+      session_unchanged = refl;
+      leads_on = leads-none c.args.session.now c.session_of-found.result c.session_of-found.ensures c.args.live.now c.args.working.now c.args.hold.now _ _ c.in-Unknown.is;
+    }

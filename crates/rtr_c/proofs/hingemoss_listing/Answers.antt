@@ -1,0 +1,9 @@
+-- `hingemoss_listing` finds the session and lists it. Assumes nothing.
+use Rattle.rtr_c.proofs.Steps.{listing-known, listing-unknown}
+use Rattle.rtr_c.proofs.hingemoss_listing.Goals as goal
+
+pub returns-in-Known : goal.returns-in-Known
+returns-in-Known c = listing-known c.args.session.now c.session_of-found.result c.session_of-found.ensures c.args.live.now c.args.out.now _ c.listing-answer.result _ _ _ c.in-Known.is c.listing-answer.ensures c.list_number.ensures c.list_amount.ensures
+
+pub returns-in-Unknown : goal.returns-in-Unknown
+returns-in-Unknown c = listing-unknown c.args.session.now c.session_of-found.result c.session_of-found.ensures c.args.live.now c.args.out.now c.in-Unknown.is

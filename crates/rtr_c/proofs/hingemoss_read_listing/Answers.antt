@@ -1,0 +1,21 @@
+-- `hingemoss_read_listing` tests the head's length, reads the listing, and writes the head's numbers or the line. Assumes nothing.
+use borrow.Author.Tests.{ne_eqb}
+use Rattle.rtr_c.specs.Calls.{read_listing_c}
+use Rattle.rtr_c.proofs.Serving.{listing-read, listing-misread}
+use Rattle.rtr_c.proofs.hingemoss_read_listing.Goals as goal
+
+pub returns-then-head-ne-HEAD_NUMBERS : goal.returns-then-head-ne-HEAD_NUMBERS
+unfolding read_listing_c
+returns-then-head-ne-HEAD_NUMBERS c = simp (ne_eqb _ _ c.if-head-ne-HEAD_NUMBERS.true)
+
+pub returns-in-Listed : goal.returns-in-Listed
+returns-in-Listed c =
+    let a = c.args in
+    listing-read a.text.now a.room.now a.head.now c.if-head-ne-HEAD_NUMBERS.false c.read_listing-answer.result _ c.read_listing-answer.ensures
+    _ _ _ c.in-Listed.is c.head_numbers-numbers.ensures c.put_numbers.ensures.1
+
+pub returns-in-Refused : goal.returns-in-Refused
+returns-in-Refused c =
+    let a = c.args in
+    listing-misread a.text.now a.room.now a.head.now c.if-head-ne-HEAD_NUMBERS.false c.read_listing-answer.result _ c.read_listing-answer.ensures
+    _ _ _ c.in-Refused.is c.number.ensures c.line_number.ensures

@@ -1,0 +1,39 @@
+-- `hingemoss_start` tests the length and the version, starts, and writes the session's numbers. Assumes nothing.
+use native.Mathlib.Omega.{arith}
+use borrow.Author.Tests.{ne_eqb}
+use Rattle.rtr_c.specs.Calls.{start_c}
+use Rattle.rtr_c.proofs.Steps.{reads-back, begins, start-unknown, start-started, start-refused}
+use Rattle.rtr_c.proofs.hingemoss_start.Goals as goal
+
+pub returns-then-session-ne-SESSION_NUMBERS : goal.returns-then-session-ne-SESSION_NUMBERS
+unfolding start_c
+returns-then-session-ne-SESSION_NUMBERS c =
+    record {
+      working_after = simp (ne_eqb _ _ c.if-session-ne-SESSION_NUMBERS.true);
+      session_after = λ e. absurd (omega arith);
+      begins = λ e. absurd (omega arith);
+    }
+
+pub returns-in-Started : goal.returns-in-Started
+returns-in-Started c =
+    record {
+      working_after = start-started c.args.version c.args.session.now c.args.live.now c.args.working.now c.args.hold.now c.if-session-ne-SESSION_NUMBERS.false c.from_u8-found.result c.from_u8-found.ensures _ c.start-answer.result _ _ _ _ c.in-Known.is c.start-answer.ensures c.in-Started.is c.put_session.ensures.value.1;
+      session_after = λ e. reads-back _ _ (c.put_session.ensures.numbers_after c.if-session-ne-SESSION_NUMBERS.false);
+      begins = λ e. begins c.args.version c.args.session.now c.args.live.now c.args.working.now c.args.hold.now c.if-session-ne-SESSION_NUMBERS.false c.from_u8-found.result c.from_u8-found.ensures _ c.start-answer.result _ _ _ _ c.in-Known.is c.start-answer.ensures c.in-Started.is c.put_session.ensures.numbers_after;
+    }
+
+pub returns-in-NotAReceiver : goal.returns-in-NotAReceiver
+returns-in-NotAReceiver c =
+    record {
+      working_after = start-refused c.args.version c.args.session.now c.args.live.now c.args.working.now c.args.hold.now c.if-session-ne-SESSION_NUMBERS.false c.from_u8-found.result c.from_u8-found.ensures _ c.start-answer.result _ _ c.in-Known.is c.start-answer.ensures c.in-NotAReceiver.is;
+      session_after = λ e. absurd (omega arith);
+      begins = λ e. absurd (omega arith);
+    }
+
+pub returns-in-Unknown : goal.returns-in-Unknown
+returns-in-Unknown c =
+    record {
+      working_after = start-unknown c.args.version c.args.session.now c.args.live.now c.args.working.now c.args.hold.now c.if-session-ne-SESSION_NUMBERS.false c.from_u8-found.result c.from_u8-found.ensures c.in-Unknown.is;
+      session_after = λ e. absurd (omega arith);
+      begins = λ e. absurd (omega arith);
+    }

@@ -1,0 +1,18 @@
+-- `hingemoss_validate` tests the route's numbers, finds the session and asks of the route. Assumes nothing.
+use Rattle.rtr_c.proofs.Questions.{validate-not-six, validate-known, validate-unknown}
+use Rattle.rtr_c.proofs.hingemoss_validate.Goals as goal
+
+pub returns-then-route-ne6 : goal.returns-then-route-ne6
+returns-then-route-ne6 c =
+    let a = c.args in
+    validate-not-six a.live.now a.working.now a.hold.now a.session.now a.route.now c.if-route-ne6.true
+
+pub returns-in-Known : goal.returns-in-Known
+returns-in-Known c =
+    let a = c.args in
+    validate-known a.live.now a.working.now a.hold.now a.session.now a.route.now c.if-route-ne6.false c.session_of-found.result c.session_of-found.ensures _ c.route_of.result c.asked_route-asked.result c.validate-answer.result _ _ c.in-Known.is c.route_of.ensures c.asked_route-asked.ensures c.validate-answer.ensures c.validate_number.ensures c.validate_state.ensures
+
+pub returns-in-Unknown : goal.returns-in-Unknown
+returns-in-Unknown c =
+    let a = c.args in
+    validate-unknown a.live.now a.working.now a.hold.now a.session.now a.route.now c.if-route-ne6.false c.session_of-found.result c.session_of-found.ensures c.in-Unknown.is

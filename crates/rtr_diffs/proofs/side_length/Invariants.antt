@@ -1,0 +1,13 @@
+-- `side_length`: at the loop's head `sum` and what is left make the whole. The measure is how many places are left. Assumes nothing.
+use Prim.Native.Nat.{◌+◌, ◌-◌, ◌*◌, ◌≤◌}
+use mathlib.Core.Path.{◌≡◌}
+use lib.ListN.{length, drop}
+use Rattle.rtr_room.specs.Room.{records}
+use Rattle.rtr_diffs.specs.Private.{side_lines}
+use Rattle.rtr_diffs.proofs.side_length.Given as goal
+
+abbrev pub invariant-loop-i : goal.invariant-loop-i
+invariant-loop-i l = (l.i ≤ l.a_count) × (l.sum ≤ 144 * l.i) × (l.sum + length (side_lines l.announced (drop l.i (records l.a_count l.a)) (records l.b_count l.b)) ≡ length (side_lines l.announced (records l.a_count l.a) (records l.b_count l.b)))
+
+abbrev pub decreases-loop-i : goal.decreases-loop-i
+decreases-loop-i l = l.a_count - l.i

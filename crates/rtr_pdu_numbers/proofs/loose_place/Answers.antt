@@ -1,0 +1,9 @@
+-- `loose_place` takes two numbers. Assumes nothing.
+use mathlib.Core.Path.{◌∙◌}
+use Rattle.rtr_pdu_numbers.proofs.loose_place.Goals as goal
+
+pub returns : goal.returns
+returns c =
+    let start = c.size.ensures ∙ c.at.ensures in
+    let len = c.size-2.ensures ∙ c.at-2.ensures in
+    λ i. record { start = start i; len = len i }

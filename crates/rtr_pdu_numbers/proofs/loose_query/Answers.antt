@@ -1,0 +1,11 @@
+-- `loose_query` takes number after number. Assumes nothing.
+use mathlib.Core.Path.{ap, ◌∙◌}
+use Prim.Native.Nat.{ℕ, ◌%◌}
+use Rattle.rtr_models.specs.declared.RtrPdu.TheVariants.{SerialQuery}
+use Rattle.rtr_pdu_numbers.proofs.loose_query.Goals as goal
+
+pub returns : goal.returns
+returns c =
+    let session-id = c.low16.ensures ∙ ap (λ (n : ℕ). n % 65536) c.at.ensures in
+    let serial-number = c.low32.ensures ∙ ap (λ (n : ℕ). n % 4294967296) c.at-2.ensures in
+    λ i. SerialQuery (record { version = c.args.version; session_id = session-id i; serial_number = serial-number i })
