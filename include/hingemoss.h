@@ -1,4 +1,4 @@
-/* Hingemoss: a proved receiver of the RPKI-to-Router protocol (RFC 6810, RFC 8210). `rt staticlib rtr_c` writes its archive, target/staticlib/librtr_c.a, for x86-64; of C's library it
+/* Hingemoss: a proved receiver of the RPKI-to-Router protocol (RFC 6810, RFC 8210). `rt lib --cpu x86-64` in crates/rtr_c writes its archive, out/librtr_c.a there; of C's library it
  * needs memset alone.
  *
  * Every call takes every input and answers; nothing is allocated, and nothing is kept between calls but the memory that you lend. A call's answer is 0 or a refusal's number (below); where several

@@ -1,6 +1,6 @@
 """tests/diffs --program: bin/rtr-diff and its program on files, and what both print beside what the model prints.
 
-bin/rtr-diff is run with two words and, in a folder with old.txt and new.txt, without any. The program itself (target/bin/rtr_diff, which bin/rtr-diff has then built) is run
+bin/rtr-diff is run with two words and, in a folder with old.txt and new.txt, without any. The program itself (crates/rtr_diff/out/rtr_diff, which bin/rtr-diff has then built) is run
 on the stored cases, on endless files with little memory, and on pipes. What is printed on standard output must be the model's, and no file may come or go. The exit status and
 standard error are told and not compared: no paper speaks of them.
 """
@@ -200,11 +200,6 @@ def in_kit(root, binary, before=""):
     return ["bash", "-c", '. "$0/bin/kit.sh"; kit_find || exit 2; %s exec "${TIME[@]}" env -i "${RUN[@]}" "$1"' % before, root, binary]
 
 
-def is_emulated(root):
-    done = subprocess.run(["bash", "-c", '. "$0/bin/kit.sh"; kit_find || exit 2; echo "${RUN[0]}"', root], stdout=subprocess.PIPE)
-    return b"qemu" in done.stdout
-
-
 def by_program(runs, files, root, binary, folder_of_stored, before, given, rules):
     """The program alone: stored cases, endless files and pipes."""
     folder = files.new()
@@ -214,8 +209,8 @@ def by_program(runs, files, root, binary, folder_of_stored, before, given, rules
             files.put(old, case.old)
             files.put(new, case.new)
             runs.run("stored, " + case.name, answer.out[:answer.written], in_kit(root, binary), folder)
-    # no more memory than for a small file; where the kit's emulator runs, an upper bound cannot be set
-    limit = "" if is_emulated(root) else "ulimit -v %d;" % MEMORY_KIB
+    # no more memory than for a small file
+    limit = "ulimit -v %d;" % MEMORY_KIB
     timed = os.path.exists("/usr/bin/time")
     words = in_kit(root, binary, limit + (" TIME=(/usr/bin/time -f 'held %M');" if timed else " TIME=();"))
     good = cases.bases(rules)["other"]
@@ -241,7 +236,7 @@ def by_program(runs, files, root, binary, folder_of_stored, before, given, rules
                 small = held if small is None else small
                 most = max(most, held)
                 runs.told(where + ": it holds no more", b"no more", 0, b"no more" if held <= small + GROWTH_KIB else b"%d KiB more" % (held - small))
-    print("memory: %s, %s" % ("at most %d KiB of addresses" % MEMORY_KIB if limit else "no limit set in the emulator",
+    print("memory: %s, %s" % ("at most %d KiB of addresses" % MEMORY_KIB,
                               "%d KiB held with small files and %d at the most" % (small or 0, most) if timed else "no /usr/bin/time"))
     # endless by nature
     for which, path, beside in (("old", old, new), ("new", new, old)):
@@ -299,7 +294,7 @@ def by_pipe(runs, folder, words, rules):
 
 def main(root, folder_of_stored, before, given, rules):
     command = os.path.abspath(given.command or os.path.join(root, "bin", "rtr-diff"))
-    binary = os.path.abspath(given.binary or os.path.join(root, "target", "bin", "rtr_diff"))
+    binary = os.path.abspath(given.binary or os.path.join(root, "crates", "rtr_diff", "out", "rtr_diff"))
     if not os.access(command, os.X_OK):
         print("tests/diffs: there is no program %s" % command)
         return 2

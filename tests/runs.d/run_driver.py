@@ -120,14 +120,14 @@ def built(folder, name, source, library):
     """A C file's program over the library."""
     program = os.path.join(folder, name)
     script = '. "$0/bin/kit.sh"; kit_find || exit 2; out=$1 source=$2; shift 2; '
-    script += '[ $# -gt 0 ] || { kit_archives rtr_c || exit 2; set -- "$0/target/staticlib/librtr_c.a"; }; kit_cc "$out" "$source" "$@" || exit 2'
+    script += '[ $# -gt 0 ] || { kit_archives rtr_c || exit 2; set -- "$0/crates/rtr_c/out/librtr_c.a"; }; kit_cc "$out" "$source" "$@" || exit 2'
     if subprocess.run(["bash", "-c", script, ROOT, program, os.path.join(ROOT, source), *library], stdout=sys.stderr).returncode != 0:
         die("%s could not be built" % source)
     return program
 
 
 def in_kit(program):
-    """Words that run an x86-64 program, whatever the machine."""
+    """Words that run a program under the kit's own loader."""
     found = subprocess.run(["bash", "-c", '. "$0/bin/kit.sh"; kit_find || exit 2; printf "%s\\n" "${RUN[@]}"', ROOT], stdout=subprocess.PIPE, text=True)
     return found.stdout.splitlines() + [program]
 
