@@ -1,6 +1,10 @@
--- What the program hands over to be written. No contract can say what was read and what was written.
+-- What the program reads into and what it hands over to be written. No contract can say what was read and what was written.
 use Rattle.std.specs.Prelude.{ℕ, ◌+◌, ◌*◌, ◌≤◌, List, ◌≡◌, length, take}
 use Rattle.rtr_receiver.specs.Promises.{record_limit}
+
+-- n bytes stand at the front of this
+abbrev pub IsPrefixLen : ℕ → List ℕ → Type 0
+IsPrefixLen n xs = (n ≤ length xs) × (n ≡ length (take n xs))
 
 -- the first n bytes are this text
 pub record Shows (text : List ℕ) (n : ℕ) (out : List ℕ) : Type 0 where

@@ -4,16 +4,18 @@
 // got. Of each file as much is read as can decide: what stands behind it changes no text (`front-decides-text` of rtr_diffs), so a file of any size, or without an
 // end, is answered in constant memory.
 #![tactic(auto)]
-ghost use Rattle.std.specs.Prelude.{◌<◌, length};
-ghost use Rattle.io.specs.Counts.{IsPrefixLen};
+
+ghost use Rattle.std.specs.Prelude.{◌<◌, ◌≤◌, length};
 ghost use Rattle.rtr_receiver.specs.Promises.{record_limit};
-ghost use Rattle.rtr_diff.specs.Printing.{Shows, Sized};
+ghost use Rattle.rtr_diff.specs.Printing.{IsPrefixLen, Shows, Sized};
 ghost use Rattle.rtr_diffs.specs.Diffs.{diff_text};
 
-use libc::STDOUT_FILENO;
 use rtr_diffs::diff;
 use rtr_listing::ListAnswer;
 use rtr_receiver::RECORD_LIMIT;
+use std::io::Read;
+use std::rt::Files;
+use std::{fs, io};
 
 // More than any listing has: 128 bytes for the head, for each record and once more.
 const FRONT: usize = 128 * (2 + RECORD_LIMIT);
@@ -21,18 +23,43 @@ const FRONT: usize = 128 * (2 + RECORD_LIMIT);
 // More than any text has: 144 bytes for each change of either table, or 64 for a refusal.
 const TEXT: usize = 64 + 288 * RECORD_LIMIT;
 
+// What a read puts at the front of a place; one that fails counts as one of nothing.
+fn read_some(file: &mut impl Read, place: &mut [u8]) -> usize
+    ensures { result ≤ length place.new }
+{
+    match file.read(place) {
+        Ok(n) => n,
+        Err(_) => 0,
+    }
+}
+
+// Reads until the front is full, the file ends or a read fails.
+fn read_front(file: &mut impl Read, front: &mut [u8]) -> usize
+    ensures { IsPrefixLen result front.new }
+{
+    let mut done = 0;
+    while done < front.len() {
+        let n = read_some(file, &mut front[done..]);
+        if n == 0 {
+            return done;
+        }
+        done += n;
+    }
+    done
+}
+
 // The front of a file; one that cannot be opened counts as empty.
-fn read_file(name: &[u8], front: &mut [u8]) -> usize
+fn read_file(rt: &impl Files, name: &str, front: &mut [u8]) -> usize
     requires { 131200 < length front.old }
     ensures { IsPrefixLen result front.new }
 {
-    let fd = os::open_read(name);
-    if fd < 0 {
-        return 0;
+    match fs::open(rt, name) {
+        Ok(file) => {
+            let mut file = file;
+            read_front(&mut file, front)
+        }
+        Err(_) => 0,
     }
-    let n = io::read_full(fd, front);
-    libc::close(fd);
-    n
 }
 
 // All that is done between the input and the output.
@@ -53,14 +80,14 @@ fn diff_text(
     }
 }
 
-fn main() {
+fn main(rt: HostRuntime) -> io::Result<()> {
     let mut old = [0u8; FRONT];
     let mut new = [0u8; FRONT];
     let mut old_room = [0u32; 6 * RECORD_LIMIT];
     let mut new_room = [0u32; 6 * RECORD_LIMIT];
     let mut out = [0u8; TEXT];
-    let m = read_file(b"old.txt", &mut old);
-    let n = read_file(b"new.txt", &mut new);
+    let m = read_file(&rt, "old.txt", &mut old);
+    let n = read_file(&rt, "new.txt", &mut new);
     let k = diff_text(
         &old[0..m],
         &new[0..n],
@@ -68,5 +95,5 @@ fn main() {
         &mut new_room,
         &mut out,
     );
-    io::write_all(STDOUT_FILENO, &out[0..k]);
+    rt.write_all(&out[0..k])
 }

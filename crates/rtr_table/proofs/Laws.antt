@@ -128,17 +128,17 @@ input-ends limit H v calls m m' last pieces run (Input.turns_used turns most) = 
 -- ---- the program
 
 -- what is handed over to be written is the stop's line and the table that the finished updates of the history make, however the input was cut; and the
--- history is of the whole input, as above
-pub program-prints-history : (κs : _) (a : _) (n : ℕ) (s : _) → list_all.Post κs a n s →
+-- history is of the whole input, as above; whatever the input is read from
+pub program-prints-history : (input : _) (row : _) (reads : _) (dict : _) (κs : _) (a : _) (n : ℕ) (s : _) → list_all.Post input row reads dict κs a n s →
     (end : Ended)
     × (pieces : List (List ℕ))
-    × (take n s.1.1.1.1.0.now ≡ printed_after record_limit (length s.1.1.0.now) V1 (history_of (Call.ask LoadKind.Full a.1.1.1.0.now ∷ feeds pieces)))
+    × (take n s.1.1.1.1.1.0.now ≡ printed_after record_limit (length s.1.1.1.0.now) V1 (history_of (Call.ask LoadKind.Full a.1.1.1.1.0.now ∷ feeds pieces)))
     × ((end.last ≡ 0) ⊎ ((listens (stage_of end.session.phase) ≡ false) ⊎ (length pieces ≡ most_turns)))
-program-prints-history κs a n s p =
-    let live : List ℕ = s.0.now in
-    let working : List ℕ = s.1.0.now in
-    let hold : List ℕ = s.1.1.0.now in
-    let query : List ℕ = a.1.1.1.0.now in
+program-prints-history input row reads dict κs a n s p =
+    let live : List ℕ = s.1.0.now in
+    let working : List ℕ = s.1.1.0.now in
+    let hold : List ℕ = s.1.1.1.0.now in
+    let query : List ℕ = a.1.1.1.1.0.now in
     let end = p.end in
     let left : Memory = memory end.session live working hold in
     let pieces = p.ends.2.0 in (

@@ -3,17 +3,19 @@
 // nothing to feed or a stop, and what it hands back is the listing of what is then in memory. Outside stand the input and the output, of which no
 // contract can speak: that `read_piece` hands on what the system read, that `feed_all` reads once for each turn, and that `main` writes what it got.
 #![tactic(auto)]
+
 ghost use Rattle.std.specs.Prelude.{suc, ◌*◌, ◌≤◌, ◌++◌, ◌≡◌, length};
 ghost use Rattle.rtr_room.specs.Room.{record_found};
 ghost use Rattle.rtr_listing.specs.Listing.{head_lines, head_of, record_lines};
 ghost use Rattle.rtr_table.specs.Feeding.{memory, goes_on, Turn, HeardAll, Ends};
 ghost use Rattle.rtr_table.specs.Printing.{Shows, lines_of, lines_up_to, Sized, Listed};
 
-use libc::{STDIN_FILENO, STDOUT_FILENO};
 use rtr_listing::{ListAnswer, head_lines, record_lines};
 use rtr_models::RtrProtocolVersion;
 use rtr_receiver::{FeedAnswer, RECORD_LIMIT, Session, StartAnswer, feed, full_ask, start};
 use rtr_room::{Record, RecordFound, get};
+use std::io;
+use std::io::Read;
 
 // The session after a turn, and whether there is to be another.
 #[derive(Clone, Copy)]
@@ -74,24 +76,32 @@ fn hear_piece(
 }
 
 // All that is read is read here. A read that fails counts as one of nothing, and so ends the input.
-fn read_piece(piece: &mut [u8]) -> usize
+fn read_piece(input: &mut impl Read, piece: &mut [u8]) -> usize
     ensures { result ≤ length piece.new }
 {
-    let got = libc::read(STDIN_FILENO, piece);
-    io::count(got, piece)
+    match input.read(piece) {
+        Ok(n) => n,
+        Err(_) => 0,
+    }
 }
 
 // The input to its end, or to a stop: nothing is read behind one, so that it is told at once on a connection that stays open. The loop counts
 // down, since nothing says that the input ends.
-fn feed_all(s: Session, live: &mut [u32], working: &mut [u32], hold: &mut [u8]) -> Ended
+fn feed_all(
+    input: &mut impl Read,
+    s: Session,
+    live: &mut [u32],
+    working: &mut [u32],
+    hold: &mut [u8],
+) -> Ended
     ensures { HeardAll (memory s live.old working.old hold.old) result.last (memory result.session live.new working.new hold.new) }
 {
-    let mut piece = io::large_buffer();
+    let mut piece = [0u8; 65536];
     let mut session = s;
     let mut last = 0;
     let mut turns = u64::MAX;
     while turns > 0 {
-        last = read_piece(&mut piece);
+        last = read_piece(input, &mut piece);
         let heard = hear_piece(session, live, working, hold, &piece, last);
         session = heard.session;
         if !heard.is_open {
@@ -103,7 +113,13 @@ fn feed_all(s: Session, live: &mut [u32], working: &mut [u32], hold: &mut [u8]) 
 }
 
 // One full ask and the whole input: what is lent is at the end of a run of the receiver.
-fn hear_all(live: &mut [u32], working: &mut [u32], hold: &mut [u8], query: &mut [u8]) -> HearAnswer
+fn hear_all(
+    input: &mut impl Read,
+    live: &mut [u32],
+    working: &mut [u32],
+    hold: &mut [u8],
+    query: &mut [u8],
+) -> HearAnswer
     ensures { Ends result query.old live.new working.new hold.new }
 {
     let started = start(RtrProtocolVersion::V1, live, working, hold);
@@ -111,7 +127,7 @@ fn hear_all(live: &mut [u32], working: &mut [u32], hold: &mut [u8], query: &mut 
         StartAnswer::Started(s) => {
             let asked = full_ask(s, live, working, hold, query);
             let session = asked.session;
-            HearAnswer::Left(feed_all(session, live, working, hold))
+            HearAnswer::Left(feed_all(input, session, live, working, hold))
         }
         StartAnswer::NotAReceiver => HearAnswer::NotAReceiver,
     }
@@ -172,6 +188,7 @@ fn table_text(s: Session, live: &[u32], lines: &mut [u8]) -> usize
 
 // All that is done between the input and the output.
 fn list_all(
+    input: &mut impl Read,
     live: &mut [u32],
     working: &mut [u32],
     hold: &mut [u8],
@@ -181,7 +198,7 @@ fn list_all(
     requires { Sized live.old working.old hold.old lines.old }
     ensures { Listed query.old live.new working.new hold.new result lines.new }
 {
-    let heard = hear_all(live, working, hold, query);
+    let heard = hear_all(input, live, working, hold, query);
     match heard {
         HearAnswer::Left(ended) => {
             let session = ended.session;
@@ -191,12 +208,20 @@ fn list_all(
     }
 }
 
-fn main() {
+fn main(rt: HostRuntime) -> io::Result<()> {
     let mut live = [0u32; 6 * RECORD_LIMIT];
     let mut working = [0u32; 6 * RECORD_LIMIT];
     let mut hold = [0u8; 8192];
     let mut query = [0u8; 8];
     let mut lines = [0u8; 128 * (1 + RECORD_LIMIT)];
-    let n = list_all(&mut live, &mut working, &mut hold, &mut query, &mut lines);
-    io::write_all(STDOUT_FILENO, &lines[0..n]);
+    let mut input = rt.stdin();
+    let n = list_all(
+        &mut input,
+        &mut live,
+        &mut working,
+        &mut hold,
+        &mut query,
+        &mut lines,
+    );
+    rt.write_all(&lines[0..n])
 }
