@@ -365,8 +365,8 @@ pub extern "C" fn hingemoss_start(
     working: &mut [u32],
     hold: &[u8],
 ) -> u8
-    ensures working_after { start_gives result session.new live.new working.new ≡ start_c version session.old live.old working.old hold.now }
-    ensures session_after { result ≡ 0 → is_session session.new ≡ true }
+    ensures says { start_gives result session.new live.new working.new ≡ start_c version session.old live.old working.old hold.now }
+    ensures makes_session { result ≡ 0 → is_session session.new ≡ true }
     ensures begins { result ≡ 0 → Begins version (memory session.new live.new working.new hold.now) }
 {
     if session.len() != rtr_numbers::SESSION_NUMBERS {
@@ -397,8 +397,8 @@ pub extern "C" fn hingemoss_full_ask(
     hold: &[u8],
     out: &mut [u8],
 ) -> u8
-    ensures out_after { ask_gives result session.new out.new ≡ full_ask_c session.old live.now working.now hold.now out.old }
-    ensures session_unchanged { is_session session.new ≡ is_session session.old }
+    ensures says { ask_gives result session.new out.new ≡ full_ask_c session.old live.now working.now hold.now out.old }
+    ensures stays_session { is_session session.new ≡ is_session session.old }
     ensures leads_on { LeadsOn (memory session.old live.now working.now hold.now) (Call.ask LoadKind.Full out.old) (memory session.new live.now working.now hold.now) }
 {
     let found = rtr_numbers::session_of(session);
@@ -423,8 +423,8 @@ pub extern "C" fn hingemoss_change_ask(
     hold: &[u8],
     out: &mut [u8],
 ) -> u8
-    ensures out_after { ask_gives result session.new out.new ≡ change_ask_c session.old live.now working.now hold.now out.old }
-    ensures session_unchanged { is_session session.new ≡ is_session session.old }
+    ensures says { ask_gives result session.new out.new ≡ change_ask_c session.old live.now working.now hold.now out.old }
+    ensures stays_session { is_session session.new ≡ is_session session.old }
     ensures leads_on { LeadsOn (memory session.old live.now working.now hold.now) (Call.ask LoadKind.Change out.old) (memory session.new live.now working.now hold.now) }
 {
     let found = rtr_numbers::session_of(session);
@@ -451,8 +451,8 @@ pub extern "C" fn hingemoss_feed(
     taken: &mut u64,
     updates: &mut u64,
 ) -> u8
-    ensures updates_after { feed_gives result session.new live.new working.new hold.new taken.new updates.new ≡ feed_c session.old live.old working.old hold.old piece.now }
-    ensures session_unchanged { is_session session.new ≡ is_session session.old }
+    ensures says { feed_gives result session.new live.new working.new hold.new taken.new updates.new ≡ feed_c session.old live.old working.old hold.old piece.now }
+    ensures stays_session { is_session session.new ≡ is_session session.old }
     ensures leads_on { LeadsOn (memory session.old live.old working.old hold.old) (Call.feed piece.now) (memory session.new live.new working.new hold.new) }
 {
     let found = rtr_numbers::session_of(session);
@@ -483,8 +483,8 @@ pub extern "C" fn hingemoss_reconnect(
     working: &mut [u32],
     hold: &[u8],
 ) -> u8
-    ensures working_after { reconnect_gives result session.new working.new ≡ reconnect_c session.old live.now working.old hold.now }
-    ensures session_unchanged { is_session session.new ≡ is_session session.old }
+    ensures says { reconnect_gives result session.new working.new ≡ reconnect_c session.old live.now working.old hold.now }
+    ensures stays_session { is_session session.new ≡ is_session session.old }
     ensures leads_on { LeadsOn (memory session.old live.now working.old hold.now) Call.reconnect (memory session.new live.now working.new hold.now) }
 {
     let found = rtr_numbers::session_of(session);
@@ -664,7 +664,7 @@ pub extern "C" fn hingemoss_full_run(
     out: &mut [u8],
     written: &mut u64,
 ) -> u8
-    ensures out_after { encode_gives result written.new out.new ≡ full_run_c version end.now table.now count out.old }
+    ensures says { encode_gives result written.new out.new ≡ full_run_c version end.now table.now count out.old }
     ensures room_fits { RoomFits table.now }
 {
     *written = 0;
@@ -697,7 +697,7 @@ pub extern "C" fn hingemoss_change_run(
     out: &mut [u8],
     written: &mut u64,
 ) -> u8
-    ensures out_after { encode_gives result written.new out.new
+    ensures says { encode_gives result written.new out.new
         ≡ change_run_c version end.now first.now first_count second.now second_count out.old }
     ensures room_fits { RoomFits first.now × RoomFits second.now }
 {

@@ -332,8 +332,8 @@ pub fn full_run(
     count: usize,
     out: &mut [u8],
 ) -> RunAnswer
-    ensures out_after { run_leaves result out.new ≡ full_run_says version end room.now count out.old }
-    ensures table_numbers_fit { TableNumbersFit end × RoomFits room.now }
+    ensures says { run_leaves result out.new ≡ full_run_says version end room.now count out.old }
+    ensures numbers_fit { TableNumbersFit end × RoomFits room.now }
 {
     if !is_lent(room, count) {
         return RunAnswer::Refused(RunError::NotARoom);
@@ -351,8 +351,8 @@ pub fn change_run(
     second_count: usize,
     out: &mut [u8],
 ) -> RunAnswer
-    ensures out_after { run_leaves result out.new ≡ change_run_says version end first.now first_count second.now second_count out.old }
-    ensures table_numbers_fit { TableNumbersFit end × (RoomFits first.now × RoomFits second.now) }
+    ensures says { run_leaves result out.new ≡ change_run_says version end first.now first_count second.now second_count out.old }
+    ensures numbers_fit { TableNumbersFit end × (RoomFits first.now × RoomFits second.now) }
 {
     if !is_lent(first, first_count) {
         return RunAnswer::Refused(RunError::NotARoom);

@@ -352,7 +352,7 @@ fn session_numbers(s: Session) -> [u64; SESSION_NUMBERS]
 // Sets the numbers to the session's; where not as many are lent, nothing is set. What is set reads back as this session.
 pub fn put_session(s: Session, numbers: &mut [u64]) -> bool
     ensures value { (result ≡ eqb (length numbers.old) session_size) × (numbers.new ≡ cond (eqb (length numbers.old) session_size) (session_numbers s) numbers.old) }
-    ensures numbers_after { length numbers.old ≡ session_size → session_of numbers.new ≡ SessionFound.Known s }
+    ensures reads_back { length numbers.old ≡ session_size → session_of numbers.new ≡ SessionFound.Known s }
 {
     let said = session_numbers(s);
     put_numbers(numbers, &said)

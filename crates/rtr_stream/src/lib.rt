@@ -327,7 +327,7 @@ fn search_piece(hold: &mut [u8], piece: &[u8], at: usize) -> Searched
 // Searches the piece from a place on for the next PDU. Where something is held it goes round until it breaks off with a whole PDU, a refusal, or the wish for
 // more (at most twice: the header, then the PDU).
 pub fn search(hold: &mut [u8], stream: Stream, piece: &[u8], at: usize) -> Searched
-    ensures piece_after { search_said result hold.new piece.now ≡ search hold.old stream.held piece.now at }
+    ensures says { search_said result hold.new piece.now ≡ search hold.old stream.held piece.now at }
     ensures hold_len_unchanged { length hold.new ≡ length hold.old }
 {
     let mut held = stream.held;

@@ -10,16 +10,16 @@ pub returns-in-Known : goal.returns-in-Known
 unfolding change_ask_c
 returns-in-Known c =
     record {
-      out_after = ask-known c.args.session.now c.session_of-found.result c.session_of-found.ensures (λ (s : Session). change_ask_says s.life.limit s c.args.live.now c.args.working.now c.args.hold.now c.args.out.now) c.args.live.now c.args.working.now c.args.hold.now c.args.out.now _ c.change_ask-asked.result _ _ _ c.in-Known.is c.change_ask-asked.ensures c.ask_number.ensures c.put_session.ensures.value.1;
-      session_unchanged = stays-session c.args.session.now c.session_of-found.result c.session_of-found.ensures _ _ _ c.in-Known.is c.put_session.ensures.numbers_after;
-      leads_on = leads-change c.args.session.now c.session_of-found.result c.session_of-found.ensures c.args.live.now c.args.working.now c.args.hold.now _ c.in-Known.is c.args.out.now c.change_ask-asked.result _ _ c.change_ask-asked.ensures c.put_session.ensures.numbers_after;
+      says = ask-known c.args.session.now c.session_of-found.result c.session_of-found.ensures (λ (s : Session). change_ask_says s.life.limit s c.args.live.now c.args.working.now c.args.hold.now c.args.out.now) c.args.live.now c.args.working.now c.args.hold.now c.args.out.now _ c.change_ask-asked.result _ _ _ c.in-Known.is c.change_ask-asked.ensures c.ask_number.ensures c.put_session.ensures.value.1;
+      stays_session = stays-session c.args.session.now c.session_of-found.result c.session_of-found.ensures _ _ _ c.in-Known.is c.put_session.ensures.reads_back;
+      leads_on = leads-change c.args.session.now c.session_of-found.result c.session_of-found.ensures c.args.live.now c.args.working.now c.args.hold.now _ c.in-Known.is c.args.out.now c.change_ask-asked.result _ _ c.change_ask-asked.ensures c.put_session.ensures.reads_back;
     }
 
 pub returns-in-Unknown : goal.returns-in-Unknown
 unfolding change_ask_c
 returns-in-Unknown c =
     record {
-      out_after = ask-unknown c.args.session.now c.session_of-found.result c.session_of-found.ensures (λ (s : Session). change_ask_says s.life.limit s c.args.live.now c.args.working.now c.args.hold.now c.args.out.now) c.args.live.now c.args.working.now c.args.hold.now c.args.out.now c.in-Unknown.is;
-      session_unchanged = refl;
+      says = ask-unknown c.args.session.now c.session_of-found.result c.session_of-found.ensures (λ (s : Session). change_ask_says s.life.limit s c.args.live.now c.args.working.now c.args.hold.now c.args.out.now) c.args.live.now c.args.working.now c.args.hold.now c.args.out.now c.in-Unknown.is;
+      stays_session = refl;
       leads_on = leads-none c.args.session.now c.session_of-found.result c.session_of-found.ensures c.args.live.now c.args.working.now c.args.hold.now _ _ c.in-Unknown.is;
     }

@@ -7,15 +7,15 @@ use Rattle.rtr_c.proofs.hingemoss_feed.Goals as goal
 pub returns-in-Known : goal.returns-in-Known
 returns-in-Known c =
     record {
-      updates_after = feed-known c.args.session.now c.session_of-found.result c.session_of-found.ensures c.args.live.now c.args.working.now c.args.hold.now c.args.piece.now _ c.feed-fed.result _ _ _ _ _ c.in-Known.is c.feed-fed.ensures.0 c.feed_number.ensures c.put_session.ensures.value.1;
-      session_unchanged = stays-session c.args.session.now c.session_of-found.result c.session_of-found.ensures _ _ _ c.in-Known.is c.put_session.ensures.numbers_after;
-      leads_on = leads-fed c.args.session.now c.session_of-found.result c.session_of-found.ensures c.args.live.now c.args.working.now c.args.hold.now _ c.in-Known.is c.args.piece.now c.feed-fed.result _ _ _ _ c.feed-fed.ensures.0 c.put_session.ensures.numbers_after (search rules);
+      says = feed-known c.args.session.now c.session_of-found.result c.session_of-found.ensures c.args.live.now c.args.working.now c.args.hold.now c.args.piece.now _ c.feed-fed.result _ _ _ _ _ c.in-Known.is c.feed-fed.ensures.0 c.feed_number.ensures c.put_session.ensures.value.1;
+      stays_session = stays-session c.args.session.now c.session_of-found.result c.session_of-found.ensures _ _ _ c.in-Known.is c.put_session.ensures.reads_back;
+      leads_on = leads-fed c.args.session.now c.session_of-found.result c.session_of-found.ensures c.args.live.now c.args.working.now c.args.hold.now _ c.in-Known.is c.args.piece.now c.feed-fed.result _ _ _ _ c.feed-fed.ensures.0 c.put_session.ensures.reads_back (search rules);
     }
 
 pub returns-in-Unknown : goal.returns-in-Unknown
 returns-in-Unknown c =
     record {
-      updates_after = feed-unknown c.args.session.now c.session_of-found.result c.session_of-found.ensures c.args.live.now c.args.working.now c.args.hold.now c.args.piece.now c.in-Unknown.is;
-      session_unchanged = refl;
+      says = feed-unknown c.args.session.now c.session_of-found.result c.session_of-found.ensures c.args.live.now c.args.working.now c.args.hold.now c.args.piece.now c.in-Unknown.is;
+      stays_session = refl;
       leads_on = leads-none c.args.session.now c.session_of-found.result c.session_of-found.ensures c.args.live.now c.args.working.now c.args.hold.now _ _ c.in-Unknown.is;
     }

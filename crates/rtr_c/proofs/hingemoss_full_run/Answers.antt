@@ -15,9 +15,9 @@ returns-in-Known-numbers c =
     let run : RtrProtocolVersion → Table → Encoded = λ v t. let a = c.args in full_run_says v t a.table.now a.count a.out.now in
     let held : RoomFits c.args.table.now = λ i. omega (arith, c.shared_slice_known-2-1.given i) in
     let a = c.args in record {
-      out_after = run-answered run a.version a.end.now a.out.now c.from_u8-found.result c.from_u8-found.ensures
+      says = run-answered run a.version a.end.now a.out.now c.from_u8-found.result c.from_u8-found.ensures
           _ c.in-Known.is c.table_of-numbers.result c.table_of-numbers.ensures
-          _ c.full_run-answer.result _ _ _ c.in-Known-numbers.is c.full_run-answer.ensures.out_after c.run_number.ensures c.run_amount.ensures;
+          _ c.full_run-answer.result _ _ _ c.in-Known-numbers.is c.full_run-answer.ensures.says c.run_number.ensures c.run_amount.ensures;
       room_fits = held;
     }
 
@@ -27,7 +27,7 @@ returns-in-Unknown-numbers c =
     let run : RtrProtocolVersion → Table → Encoded = λ v t. let a = c.args in full_run_says v t a.table.now a.count a.out.now in
     let held : RoomFits c.args.table.now = λ i. omega (arith, c.shared_slice_known-2-1.given i) in
     let a = c.args in record {
-      out_after = run-untabled run a.version a.end.now a.out.now c.from_u8-found.result c.from_u8-found.ensures
+      says = run-untabled run a.version a.end.now a.out.now c.from_u8-found.result c.from_u8-found.ensures
           _ c.in-Known.is c.table_of-numbers.result c.table_of-numbers.ensures c.in-Unknown-numbers.is;
       room_fits = held;
     }
@@ -38,6 +38,6 @@ returns-in-Unknown c =
     let run : RtrProtocolVersion → Table → Encoded = λ v t. let a = c.args in full_run_says v t a.table.now a.count a.out.now in
     let held : RoomFits c.args.table.now = λ i. omega (arith, c.shared_slice_known-2-1.given i) in
     let a = c.args in record {
-      out_after = run-unversioned run a.version a.end.now a.out.now c.from_u8-found.result c.from_u8-found.ensures c.in-Unknown.is;
+      says = run-unversioned run a.version a.end.now a.out.now c.from_u8-found.result c.from_u8-found.ensures c.in-Unknown.is;
       room_fits = held;
     }

@@ -6,15 +6,15 @@ use Rattle.rtr_c.proofs.hingemoss_reconnect.Goals as goal
 pub returns-in-Known : goal.returns-in-Known
 returns-in-Known c =
     record {
-      working_after = reconnect-known c.args.session.now c.session_of-found.result c.session_of-found.ensures c.args.live.now c.args.working.now c.args.hold.now _ c.reconnect-reconnected.result _ _ _ c.in-Known.is c.reconnect-reconnected.ensures c.reconnect_number.ensures c.put_session.ensures.value.1;
-      session_unchanged = stays-session c.args.session.now c.session_of-found.result c.session_of-found.ensures _ _ _ c.in-Known.is c.put_session.ensures.numbers_after;
-      leads_on = leads-reconnected c.args.session.now c.session_of-found.result c.session_of-found.ensures c.args.live.now c.args.working.now c.args.hold.now _ c.in-Known.is c.reconnect-reconnected.result _ _ c.reconnect-reconnected.ensures c.put_session.ensures.numbers_after;
+      says = reconnect-known c.args.session.now c.session_of-found.result c.session_of-found.ensures c.args.live.now c.args.working.now c.args.hold.now _ c.reconnect-reconnected.result _ _ _ c.in-Known.is c.reconnect-reconnected.ensures c.reconnect_number.ensures c.put_session.ensures.value.1;
+      stays_session = stays-session c.args.session.now c.session_of-found.result c.session_of-found.ensures _ _ _ c.in-Known.is c.put_session.ensures.reads_back;
+      leads_on = leads-reconnected c.args.session.now c.session_of-found.result c.session_of-found.ensures c.args.live.now c.args.working.now c.args.hold.now _ c.in-Known.is c.reconnect-reconnected.result _ _ c.reconnect-reconnected.ensures c.put_session.ensures.reads_back;
     }
 
 pub returns-in-Unknown : goal.returns-in-Unknown
 returns-in-Unknown c =
     record {
-      working_after = reconnect-unknown c.args.session.now c.session_of-found.result c.session_of-found.ensures c.args.live.now c.args.working.now c.args.hold.now c.in-Unknown.is;
-      session_unchanged = refl;
+      says = reconnect-unknown c.args.session.now c.session_of-found.result c.session_of-found.ensures c.args.live.now c.args.working.now c.args.hold.now c.in-Unknown.is;
+      stays_session = refl;
       leads_on = leads-none c.args.session.now c.session_of-found.result c.session_of-found.ensures c.args.live.now c.args.working.now c.args.hold.now _ _ c.in-Unknown.is;
     }

@@ -9,31 +9,31 @@ pub returns-then-session-ne-SESSION_NUMBERS : goal.returns-then-session-ne-SESSI
 unfolding start_c
 returns-then-session-ne-SESSION_NUMBERS c =
     record {
-      working_after = simp (ne_eqb _ _ c.if-session-ne-SESSION_NUMBERS.true);
-      session_after = λ e. absurd (omega arith);
+      says = simp (ne_eqb _ _ c.if-session-ne-SESSION_NUMBERS.true);
+      makes_session = λ e. absurd (omega arith);
       begins = λ e. absurd (omega arith);
     }
 
 pub returns-in-Started : goal.returns-in-Started
 returns-in-Started c =
     record {
-      working_after = start-started c.args.version c.args.session.now c.args.live.now c.args.working.now c.args.hold.now c.if-session-ne-SESSION_NUMBERS.false c.from_u8-found.result c.from_u8-found.ensures _ c.start-answer.result _ _ _ _ c.in-Known.is c.start-answer.ensures c.in-Started.is c.put_session.ensures.value.1;
-      session_after = λ e. reads-back _ _ (c.put_session.ensures.numbers_after c.if-session-ne-SESSION_NUMBERS.false);
-      begins = λ e. begins c.args.version c.args.session.now c.args.live.now c.args.working.now c.args.hold.now c.if-session-ne-SESSION_NUMBERS.false c.from_u8-found.result c.from_u8-found.ensures _ c.start-answer.result _ _ _ _ c.in-Known.is c.start-answer.ensures c.in-Started.is c.put_session.ensures.numbers_after;
+      says = start-started c.args.version c.args.session.now c.args.live.now c.args.working.now c.args.hold.now c.if-session-ne-SESSION_NUMBERS.false c.from_u8-found.result c.from_u8-found.ensures _ c.start-answer.result _ _ _ _ c.in-Known.is c.start-answer.ensures c.in-Started.is c.put_session.ensures.value.1;
+      makes_session = λ e. reads-back _ _ (c.put_session.ensures.reads_back c.if-session-ne-SESSION_NUMBERS.false);
+      begins = λ e. begins c.args.version c.args.session.now c.args.live.now c.args.working.now c.args.hold.now c.if-session-ne-SESSION_NUMBERS.false c.from_u8-found.result c.from_u8-found.ensures _ c.start-answer.result _ _ _ _ c.in-Known.is c.start-answer.ensures c.in-Started.is c.put_session.ensures.reads_back;
     }
 
 pub returns-in-NotAReceiver : goal.returns-in-NotAReceiver
 returns-in-NotAReceiver c =
     record {
-      working_after = start-refused c.args.version c.args.session.now c.args.live.now c.args.working.now c.args.hold.now c.if-session-ne-SESSION_NUMBERS.false c.from_u8-found.result c.from_u8-found.ensures _ c.start-answer.result _ _ c.in-Known.is c.start-answer.ensures c.in-NotAReceiver.is;
-      session_after = λ e. absurd (omega arith);
+      says = start-refused c.args.version c.args.session.now c.args.live.now c.args.working.now c.args.hold.now c.if-session-ne-SESSION_NUMBERS.false c.from_u8-found.result c.from_u8-found.ensures _ c.start-answer.result _ _ c.in-Known.is c.start-answer.ensures c.in-NotAReceiver.is;
+      makes_session = λ e. absurd (omega arith);
       begins = λ e. absurd (omega arith);
     }
 
 pub returns-in-Unknown : goal.returns-in-Unknown
 returns-in-Unknown c =
     record {
-      working_after = start-unknown c.args.version c.args.session.now c.args.live.now c.args.working.now c.args.hold.now c.if-session-ne-SESSION_NUMBERS.false c.from_u8-found.result c.from_u8-found.ensures c.in-Unknown.is;
-      session_after = λ e. absurd (omega arith);
+      says = start-unknown c.args.version c.args.session.now c.args.live.now c.args.working.now c.args.hold.now c.if-session-ne-SESSION_NUMBERS.false c.from_u8-found.result c.from_u8-found.ensures c.in-Unknown.is;
+      makes_session = λ e. absurd (omega arith);
       begins = λ e. absurd (omega arith);
     }

@@ -17,8 +17,8 @@ returns-then-not-is_lent c =
     (end, ((λ i. omega (arith, c.shared_slice_known-1.given i)), (λ i. omega (arith, c.shared_slice_known-2-1.given i)))) in
     let a = c.args in
     let off = inl (fails c.is_lent.ensures c.if-not-is_lent.true-raw) in record {
-      out_after = sym (change-refused a.version a.end a.first.now a.first_count a.second.now a.second_count a.out.now off);
-      table_numbers_fit = held;
+      says = sym (change-refused a.version a.end a.first.now a.first_count a.second.now a.second_count a.out.now off);
+      numbers_fit = held;
     }
 
 pub returns-then-not-is_lent-2 : goal.returns-then-not-is_lent-2
@@ -27,8 +27,8 @@ returns-then-not-is_lent-2 c =
     (end, ((λ i. omega (arith, c.shared_slice_known-1.given i)), (λ i. omega (arith, c.shared_slice_known-2-1.given i)))) in
     let a = c.args in
     let off = inr (fails c.is_lent-2.ensures c.if-not-is_lent-2.true-raw) in record {
-      out_after = sym (change-refused a.version a.end a.first.now a.first_count a.second.now a.second_count a.out.now off);
-      table_numbers_fit = held;
+      says = sym (change-refused a.version a.end a.first.now a.first_count a.second.now a.second_count a.out.now off);
+      numbers_fit = held;
     }
 
 pub write_run-requires : goal.write_run-requires
@@ -45,6 +45,6 @@ returns c =
     let a = c.args in
     let is = lent in
     let says = change-lent a.version a.end a.first.now a.first_count a.second.now a.second_count a.out.now is.0 is.1 in record {
-      out_after = c.write_run.ensures ∙ sym says;
-      table_numbers_fit = held;
+      says = c.write_run.ensures ∙ sym says;
+      numbers_fit = held;
     }

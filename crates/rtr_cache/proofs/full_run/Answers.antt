@@ -21,8 +21,8 @@ pub returns-then-not-is_lent : goal.returns-then-not-is_lent
 returns-then-not-is_lent c =
     let held : TableNumbersFit c.args.end × RoomFits c.args.room.now = (table-owned c.args.end _ c.well_formed.1.0, λ i. omega (arith, c.shared_slice_known-1.given i)) in
     let a = c.args in record {
-      out_after = sym (full-refused a.version a.end a.room.now a.count a.out.now (fails c.is_lent.ensures c.if-not-is_lent.true-raw));
-      table_numbers_fit = held;
+      says = sym (full-refused a.version a.end a.room.now a.count a.out.now (fails c.is_lent.ensures c.if-not-is_lent.true-raw));
+      numbers_fit = held;
     }
 
 pub write_run-requires : goal.write_run-requires
@@ -36,9 +36,9 @@ returns c =
     let held : TableNumbersFit c.args.end × RoomFits c.args.room.now = (table-owned c.args.end _ c.well_formed.1.0, λ i. omega (arith, c.shared_slice_known-1.given i)) in
     let lent : is_lent c.args.count c.args.room.now ≡ true = holds c.is_lent.ensures c.if-not-is_lent.false-raw in
     let a = c.args in record {
-      out_after = c.write_run.ensures
+      says = c.write_run.ensures
           ∙ ap (λ (none : List Record). puts (run_bytes LoadKind.Change a.version a.end none (records a.count a.room.now)) a.out.now) (records-none [])
           ∙ ap (λ (b : List ℕ). puts b a.out.now) (sym (full-is-change-from-none a.version a.end [] (records a.count a.room.now)))
           ∙ sym (full-lent a.version a.end a.room.now a.count a.out.now lent);
-      table_numbers_fit = held;
+      numbers_fit = held;
     }

@@ -11,5 +11,5 @@ unfolding numbers_of
 returns c =
     let put = put-said c.args.numbers.now _ _ _ session_size _ c.put_numbers.ensures c.session_numbers-said.ensures refl in record {
       value = put;
-      numbers_after = λ long. set-reads-back c.args.s c.args.numbers.now _ (session-owned c.args.s _ c.well_formed.0) put.1 long;
+      reads_back = λ long. set-reads-back c.args.s c.args.numbers.now _ (session-owned c.args.s _ c.well_formed.0) put.1 long;
     }

@@ -34,7 +34,7 @@ after_pdu-requires c =
     (λ (t : Session). Did t.life.limit c.on_pdu-d.result c.on_pdu-d.new.live c.on_pdu-d.new.working (on_pdu t.life.limit pdu (receiver_of t live working [])))
     c.with_held.ensures
     c.on_pdu-d.ensures in
-    let most = step_counts a.s.life.limit a.s live working hold piece a.at a.updates shape pre.1 r hold' same c.search-searched.ensures.piece_after pdu lies c.in-Found.is c.on_pdu-d.result c.on_pdu-d.new.live c.on_pdu-d.new.working pre.2 pre.3 did in
+    let most = step_counts a.s.life.limit a.s live working hold piece a.at a.updates shape pre.1 r hold' same c.search-searched.ensures.says pdu lies c.in-Found.is c.on_pdu-d.result c.on_pdu-d.new.live c.on_pdu-d.new.working pre.2 pre.3 did in
     omega (arith, c.well_formed)
 
 pub returns-in-Found : goal.returns-in-Found
@@ -57,7 +57,7 @@ returns-in-Found c =
     c.on_pdu-d.ensures in
     subst (λ (t : Step). Stepped a.s.life.limit (feed_here a.s.life.limit a.s live working hold piece a.at a.updates) piece a.at t c.on_pdu-d.new.live c.on_pdu-d.new.working hold')
     (sym c.after_pdu.ensures)
-    (step-pdu a.s.life.limit a.s live working hold piece a.at a.updates shape pre.1 r hold' same c.search-searched.ensures.piece_after pdu lies c.in-Found.is
+    (step-pdu a.s.life.limit a.s live working hold piece a.at a.updates shape pre.1 r hold' same c.search-searched.ensures.says pdu lies c.in-Found.is
     c.on_pdu-d.result c.on_pdu-d.new.live c.on_pdu-d.new.working pre.2 pre.3 did)
 
 pub returns-in-Refused : goal.returns-in-Refused
@@ -73,7 +73,7 @@ returns-in-Refused c =
     let hold' = c.search-searched.new.hold in
     let same : length hold' ≡ length hold = omega (arith, c.hold-1.given) in
     let error = c.in-Refused.error in
-    step-stop a.s.life.limit a.s live working hold piece a.at a.updates shape pre.1 r hold' same c.search-searched.ensures.piece_after error c.stop_with.result c.stop_with.new.working
+    step-stop a.s.life.limit a.s live working hold piece a.at a.updates shape pre.1 r hold' same c.search-searched.ensures.says error c.stop_with.result c.stop_with.new.working
     c.in-Refused.is c.stop_with.ensures.0 c.stop_with.ensures.1
 
 pub returns-in-More : goal.returns-in-More
@@ -90,7 +90,7 @@ returns-in-More c =
     let same : length hold' ≡ length hold = omega (arith, c.hold-1.given) in
     subst (λ (t : Session). fed_said_by FeedAnswer.GoesOn r.next a.updates (leaves t live working hold') hold' ≡ fed_to a.s.life.limit (feed_here a.s.life.limit a.s live working hold piece a.at a.updates))
     (sym c.with_held-in-More.ensures)
-    (step-more a.s.life.limit a.s live working hold piece a.at a.updates shape pre.1 r hold' same c.search-searched.ensures.piece_after c.in-More.is)
+    (step-more a.s.life.limit a.s live working hold piece a.at a.updates shape pre.1 r hold' same c.search-searched.ensures.says c.in-More.is)
 
 pub returns-in-NotAStream : goal.returns-in-NotAStream
 returns-in-NotAStream c =
@@ -104,4 +104,4 @@ returns-in-NotAStream c =
     let r = c.search-searched.result in
     let hold' = c.search-searched.new.hold in
     let same : length hold' ≡ length hold = omega (arith, c.hold-1.given) in
-    absurd (step-never a.s.life.limit a.s live working hold piece a.at a.updates shape pre.1 r hold' same c.search-searched.ensures.piece_after c.in-NotAStream.is)
+    absurd (step-never a.s.life.limit a.s live working hold piece a.at a.updates shape pre.1 r hold' same c.search-searched.ensures.says c.in-NotAStream.is)

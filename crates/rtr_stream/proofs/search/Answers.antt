@@ -11,7 +11,7 @@ use Rattle.rtr_stream.proofs.search.Goals as goal
 pub returns-then-not-is_stream : goal.returns-then-not-is_stream
 returns-then-not-is_stream c =
     let a = c.args in record {
-      piece_after = not-a-stream a.hold.now a.piece.now a.stream.held a.at (sym c.is_stream.ensures ∙ not-true _ c.if-not-is_stream.true-raw);
+      says = not-a-stream a.hold.now a.piece.now a.stream.held a.at (sym c.is_stream.ensures ∙ not-true _ c.if-not-is_stream.true-raw);
       hold_len_unchanged = refl;
     }
 
@@ -25,7 +25,7 @@ returns-then-held-eq0 c =
     let a = c.args in
     let hold = a.hold.now in
     let piece = a.piece.now in record {
-      piece_after = c.search_piece.ensures
+      says = c.search_piece.ensures
           ∙ ap (λ (k : ℕ). outcome_of k a.at (search_here hold k piece a.at)) (sym c.if-held-eq0.true)
           ∙ a-stream hold piece a.stream.held a.at (sym c.is_stream.ensures ∙ not-false _ c.if-not-is_stream.false-raw);
       hold_len_unchanged = omega arith;
@@ -64,7 +64,7 @@ returns c =
     let l = c.loop-done in
     let t = c.one_turn-t.result in
     let turned = subst (TurnedTo l.hold l.held a.piece.now l.next t.held t.next c.one_turn-t.new.hold) c.in-Done.is c.one_turn-t.ensures in record {
-      piece_after = turned
+      says = turned
           ∙ outcomes-alike l.held a.stream.held l.next a.at l.invariant.3 (search_here l.hold l.held a.piece.now l.next)
           ∙ ap (outcome_of a.stream.held a.at) l.invariant.2
           ∙ a-stream a.hold.now a.piece.now a.stream.held a.at (sym c.is_stream.ensures ∙ not-false _ c.if-not-is_stream.false-raw);
