@@ -59,7 +59,7 @@ module _ (s : List ℕ) (r : Record) where
       ∙ halved fuel lo hi h
       ∙ ap (λ (c : Bool). cond c (bisect fuel s r (mid lo hi + 1) hi) (bisect fuel s r lo (mid lo hi))) e)
 
-  no_fuel : (lo hi : ℕ) → bisect 0 s r lo hi ≡ lo
+  pub no_fuel : (lo hi : ℕ) → bisect 0 s r lo hi ≡ lo
   unfolding bisect
   no_fuel lo hi = refl
 

@@ -11,6 +11,7 @@ pub mod Moves
 pub mod Kept
 pub mod Keys
 pub mod Last
+pub mod Joins
 use Prim.Native.Nat.{ℕ, suc, ◌+◌, ◌*◌, ◌<◌, ◌≤◌}
 use mathlib.Core.Bool.{true, false, cond, not, ◌&&◌, ◌||◌}
 use mathlib.Core.List.{List, [], ◌∷◌, ◌++◌}
@@ -19,9 +20,9 @@ use mathlib.Core.Path.{◌≡◌, refl}
 use borrow.Author.Tests.{le-leb}
 use lib.Dec.{leb, eqb}
 use lib.ListN.{length, get_or, replicate}
-use Rattle.rtr_room.specs.Table.{Change, packed, ipv4_record, ipv6_record, family_of, prefix_of, max_of, before, same, in_rule, above, ordered, all_in_rule, is_table, is_in, rank, insert, remove, enter, leave, key}
+use Rattle.rtr_room.specs.Table.{Change, packed, ipv4_record, ipv6_record, family_of, prefix_of, max_of, before, same, in_rule, above, ordered, all_in_rule, is_table, is_in, rank, insert, remove, join, Apart, enter, leave, key}
 use Rattle.rtr_room.specs.Table.Change.{changed}
-use Rattle.rtr_room.specs.Room.{room, record_from, record_at, record_found, records, is_room, limit_of, place, stands, look_up, keeps, entered, gone, outcome_of, copied, copy_says}
+use Rattle.rtr_room.specs.Room.{room, record_from, record_at, record_found, records, is_room, limit_of, place, stands, look_up, keeps, entered, gone, merged, outcome_of, copied, copy_says}
 use Rattle.rtr_room.specs.Room.Found.{stands_at, missing_at}
 use Rattle.rtr_room.specs.Room.Said.{counted, refused_by}
 use Rattle.rtr_room.specs.declared.Record.{Record}
@@ -36,6 +37,7 @@ use Rattle.rtr_room.proofs.Laws.Moves as moves
 use Rattle.rtr_room.proofs.Laws.Kept as kept
 use Rattle.rtr_room.proofs.Laws.Keys as keys
 use Rattle.rtr_room.proofs.Laws.Last as last
+use Rattle.rtr_room.proofs.Laws.Joins as joins
 use Rattle.rtr_room.proofs.Laws.Keys.{Lower}
 
 -- a first number is family x 65,536 + prefix length x 256 + max
@@ -193,6 +195,10 @@ enter-applies = tables.enter-applies
 pub leave-applies : (r : Record) (t : List Record) → is_in r t ≡ true → leave r t ≡ changed (remove r t)
 leave-applies = tables.leave-applies
 
+-- a record that entered was not in, there was space, and the table is the old one with it
+pub enter-changes : (limit : ℕ) (r : Record) (t t' : List Record) → enter limit r t ≡ changed t' → (is_in r t ≡ false) × (length t < limit) × (insert r t ≡ t')
+enter-changes = tables.entered-is
+
 -- entering makes a table of one record more, within the limit
 pub enter-keeps : (limit : ℕ) (r : Record) (t t' : List Record) → is_table t ≡ true → in_rule r ≡ true → enter limit r t ≡ changed t' → (is_table t' ≡ true) × (length t' ≡ suc (length t)) × (length t' ≤ limit)
 enter-keeps = tables.enter-keeps
@@ -221,6 +227,37 @@ inside-is-no-longer = tables.inside-is-no-longer
 pub inside-is-shorter : (r : Record) (t u : List Record) → ordered t ≡ true → ordered u ≡ true → Inside t u
     → is_in r t ≡ false → is_in r u ≡ true → length t < length u
 inside-is-shorter = tables.inside-is-shorter
+
+-- nothing joined to a table leaves it
+pub join-none : (t : List Record) → join t [] ≡ t
+join-none = joins.join-none
+
+-- what is in a join is in the one or the other
+pub join-membership : (t u : List Record) (x : Record) → is_in x (join t u) ≡ (is_in x t || is_in x u)
+join-membership = joins.join-membership
+
+-- a join has the records of both
+pub join-length : (t u : List Record) → length (join t u) ≡ length t + length u
+join-length = joins.join-length
+
+-- two that are in order and apart join in order
+pub join-ordered : (t u : List Record) → ordered t ≡ true → ordered u ≡ true → Apart t u → ordered (join t u) ≡ true
+join-ordered = joins.join-ordered
+
+-- and two tables that are apart to a table
+pub join-table : (t u : List Record) → is_table t ≡ true → is_table u ≡ true → Apart t u → is_table (join t u) ≡ true
+join-table = joins.join-table
+
+-- a record may go into the second before the join, or into the whole after it
+pub join-insert : (r : Record) (t u : List Record) → join t (insert r u) ≡ insert r (join t u)
+join-insert = joins.join-insert
+
+-- nothing is apart from any table; and a record that is not in the first may go into the second
+pub apart_none : (t : List Record) → Apart t []
+apart_none = joins.apart_none
+
+pub apart-insert : (r : Record) (t u : List Record) → Apart t u → is_in r t ≡ false → Apart t (insert r u)
+apart-insert = joins.apart-insert
 
 -- a room has six numbers for each record that it has room for
 pub room-length : (limit : ℕ) (t : List Record) → length t ≤ limit → length (room limit t) ≡ 6 * limit
@@ -299,6 +336,11 @@ enter-is = moves.enter-is
 -- leaving the room of a table is leaving the table
 pub leave-is : (limit : ℕ) (r : Record) (t : List Record) → ordered t ≡ true → length t ≤ limit → gone (room limit t) (length t) r ≡ outcome_of limit t (leave r t)
 leave-is = moves.leave-is
+
+-- merging the room of a table into another's is joining the tables
+pub merge-is : (limit k : ℕ) (t u : List Record) → ordered t ≡ true → ordered u ≡ true → length t + length u ≤ limit → length u ≤ k
+    → merged (room limit t) (length t) (room k u) (length u) ≡ record { says = counted (length t + length u); left = room limit (join t u) }
+merge-is = joins.merge-is
 
 -- the smallest tables: a record enters the empty one and does not enter again; it leaves, and cannot leave again
 pub enter-first : (limit : ℕ) (r : Record) → 1 ≤ limit → enter limit r [] ≡ changed (r ∷ [])

@@ -7,3 +7,5 @@ mod Halving
 mod Places
 mod Rooms
 mod Lists
+mod Fronts
+mod Merges

@@ -6,7 +6,7 @@ use mathlib.Core.Path.{◌≡◌, refl, sym, ap, ◌∙◌}
 use native.Mathlib.Numerals.{add-one, add-two, add-three, add-four, add_five}
 use native.Mathlib.Omega.{arith}
 use lib.ListN.{length, take, drop, set, get_or, replicate, length-append, length-drop, take-append-drop, get_or-append, drop_of_length-le}
-use lib.Seq.{length-take-le, take-suc, drop-cons, append_snoc, set_at, get_or-append-add, get_or-take, get_or-drop, take_all, sets-eq}
+use lib.Seq.{length-take-le, take-append-le, take-take, drop_at, take-suc, drop-cons, append_snoc, set_at, get_or-append-add, get_or-take, get_or-drop, take_all, sets-eq}
 
 counted : (f : ℕ → List ℕ) (m n : ℕ) → m ≡ n → f m ≡ f n
 counted f m n e = ap f e
@@ -21,6 +21,15 @@ pub stored-6 : (l : List ℕ) (i a b c d e f : ℕ) → i + 6 ≤ length l
 stored-6 l i a b c d e f h =
     rw (add-one i, add-two i, add-three i, add-four i, add_five i)
     (sets-eq (a ∷ b ∷ c ∷ d ∷ e ∷ f ∷ []) l i h ∙ append_assoc (take i l) (a ∷ b ∷ c ∷ d ∷ e ∷ f ∷ []) (drop (i + 6) l))
+
+-- a part of the front gives way to what is put there, up to where the front ends
+pub put-seam : (s new rest : List ℕ) (p q : ℕ) → p ≤ q → q ≤ length s
+    → take p (take q s ++ rest) ++ (new ++ drop q (take q s ++ rest)) ≡ take p s ++ (new ++ rest)
+put-seam s new rest p q h k =
+    let long : length (take q s) ≡ q = length-take-le q s k in
+    let a : take p (take q s ++ rest) ≡ take p s = take-append-le p (take q s) rest (omega arith) ∙ take-take p q s h in
+    let b : drop q (take q s ++ rest) ≡ rest = drop_at (take q s) rest q long in
+    ap (λ (x : List ℕ). x ++ (new ++ drop q (take q s ++ rest))) a ∙ ap (λ (x : List ℕ). take p s ++ (new ++ x)) b
 
 -- an element is replaced where the list is cut
 set-behind : (p s : List ℕ) (at v : ℕ) → length p ≡ at → at < length s → set (p ++ drop at s) at v ≡ p ++ v ∷ drop (at + 1) s

@@ -6,12 +6,13 @@ use mathlib.Core.List.{List}
 use mathlib.Core.Path.{◌≡◌, refl, ap}
 use lib.Dec.{eqb}
 use Rattle.rtr_base.proofs.Unique.{only_one, only-this}
-use Rattle.rtr_room.specs.Room.{Found, Said, Outcome, found, enter_said, leave_said, copy_said}
+use Rattle.rtr_room.specs.Room.{Found, Said, Outcome, found, enter_said, leave_said, merge_said, copy_said}
 use Rattle.rtr_room.specs.Room.Found.{stands_at, missing_at, refused}
 use Rattle.rtr_room.specs.Room.Said.{counted, refused_by}
 use Rattle.rtr_room.specs.declared.LookUp.{LookUp}
 use Rattle.rtr_room.specs.declared.EnterAnswer.{EnterAnswer}
 use Rattle.rtr_room.specs.declared.LeaveAnswer.{LeaveAnswer}
+use Rattle.rtr_room.specs.declared.MergeAnswer.{MergeAnswer}
 use Rattle.rtr_room.specs.declared.CopyAnswer.{CopyAnswer}
 use Rattle.rtr_room.proofs.Record.ipv4.Reads as ipv4
 use Rattle.rtr_room.proofs.Record.ipv6.Reads as ipv6
@@ -23,6 +24,7 @@ use Rattle.rtr_room.proofs.rules.Reads as rules
 use Rattle.rtr_room.proofs.look_up.Reads as look_up
 use Rattle.rtr_room.proofs.enter.Reads as enter
 use Rattle.rtr_room.proofs.leave.Reads as leave
+use Rattle.rtr_room.proofs.merge.Reads as merge
 use Rattle.rtr_room.proofs.empty.Reads as empty
 use Rattle.rtr_room.proofs.copy.Reads as copy
 
@@ -39,6 +41,10 @@ enter_of (refused_by k) = cond (eqb k 17) EnterAnswer.AlreadyIn (cond (eqb k 18)
 leave_of : Said → LeaveAnswer
 leave_of (counted n) = LeaveAnswer.Left n
 leave_of (refused_by k) = cond (eqb k 16) LeaveAnswer.NotIn LeaveAnswer.NotARoom
+
+merge_of : Said → MergeAnswer
+merge_of (counted n) = MergeAnswer.Merged n
+merge_of (refused_by k) = MergeAnswer.NotARoom
 
 copy_of : ℕ → CopyAnswer
 copy_of k = cond (eqb k 0) CopyAnswer.Copied CopyAnswer.NotARoom
@@ -61,6 +67,11 @@ unfolding leave_of
 leave-back (LeaveAnswer.Left n) = refl
 leave-back LeaveAnswer.NotIn = refl
 leave-back LeaveAnswer.NotARoom = refl
+
+merge-back : (a : MergeAnswer) → merge_of (merge_said a) ≡ a
+unfolding merge_of
+merge-back (MergeAnswer.Merged n) = refl
+merge-back MergeAnswer.NotARoom = refl
 
 copy-back : (a : CopyAnswer) → copy_of (copy_said a) ≡ a
 unfolding copy_of
@@ -103,6 +114,9 @@ enter-unique κs a r r' s s' p q = one-outcome enter_said enter_of enter-back r 
 
 pub leave-unique : (κs : _) (a : _) (r r' : _) (s s' : _) → leave.Post κs a r s → leave.Post κs a r' s' → (r ≡ r') × (s.0.now ≡ s'.0.now)
 leave-unique κs a r r' s s' p q = one-outcome leave_said leave_of leave-back r r' s.0.now s'.0.now _ p q
+
+pub merge-unique : (κs : _) (a : _) (r r' : _) (s s' : _) → merge.Post κs a r s → merge.Post κs a r' s' → (r ≡ r') × (s.0.now ≡ s'.0.now)
+merge-unique κs a r r' s s' p q = one-outcome merge_said merge_of merge-back r r' s.0.now s'.0.now _ p q
 
 pub empty-unique : (κs : _) (a : _) (r r' : _) (s s' : _) → empty.Post κs a r s → empty.Post κs a r' s' → s.0.now ≡ s'.0.now
 empty-unique κs a r r' s s' p q = only-this s.0.now s'.0.now _ p q

@@ -1,5 +1,5 @@
 -- A room: a table as numbers, six for a record, with zeros behind (document 01, "Stream and receiver"), and what each call makes of ANY
--- numbers and count, by its "Refusal numbers". On the room of a table these are the table's own `enter` and `leave`: proofs/Laws.antt.
+-- numbers and count, by its "Refusal numbers". On the room of a table these are the table's own `enter`, `leave` and `join`: proofs/Laws.antt.
 use Rattle.std.specs.Prelude.{ℕ, zero, suc, ◌+◌, ◌-◌, ◌*◌, ◌/◌, Bool, true, cond, ◌&&◌, List, [], ◌∷◌, ◌++◌, length, get_or, take, drop, replicate, leb, ltb, eqb}
 use Rattle.rtr_room.specs.Table.{before, same, is_table, Change}
 use Rattle.rtr_room.specs.Table.Change.{changed}
@@ -8,6 +8,7 @@ use Rattle.rtr_room.specs.declared.RecordFound.{RecordFound}
 use Rattle.rtr_room.specs.declared.LookUp.{LookUp}
 use Rattle.rtr_room.specs.declared.EnterAnswer.{EnterAnswer}
 use Rattle.rtr_room.specs.declared.LeaveAnswer.{LeaveAnswer}
+use Rattle.rtr_room.specs.declared.MergeAnswer.{MergeAnswer}
 use Rattle.rtr_room.specs.declared.CopyAnswer.{CopyAnswer}
 
 -- ---- rooms: "A room is 6,144 numbers of 32 bits, six per record, at most 1,024 records. .. Spare numbers are 0", here over any limit
@@ -134,6 +135,22 @@ gone s count r =
     (cond (stands s count r) (record { says = counted (count - 1); left = take_out (place s count r) count s }) (keeps 16 s))
     (keeps 22 s)
 
+-- the first so many records of a run go into the first `end` records of a room, from the back: those of the room from the last one's place
+-- on stand behind it, and the others go into what stands before that place
+unfoldable pub merge_from : List ℕ → ℕ → List ℕ → ℕ → List ℕ → List ℕ
+merge_from s end t zero rest = take (6 * end) s ++ rest
+merge_from s end t (suc j) rest =
+    let r = record_at t j in
+    let p = place s end r in
+    merge_from s p t j (numbers r ++ (take (6 * end - 6 * p) (drop (6 * p) s) ++ rest))
+
+-- merging: 22 where the count or the run's count is over its limit, or the run does not fit behind the count; then all of the run's records more
+unfoldable pub merged : List ℕ → ℕ → List ℕ → ℕ → Outcome
+merged s count t n =
+    cond (leb count (limit_of s) && (leb n (limit_of t) && leb n (limit_of s - count)))
+    (record { says = counted (count + n); left = merge_from s count t n (drop (6 * (count + n)) s) })
+    (keeps 22 s)
+
 -- what a change of a table comes to in its room: the table after it, or the refusal and the table as it was
 unfoldable pub outcome_of : ℕ → List Record → Change → Outcome
 outcome_of limit t (changed t') = record { says = counted (length t'); left = room limit t' }
@@ -151,6 +168,11 @@ abbrev pub leave_said : LeaveAnswer → Said
 leave_said (LeaveAnswer.Left count) = counted count
 leave_said LeaveAnswer.NotIn = refused_by 16
 leave_said LeaveAnswer.NotARoom = refused_by 22
+
+-- what the code's answer to merging says
+abbrev pub merge_said : MergeAnswer → Said
+merge_said (MergeAnswer.Merged count) = counted count
+merge_said MergeAnswer.NotARoom = refused_by 22
 
 -- a room is copied whole over one of its size, or not at all
 unfoldable pub copied : List ℕ → List ℕ → List ℕ

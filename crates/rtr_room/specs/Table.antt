@@ -1,6 +1,6 @@
 -- Records, their order, and a table as a list of them: document 01, "Stream and receiver" ("A room is .." to "Host bits are kept as sent") and
 -- refusals 16, 17 and 18 of its "Refusal numbers".
-use Rattle.std.specs.Prelude.{ℕ, suc, ◌+◌, ◌*◌, ◌/◌, ◌%◌, ◌≤◌, Bool, true, false, cond, ◌&&◌, ◌||◌, List, [], ◌∷◌, length, leb, ltb, eqb}
+use Rattle.std.specs.Prelude.{ℕ, suc, ◌+◌, ◌*◌, ◌/◌, ◌%◌, ◌≤◌, Bool, true, false, cond, ◌&&◌, ◌||◌, List, [], ◌∷◌, ◌≡◌, length, leb, ltb, eqb}
 use Rattle.rtr_room.specs.declared.Record.{Record}
 
 -- ---- a record: six numbers. The first packs family, prefix length and max; then come the address in four numbers, of which IPv4 fills the first alone, and the AS number
@@ -114,6 +114,15 @@ insert r (x ∷ t) = cond (before x r) (x ∷ insert r t) (r ∷ x ∷ t)
 unfoldable pub remove : Record → List Record → List Record
 remove r [] = []
 remove r (x ∷ t) = cond (same x r) t (x ∷ remove r t)
+
+-- every record of the second goes into the first
+unfoldable pub join : List Record → List Record → List Record
+join t [] = t
+join t (r ∷ u) = insert r (join t u)
+
+-- no record is in both
+abbrev pub Apart : List Record → List Record → Type 0
+Apart t u = (x : Record) → is_in x t ≡ true → is_in x u ≡ true → ⊥
 
 -- what entering or leaving comes to: the table after it, or a refusal's number
 pub data Change : Type 0 where

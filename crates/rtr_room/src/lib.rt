@@ -1,10 +1,10 @@
 // Rooms: a table of records kept sorted in lent numbers, six for a record. Every call takes any numbers and any count; on the room of a
-// table it does what `enter` and `leave` of specs/Table.antt do (proofs/Laws.antt). Nothing here knows of a PDU, nor of a limit of 1,024.
+// table it does what `enter`, `leave` and `join` of specs/Table.antt do (proofs/Laws.antt). Nothing here knows of a PDU, nor of a limit of 1,024.
 #![tactic(auto)]
 
 ghost use Rattle.std.specs.Prelude.{◌≡◌, ◌+◌, ◌-◌, ◌*◌, ◌≤◌, ◌<◌, ◌++◌, length, take, drop, replicate};
 ghost use Rattle.rtr_room.specs.Table.{packed, ipv4_record, ipv6_record, family_of, prefix_of, max_of, before, same, in_rule, is_table};
-ghost use Rattle.rtr_room.specs.Room.{numbers, record_at, record_found, records, all_zero, is_room, bisect, look_up, found, entered, enter_said, gone, leave_said, copied, copy_says, copy_said};
+ghost use Rattle.rtr_room.specs.Room.{numbers, record_at, record_found, records, all_zero, is_room, bisect, place, look_up, found, entered, enter_said, gone, leave_said, merged, merge_said, copied, copy_says, copy_said};
 
 // Which network may announce which prefix, as a room's six numbers: the first is family x 65,536 + prefix length x 256 + max.
 #[derive(Clone, Copy)]
@@ -45,6 +45,12 @@ pub enum EnterAnswer {
 pub enum LeaveAnswer {
     Left(usize),
     NotIn,
+    NotARoom,
+}
+
+#[derive(Clone, Copy)]
+pub enum MergeAnswer {
+    Merged(usize),
     NotARoom,
 }
 
@@ -410,6 +416,71 @@ pub fn leave(room: &mut [u32], count: usize, r: Record) -> LeaveAnswer
             LeaveAnswer::Left(count - 1)
         }
     }
+}
+
+// Where a record stands or would stand among the first so many: the last is compared first, as a look-up does.
+fn place_in(room: &[u32], end: usize, r: Record) -> usize
+    requires { 6 * end ≤ length room.now }
+    ensures { (result ≡ place room.now end r) × (result ≤ end) }
+{
+    if end == 0 {
+        return 0;
+    }
+    let before = end - 1;
+    let last = record_at(room, before);
+    if is_before(last, r) {
+        return end;
+    }
+    if is_same(last, r) {
+        return before;
+    }
+    place_among(room, before, r)
+}
+
+// The records from one to an end stand so many records further. Two are read before either is written, so that the compiler moves 16 bytes at a time.
+fn shift_records(room: &mut [u32], from: usize, end: usize, by: usize)
+    requires { (from ≤ end) × (6 * (end + by) ≤ length room.old) }
+    ensures { room.new ≡ take (6 * (from + by)) room.old ++ (take (6 * end - 6 * from) (drop (6 * from) room.old) ++ drop (6 * (end + by)) room.old) }
+{
+    let mut at = end;
+    while from + 1 < at {
+        at -= 2;
+        let first = record_at(room, at);
+        let second = record_at(room, at + 1);
+        let to = 6 * (at + by);
+        put(room, to + 6, second);
+        put(room, to, first);
+    }
+    if from < at {
+        let first = record_at(room, from);
+        put(room, 6 * (from + by), first);
+    }
+}
+
+// A sorted run goes into a room, from the back: each of its records moves, once and to their last place, all those of the room that stand behind it.
+pub fn merge(room: &mut [u32], count: usize, run: &[u32], n: usize) -> MergeAnswer
+    ensures { record { says = merge_said result; left = room.new } ≡ merged room.old count run.now n }
+{
+    if count > room.len() / 6 {
+        return MergeAnswer::NotARoom;
+    }
+    if n > run.len() / 6 {
+        return MergeAnswer::NotARoom;
+    }
+    if n > room.len() / 6 - count {
+        return MergeAnswer::NotARoom;
+    }
+    let mut end = count;
+    let mut j = n;
+    while j > 0 {
+        j -= 1;
+        let r = record_at(run, j);
+        let at = place_in(room, end, r);
+        shift_records(room, at, end, j + 1);
+        put(room, 6 * (at + j), r);
+        end = at;
+    }
+    MergeAnswer::Merged(count + n)
 }
 
 // Every number is 0.

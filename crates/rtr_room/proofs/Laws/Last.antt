@@ -35,7 +35,7 @@ all-in-rule-append (x ∷ t) u = go (in_rule x) (all-in-rule-append t u)
     go false rest = refl
 
 -- what stands before the last of an ordered list comes before it
-each-before : (x r : Record) (t : List Record) → ordered (x ∷ (t ++ r ∷ [])) ≡ true → before x r ≡ true
+pub each-before : (x r : Record) (t : List Record) → ordered (x ∷ (t ++ r ∷ [])) ≡ true → before x r ≡ true
 each-before x r [] h = ordered-above x (r ∷ []) h
 each-before x r (y ∷ t) h = before-transitive x y r (ordered-above x (y ∷ (t ++ r ∷ [])) h) (each-before y r t (ordered-tail x (y ∷ (t ++ r ∷ [])) h))
 

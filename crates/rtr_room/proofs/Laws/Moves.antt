@@ -39,10 +39,10 @@ rest-length : (i : ℕ) (t : List Record) → length (flat (drop i t)) ≡ 6 * l
 rest-length i t = omega (arith, flat-length (drop i t), length-drop i t)
 
 -- the numbers from place p to the last record, and behind that
-rest_of : (i : ℕ) (t : List Record) (s : List ℕ) (n : ℕ) → i ≤ length t → n ≡ 6 * length t - 6 * i → take n (drop (6 * i) (flat t ++ s)) ≡ flat (drop i t)
+pub rest_of : (i : ℕ) (t : List Record) (s : List ℕ) (n : ℕ) → i ≤ length t → n ≡ 6 * length t - 6 * i → take n (drop (6 * i) (flat t ++ s)) ≡ flat (drop i t)
 rest_of i t s n h e = ap (take n) (drop-flat i t s h) ∙ take_at (flat (drop i t)) s n (rest-length i t ∙ sym e)
 
-behind-of : (t : List Record) (s : List ℕ) → drop (6 * length t) (flat t ++ s) ≡ s
+pub behind-of : (t : List Record) (s : List ℕ) → drop (6 * length t) (flat t ++ s) ≡ s
 behind-of t s = drop_at (flat t) s (6 * length t) (flat-length t)
 
 spare-after : (limit n : ℕ) (t : List Record) → suc n ≡ length t → length t ≤ limit → replicate 6 0 ++ drop (6 * length t) (flat t ++ spare limit (length t)) ≡ spare limit n

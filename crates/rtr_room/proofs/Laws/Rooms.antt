@@ -31,7 +31,7 @@ unfolding flat
 flat_append [] v = refl
 flat_append (r ∷ u) v = ap (λ (s : List ℕ). numbers r ++ s) (flat_append u v)
 
-flat-split : (i : ℕ) (t : List Record) (s : List ℕ) → flat t ++ s ≡ flat (take i t) ++ (flat (drop i t) ++ s)
+pub flat-split : (i : ℕ) (t : List Record) (s : List ℕ) → flat t ++ s ≡ flat (take i t) ++ (flat (drop i t) ++ s)
 flat-split i t s =
     ap (λ (u : List Record). flat u ++ s) (sym (take-append-drop i t))
     ∙ ap (λ (n : List ℕ). n ++ s) (flat_append (take i t) (drop i t))
@@ -113,7 +113,7 @@ unfolding record_found
 found-outside s i h = simp (lt-leb (6 * i + 6) (length s) h)
 
 -- numbers that begin with n records begin with their numbers
-flat-records : (n : ℕ) (s : List ℕ) → 6 * n ≤ length s → flat (records n s) ≡ take (6 * n) s
+pub flat-records : (n : ℕ) (s : List ℕ) → 6 * n ≤ length s → flat (records n s) ≡ take (6 * n) s
 unfolding records flat
 flat-records zero s h = refl
 flat-records (suc n) [] h = absurd (omega arith)

@@ -114,13 +114,13 @@ insert-length r (x ∷ t) = go (before x r) (insert-length r t)
     go true rest = ap suc rest
     go false rest = refl
 
-or_swap : (a b c : Bool) → a || (b || c) ≡ (b || (a || c))
+pub or_swap : (a b c : Bool) → a || (b || c) ≡ (b || (a || c))
 or_swap true true c = refl
 or_swap true false c = refl
 or_swap false true c = refl
 or_swap false false c = refl
 
-insert-membership : (r x : Record) (t : List Record) → is_in x (insert r t) ≡ (same r x || is_in x t)
+pub insert-membership : (r x : Record) (t : List Record) → is_in x (insert r t) ≡ (same r x || is_in x t)
 unfolding insert is_in
 insert-membership r x [] = refl
 insert-membership r x (y ∷ t) = go (before y r) (insert-membership r x t)
@@ -193,7 +193,7 @@ remove-membership r x (y ∷ t) h = go (same y r) refl (same r x) refl (remove-m
     go false e c f rest = rw f (there c (same y x) f refl e (rw f at rest))
 
 -- the changes that entering and leaving make
-entered-is : (limit : ℕ) (r : Record) (t t' : List Record) → enter limit r t ≡ changed t' → (is_in r t ≡ false) × (length t < limit) × (insert r t ≡ t')
+pub entered-is : (limit : ℕ) (r : Record) (t t' : List Record) → enter limit r t ≡ changed t' → (is_in r t ≡ false) × (length t < limit) × (insert r t ≡ t')
 unfolding enter
 entered-is limit r t t' e = go (is_in r t) refl (leb limit (length t)) refl e
   where
