@@ -5,7 +5,8 @@ use native.Mathlib.Nat.{add-zero, add-suc}
 use mathlib.Core.Bool.{Bool, true, false}
 use mathlib.Core.List.{List, [], ◌∷◌, ◌++◌, append_assoc, append-nil}
 use mathlib.Core.Path.{◌≡◌, refl, sym, ap, ◌∙◌, subst}
-use denote.Ref.{Bor}
+use denote.Bor.{Bor}
+use denote.MutBor.{MutBor}
 use lib.ListN.{length, take, replicate}
 use Rattle.rtr_models.specs.declared.RtrProtocolVersion.{RtrProtocolVersion}
 use Rattle.rtr_receiver.specs.History.{table_of, finished}
@@ -50,14 +51,18 @@ times-join piece m y z n (suc k) first (FedTimes.more {m = x} fed step) = subst 
 
 -- ---- What is fixed
 
-abbrev ref : {X : Type 0} → X → Bor X
-ref x = record { ref_ptr = (0, 0); now = x }
+-- a slice that is lent to be read, and one that is lent to be written, at a value
+abbrev shared : List ℕ → Bor (List ℕ)
+shared xs = record { ref_ptr = (0, 0); now = xs }
+
+abbrev lent : List ℕ → MutBor (List ℕ)
+lent xs = record { ref_ptr = (0, 0); ghost_name = 0; now = xs }
 
 -- rtr_receiver's `feed-unique`, of plain values
 one-feed : (s : Session) (live working hold piece : List ℕ) (r r' : Fed) (live1 working1 hold1 live2 working2 hold2 : List ℕ) → FedAs s.life.limit s live working hold piece r live1 working1 hold1 → FedAs s.life.limit s live working hold piece r' live2 working2 hold2
     → (r ≡ r') × (live1 ≡ live2) × (working1 ≡ working2) × (take r.session.held hold1 ≡ take r'.session.held hold2)
 one-feed s live working hold piece r r' live1 working1 hold1 live2 working2 hold2 p q =
-    feed-unique ([], ([], ([], ([], tt)))) (s, (ref live, (ref working, (ref hold, (ref piece, tt))))) r r' (s, (ref live1, (ref working1, (ref hold1, (ref piece, tt))))) (s, (ref live2, (ref working2, (ref hold2, (ref piece, tt))))) p q
+    feed-unique ([], ([], ([], ([], tt)))) (s, (lent live, (lent working, (lent hold, (shared piece, tt))))) r r' (s, (lent live1, (lent working1, (lent hold1, (shared piece, tt))))) (s, (lent live2, (lent working2, (lent hold2, (shared piece, tt))))) p q
 
 -- a refused feed
 abbrev still : Session → Fed
@@ -70,7 +75,7 @@ refused-feed s live working hold piece r live1 working1 hold1 e p =
     let q : FedAs s.life.limit s live working hold piece (still s) live working hold = (sym (refused-keeps-feed s.life.limit s live working hold piece e), refl) in
     let one = one-feed s live working hold piece r (still s) live1 working1 hold1 live working hold p q in
     let whole : hold ≡ hold1 =
-    feed-unique-refused ([], ([], ([], ([], tt)))) (s, (ref live, (ref working, (ref hold, (ref piece, tt))))) (still s) r (s, (ref live, (ref working, (ref hold, (ref piece, tt))))) (s, (ref live1, (ref working1, (ref hold1, (ref piece, tt))))) q p refl in
+    feed-unique-refused ([], ([], ([], ([], tt)))) (s, (lent live, (lent working, (lent hold, (shared piece, tt))))) (still s) r (s, (lent live, (lent working, (lent hold, (shared piece, tt))))) (s, (lent live1, (lent working1, (lent hold1, (shared piece, tt))))) q p refl in
     (ap (λ (f : Fed). f.session) one.0, one.1, one.2, sym whole)
 
 -- two holds of one length, with the same bytes held

@@ -1,9 +1,10 @@
 // A session record that is lent: a long-running host keeps one, lends it to each call, and finds it updated in place. Each call takes the record apart,
 // makes the receiver's by-value call and puts the record that comes back in its place, so it promises what that call promises, of the record at exit.
 // `feed_times` is such a host's loop: one record, lent once for all its feeds.
-// The calls ending in `_through` take the record by value and lend it: whoever calls them needs no walk by hand. The run reader keeps captured bytes
-// together with a place in them; `read_run`, `rest_at` and `done_at` are the same over plain parameters, as `rtr_codec::read_at` is.
+// The calls ending in `_through` take the record by value and lend it. The run reader keeps captured bytes together with a place in them; `read_run`,
+// `rest_at` and `done_at` are the same over plain parameters, as `rtr_codec::read_at` is.
 #![tactic(auto)]
+
 ghost use Rattle.std.specs.Prelude.{◌≡◌, ◌-◌, leb, length};
 ghost use Rattle.rtr_codec.specs.Reading.{in_use};
 ghost use Rattle.rtr_codec.specs.Run.{read_at, run_said};
@@ -26,7 +27,7 @@ pub fn feed_in_place(
     hold: &mut [u8],
     piece: &[u8],
 ) -> Done
-    ensures { FedAs session.entry.now.life.limit session.entry.now live.old working.old hold.old piece.now (record { session = session.exit.now; done = result }) live.new working.new hold.new }
+    ensures { FedAs session.old.life.limit session.old live.old working.old hold.old piece.now (record { session = session.new; done = result }) live.new working.new hold.new }
 {
     let fed = feed(*session, live, working, hold, piece);
     *session = fed.session;
@@ -42,7 +43,7 @@ pub fn feed_times(
     piece: &[u8],
     count: u32,
 )
-    ensures { FedTimes piece.now (record { session = session.entry.now; live = live.old; working = working.old; hold = hold.old }) count (record { session = session.exit.now; live = live.new; working = working.new; hold = hold.new }) }
+    ensures { FedTimes piece.now (record { session = session.old; live = live.old; working = working.old; hold = hold.old }) count (record { session = session.new; live = live.new; working = working.new; hold = hold.new }) }
 {
     let mut left = count;
     while left > 0 {
@@ -59,7 +60,7 @@ pub fn full_ask_in_place(
     hold: &[u8],
     out: &mut [u8],
 ) -> AskAnswer
-    ensures { ask_said (record { session = session.exit.now; answer = result }) live.now working.now hold.now out.new ≡ full_ask_says session.entry.now.life.limit session.entry.now live.now working.now hold.now out.old }
+    ensures { ask_said (record { session = session.new; answer = result }) live.now working.now hold.now out.new ≡ full_ask_says session.old.life.limit session.old live.now working.now hold.now out.old }
 {
     let asked = full_ask(*session, live, working, hold, out);
     *session = asked.session;
@@ -74,7 +75,7 @@ pub fn change_ask_in_place(
     hold: &[u8],
     out: &mut [u8],
 ) -> AskAnswer
-    ensures { ask_said (record { session = session.exit.now; answer = result }) live.now working.now hold.now out.new ≡ change_ask_says session.entry.now.life.limit session.entry.now live.now working.now hold.now out.old }
+    ensures { ask_said (record { session = session.new; answer = result }) live.now working.now hold.now out.new ≡ change_ask_says session.old.life.limit session.old live.now working.now hold.now out.old }
 {
     let asked = change_ask(*session, live, working, hold, out);
     *session = asked.session;
@@ -88,7 +89,7 @@ pub fn reconnect_in_place(
     working: &mut [u32],
     hold: &[u8],
 ) -> ReconnectAnswer
-    ensures { reconnect_said (record { session = session.exit.now; answer = result }) live.now working.new hold.now ≡ reconnect_says session.entry.now.life.limit session.entry.now live.now working.old hold.now }
+    ensures { reconnect_said (record { session = session.new; answer = result }) live.now working.new hold.now ≡ reconnect_says session.old.life.limit session.old live.now working.old hold.now }
 {
     let connected = reconnect(*session, live, working, hold);
     *session = connected.session;
