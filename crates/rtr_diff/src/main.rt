@@ -54,10 +54,7 @@ fn read_file(rt: &impl Files, name: &str, front: &mut [u8]) -> usize
     ensures { IsPrefixLen result front.new }
 {
     match fs::open(rt, name) {
-        Ok(file) => {
-            let mut file = file;
-            read_front(&mut file, front)
-        }
+        Ok(mut file) => read_front(&mut file, front),
         Err(_) => 0,
     }
 }
