@@ -107,7 +107,7 @@ end-out e r p h = out-of-loading (λ (x : Stage). end_in x e r) (no_update (stop
 -- ---- a record enters or leaves
 
 -- what a room call comes to on numbers that keep the room rules
-enter-on : (limit count : ℕ) (s : List ℕ) (r : Record) → is_room limit count s ≡ true → entered s count r ≡ outcome_of limit (records count s) (enter limit r (records count s))
+pub enter-on : (limit count : ℕ) (s : List ℕ) (r : Record) → is_room limit count s ≡ true → entered s count r ≡ outcome_of limit (records count s) (enter limit r (records count s))
 enter-on limit count s r h =
     let m = room-stands limit count s h in
     ap₂ (λ (a : List ℕ) (n : ℕ). entered a n r) m.0 (sym m.1) ∙ enter-is limit r (records count s) m.3 (omega (arith, m.1, m.2))

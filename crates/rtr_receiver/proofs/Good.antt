@@ -13,6 +13,8 @@ use Rattle.rtr_room.proofs.Laws.{enter-keeps, leave-keeps, ipv4-in-rule, ipv6-in
 use Rattle.rtr_receiver.specs.Receiver.{Stage, Receiver, Deed, is_due, session_in, kind_in, fresh, in_stage, stop, on_serial_notify, start_load, on_change_response, on_cache_response, changed_to, on_record, finish, on_end_of_data, deed_of, on_pdu}
 use Rattle.rtr_receiver.specs.Receiver.Stage.{idle, must_reset, asked_full, asked_change, loading, stopped}
 use Rattle.rtr_receiver.specs.History.{has_table}
+use Rattle.rtr_receiver.specs.Private.{carried_by}
+use Rattle.rtr_receiver.specs.declared.Carried.{Carried}
 use Rattle.rtr_receiver.specs.declared.LoadKind.{LoadKind}
 use Rattle.rtr_receiver.specs.declared.LiveTable.{LiveTable}
 use Rattle.rtr_receiver.proofs.Turns.{prefixes-alike, pdu-by}
@@ -80,6 +82,28 @@ reset-not-loading asked_full due = refl
 reset-not-loading asked_change due = refl
 reset-not-loading (loading kind session) due = absurd (false≢true due)
 reset-not-loading (stopped number values) due = refl
+
+-- the entry of a prefix whose lengths are in rule is in rule
+pub entry-in-rule : (pdu : RtrPdu) (announced : Bool) (x : Record) → LengthsInRule pdu → carried_by pdu ≡ Carried.Record announced x → in_rule x ≡ true
+unfolding carried_by
+entry-in-rule (IPv4Prefix p) announced x l e =
+    let same : ipv4_record p.prefix_length p.max_length p.prefix p.asn ≡ x = cc in
+    sym (ap in_rule same)
+    ∙ ipv4-in-rule p.prefix_length p.max_length (omega arith) (omega arith) p.prefix p.asn
+    ∙ simp (le-leb p.prefix_length p.max_length l.0, le-leb p.max_length 32 l.1)
+entry-in-rule (IPv6Prefix p) announced x l e =
+    let same : ipv6_record p.prefix_length p.max_length p.prefix.w0 p.prefix.w1 p.prefix.w2 p.prefix.w3 p.asn ≡ x = cc in
+    sym (ap in_rule same)
+    ∙ ipv6-in-rule p.prefix_length p.max_length (omega arith) (omega arith) p.prefix.w0 p.prefix.w1 p.prefix.w2 p.prefix.w3 p.asn
+    ∙ simp (le-leb p.prefix_length p.max_length l.0, le-leb p.max_length 128 l.1)
+entry-in-rule (SerialNotify p) announced x l e = absurd (let z : ◌≡◌ {A = ℕ} 0 1 = cc in omega arith)
+entry-in-rule (SerialQuery p) announced x l e = absurd (let z : ◌≡◌ {A = ℕ} 0 1 = cc in omega arith)
+entry-in-rule (ResetQuery p) announced x l e = absurd (let z : ◌≡◌ {A = ℕ} 0 1 = cc in omega arith)
+entry-in-rule (CacheResponse p) announced x l e = absurd (let z : ◌≡◌ {A = ℕ} 0 1 = cc in omega arith)
+entry-in-rule (EndOfData p) announced x l e = absurd (let z : ◌≡◌ {A = ℕ} 0 1 = cc in omega arith)
+entry-in-rule (CacheReset p) announced x l e = absurd (let z : ◌≡◌ {A = ℕ} 0 1 = cc in omega arith)
+entry-in-rule (RouterKey p) announced x l e = absurd (let z : ◌≡◌ {A = ℕ} 0 1 = cc in omega arith)
+entry-in-rule (ErrorReport p) announced x l e = absurd (let z : ◌≡◌ {A = ℕ} 0 1 = cc in omega arith)
 
 module _ (limit : ℕ) where
   pub fresh-good : (v : _) → Good limit (fresh v)

@@ -19,6 +19,7 @@ pub mod Receives
 pub mod Stops
 pub mod Updates
 pub mod Whole
+mod Gathering
 pub mod Onward
 pub mod Examples
 mod Turns

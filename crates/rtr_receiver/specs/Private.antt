@@ -1,17 +1,18 @@
 -- What the private functions of src/lib.rt promise each other; no public promise rests on this page.
-use Rattle.std.specs.Prelude.{◌≡◌, ℕ, ◌+◌, ◌<◌, ◌≤◌, Bool, true, cond, List, [], length, drop, replicate}
+use Rattle.std.specs.Prelude.{◌≡◌, ℕ, ◌+◌, ◌<◌, ◌≤◌, Bool, true, false, cond, ◌&&◌, ◌⊎◌, List, [], length, drop, replicate, ◌==◌, nat_le}
 use Rattle.rtr_models.specs.Values.{announces}
 use Rattle.rtr_models.specs.declared.RtrEndOfData.{RtrEndOfData}
+use Rattle.rtr_models.specs.declared.RtrProtocolVersion.{RtrProtocolVersion}
 use Rattle.rtr_models.specs.declared.RtrPduType.{RtrPduType}
 use Rattle.rtr_models.specs.declared.RtrPdu.{RtrPdu}
 use Rattle.rtr_models.specs.declared.RtrPdu.TheVariants.{SerialNotify, SerialQuery, ResetQuery, CacheResponse, IPv4Prefix, IPv6Prefix, EndOfData, CacheReset, RouterKey, ErrorReport}
-use Rattle.rtr_receiver.specs.Contents.{Rooms, nothing, are_rooms}
-use Rattle.rtr_room.specs.Table.{ipv4_record, ipv6_record}
-use Rattle.rtr_room.specs.Room.{copied}
+use Rattle.rtr_receiver.specs.Contents.{Contents, Entry, Rooms, nothing, are_rooms}
+use Rattle.rtr_room.specs.Table.{Apart, Change, in_rule, insert, ipv4_record, ipv6_record, is_in, join}
+use Rattle.rtr_room.specs.Room.{copied, is_room, limit_of, records}
 use Rattle.rtr_room.specs.declared.Record.{Record}
-use Rattle.rtr_receiver.specs.Receiver.{Stage, Receiver, Deed, Feed, is_due, kind_in, session_in, in_stage, stop, on_serial_notify, start_load, on_cache_response, on_record, finish, no_update, on_end_of_data, on_pdu, listens, on_piece}
+use Rattle.rtr_receiver.specs.Receiver.{Stage, Receiver, Deed, Feed, is_due, kind_in, session_in, in_stage, stop, on_serial_notify, start_load, on_cache_response, on_record, finish, no_update, on_end_of_data, on_pdu, listens, on_piece, changed_to}
 use Rattle.rtr_receiver.specs.Receiver.Stage.{must_reset}
-use Rattle.rtr_receiver.specs.Promises.{stop_said, stopped_by, stage_of, receiver_of, is_receiver, leaves, in_memory, fed_to, fed_said_by}
+use Rattle.rtr_receiver.specs.Promises.{stop_said, stopped_by, stage_of, is_loading, receiver_of, is_receiver, leaves, in_memory, fed_to, fed_said_by}
 use Rattle.rtr_encode.specs.declared.EncodeAnswer.{EncodeAnswer}
 use Rattle.rtr_receiver.specs.declared.LoadKind.{LoadKind}
 use Rattle.rtr_receiver.specs.declared.Stop.{Stop}
@@ -23,6 +24,7 @@ use Rattle.rtr_receiver.specs.declared.AskError.{AskError}
 use Rattle.rtr_receiver.specs.declared.AskAnswer.{AskAnswer}
 use Rattle.rtr_receiver.specs.declared.AskedSession.{AskedSession}
 use Rattle.rtr_receiver.specs.declared.Carried.{Carried}
+use Rattle.rtr_receiver.specs.declared.Announced.{Announced}
 use Rattle.rtr_receiver.specs.declared.Doing.{Doing}
 use Rattle.rtr_receiver.specs.declared.DeedDone.{DeedDone}
 use Rattle.rtr_receiver.specs.declared.FeedAnswer.{FeedAnswer}
@@ -141,6 +143,52 @@ SteppedTo limit f piece at s next updates live working hold Then.Again =
 
 abbrev pub Stepped : ℕ → Feed → List ℕ → ℕ → Step → Rooms → Rooms → List ℕ → Type 0
 Stepped limit f piece at t live working hold = SteppedTo limit f piece at t.session t.next t.updates live working hold t.then
+
+-- ---- the run step: announcements that stand one after another in a piece enter together
+
+-- what a piece from one place to another does in a load of a version with nothing held: the working table is made this of that, and nothing else happens
+abbrev pub Gathers : ℕ → RtrProtocolVersion → List ℕ → ℕ → ℕ → Contents → Contents → Type 0
+Gathers limit version piece at next t t' =
+    (H updates : ℕ) (kind : LoadKind) (session : ℕ) (r : Receiver) → 32 ≤ H → r.version ≡ version → r.stage ≡ Stage.loading kind session → r.held ≡ [] → r.working ≡ t
+    → on_piece limit H (record { receiver = r; taken = at; updates = updates }) (drop at piece)
+    ≡ on_piece limit H (record { receiver = changed_to (Change.changed t') r; taken = next; updates = updates }) (drop next piece)
+
+-- a load with nothing held, and a hold that no prefix is too long for
+abbrev pub may_gather : Session → ℕ → Bool
+may_gather s H = s.held == 0 && (nat_le 32 H && is_loading s.phase)
+
+-- the next PDU of a piece announces an entry, which enters any table that lacks it and has space; of anything else nothing is said
+abbrev pub AnnouncedAt : RtrProtocolVersion → List ℕ → ℕ → Announced → Type 0
+AnnouncedAt version piece at (Announced.Entry x next) =
+    (at < next) × (next ≤ length piece) × (in_rule x ≡ true) × ((limit : ℕ) (t : Contents) → is_in x t ≡ false → length t < limit → Gathers limit version piece at next t (insert x t))
+AnnouncedAt version piece at Announced.Other = Unit {0}
+
+-- one announcement more stands in the tail, and it is in neither table; or nothing was taken
+abbrev pub GatheredOne : RtrProtocolVersion → Rooms → ℕ → List ℕ → ℕ → ℕ → Rooms → Rooms → ℕ → Type 0
+GatheredOne version working count piece at n tail tail' next =
+    ((next ≡ at) × (tail' ≡ tail))
+    ⊎ ((x : Entry) × (at < next) × (next ≤ length piece) × (is_room (limit_of tail) (n + 1) tail' ≡ true) × (records (n + 1) tail' ≡ insert x (records n tail))
+    × (is_in x (records count working) ≡ false)
+    × (is_in x (records n tail) ≡ false)
+    × ((limit : ℕ) (t : Contents) → is_in x t ≡ false → length t < limit → Gathers limit version piece at next t (insert x t)))
+
+-- the piece from one place to another is the entries of the tail, a room of k: both tables have nothing in common, and together they are within the limit
+pub record GatheredTo (limit k : ℕ) (version : RtrProtocolVersion) (piece : List ℕ) (at : ℕ) (t : Contents) (tail : Rooms) (n next : ℕ) : Type 0 where
+  pub ruled : is_room k n tail ≡ true
+  pub apart : Apart t (records n tail)
+  pub within : length t + n ≤ limit
+  pub onward : at ≤ next
+  pub inside : next ≤ length piece
+  pub none : next ≡ at → n ≡ 0
+  pub gathered : Gathers limit version piece at next t (join t (records n tail))
+
+-- the piece from one place to another is in the working room; where nothing was taken it is as it was
+pub record TakenTo (limit : ℕ) (version : RtrProtocolVersion) (piece : List ℕ) (at count : ℕ) (working : Rooms) (count' next : ℕ) (working' : Rooms) : Type 0 where
+  pub ruled : is_room limit count' working' ≡ true
+  pub onward : at ≤ next
+  pub inside : next ≤ length piece
+  pub none : next ≡ at → (working' ≡ working) × (count' ≡ count)
+  pub gathered : Gathers limit version piece at next (records count working) (records count' working')
 
 -- a session that stopped
 abbrev pub stopped_session : Session → Stop → Session

@@ -3,22 +3,29 @@
 // shape (22); a stop clears what is held and the working room, keeps the live room, and repeats until a reconnect.
 #![tactic(auto)]
 
-ghost use Rattle.std.specs.Prelude.{◌≡◌, ◌+◌, ◌<◌, true, cond, [], length, replicate, ◌==◌};
+ghost use Rattle.std.specs.Prelude.{◌≡◌, ◌+◌, ◌<◌, ◌≤◌, true, cond, [], length, replicate, ◌==◌};
 ghost use Rattle.rtr_models.specs.Codes.{version_number};
 ghost use Rattle.rtr_codec.specs.Answers.{number_of};
 ghost use Rattle.rtr_room.specs.Table.{enter, leave};
-ghost use Rattle.rtr_room.specs.Room.{records};
+ghost use Rattle.rtr_room.specs.Room.{is_room, limit_of, records};
 ghost use Rattle.rtr_receiver.specs.Receiver.{changed_to, finish, no_update, on_kind, on_pdu, listens, compared};
 ghost use Rattle.rtr_receiver.specs.Promises.{NotifySays, stop_said, change_under_way, is_loading, stage_of, receiver_of, in_order, is_receiver, FedAs, start_says, start_said, full_ask_says, change_ask_says, ask_said, reconnect_says, reconnect_said, notify_says, notify_said, record_limit, is_limit, tabled, cleared};
-ghost use Rattle.rtr_receiver.specs.Private.{BothRooms, Stands, Did, response_in, reset_in, end_in, carried_by, carried_out, Makes, Updates, Decides, DecidesOn, Filled, stopped_session, asked_for, after_pdu, feed_here, StepAsks, Stepped};
+ghost use Rattle.rtr_receiver.specs.Private.{AnnouncedAt, GatheredOne, GatheredTo, TakenTo, may_gather, BothRooms, Stands, Did, response_in, reset_in, end_in, carried_by, carried_out, Makes, Updates, Decides, DecidesOn, Filled, stopped_session, asked_for, after_pdu, feed_here, StepAsks, Stepped};
 
+use rtr_codec::{ReadAnswer, parse_rtr_pdu};
 use rtr_encode::{EncodeAnswer, EncodeError, encode_reset_query, encode_serial_query};
 use rtr_models::*;
-use rtr_room::{CopyAnswer, EnterAnswer, LeaveAnswer, Record, copy, empty, enter, leave, rules};
+use rtr_room::{
+    CopyAnswer, EnterAnswer, LeaveAnswer, LookUp, MergeAnswer, Record, copy, empty, enter, leave,
+    look_up, merge, rules,
+};
 use rtr_stream::{Stream, StreamAnswer, StreamError, is_stream, search};
 
 // How many records a room has at the most.
 pub const RECORD_LIMIT: usize = 1024;
+
+// How many announcements gather before they are merged: the tail is a room of so many, 3 KiB of stack.
+const RUN_LIMIT: usize = 128;
 
 // ---- The session record
 
@@ -958,7 +965,161 @@ fn one_step(
     }
 }
 
-// What a feed does next. Its promise is that of one PDU; any number of them may be taken at once.
+// ---- The run step: announcements that stand one after another in a piece gather in a sorted tail and are merged into the working room together.
+// At anything else it breaks off before that PDU, and `one_step` decides it.
+
+// The next PDU of a piece, where it is an announced prefix: its record, and where it ends.
+#[derive(Clone, Copy)]
+enum Announced {
+    Entry(Record, usize),
+    Other,
+}
+
+// A prefix has 32 bytes at the most: a longer PDU is left alone, and with a hold of 32 bytes no prefix is too long (12).
+fn announced_at(version: RtrProtocolVersion, piece: &[u8], at: usize) -> Announced
+    requires { at ≤ length piece.now }
+    ensures { AnnouncedAt version piece.now at result }
+{
+    let answer = parse_rtr_pdu(&piece[at..]);
+    match answer {
+        ReadAnswer::Refused(_) => Announced::Other,
+        ReadAnswer::Read(pdu, consumed) => {
+            if consumed > 32 {
+                return Announced::Other;
+            }
+            let spoken = pdu.version();
+            if !is_version(spoken, version) {
+                return Announced::Other;
+            }
+            let carried = carried_by(pdu);
+            match carried {
+                Carried::Nothing => Announced::Other,
+                Carried::Record(is_announced, record) => {
+                    if is_announced {
+                        return Announced::Entry(record, at + consumed);
+                    }
+                    Announced::Other
+                }
+            }
+        }
+    }
+}
+
+// A run of announcements is looked for in a load with nothing held, and with a hold that no prefix is too long for.
+fn may_gather(s: Session, hold_len: usize) -> bool
+    ensures { result ≡ may_gather s hold_len }
+{
+    if s.held != 0 {
+        return false;
+    }
+    if hold_len < 32 {
+        return false;
+    }
+    let phase = s.phase;
+    match phase {
+        Phase::Loading(_, _) => true,
+        _ => false,
+    }
+}
+
+// The next announcement goes into the tail, where neither the working room nor the tail has it; the place behind it, or the same place where nothing was taken.
+fn gather_one(
+    version: RtrProtocolVersion,
+    working: &[u32],
+    count: usize,
+    tail: &mut [u32],
+    n: usize,
+    piece: &[u8],
+    at: usize,
+) -> usize
+    requires { (is_room (limit_of working.now) count working.now ≡ true) × (is_room (limit_of tail.old) n tail.old ≡ true) × (at ≤ length piece.now) }
+    ensures { GatheredOne version working.now count piece.now at n tail.old tail.new result }
+{
+    let found = announced_at(version, piece, at);
+    match found {
+        Announced::Other => at,
+        Announced::Entry(record, next) => match look_up(working, count, record) {
+            LookUp::Missing(_) => match enter(tail, n, record) {
+                EnterAnswer::Entered(_) => next,
+                EnterAnswer::AlreadyIn => at,
+                EnterAnswer::Full => at,
+                EnterAnswer::NotARoom => at,
+            },
+            _ => at,
+        },
+    }
+}
+
+// How many records were taken, or are there now, and where the next PDU begins.
+#[derive(Clone, Copy)]
+struct Taken {
+    count: usize,
+    next: usize,
+}
+
+fn least(a: usize, b: usize) -> usize
+    ensures { (result ≤ a) × (result ≤ b) }
+{
+    if a < b {
+        return a;
+    }
+    b
+}
+
+// Announcements gather in the tail until something else comes, the tail is full or the working room has no space for more.
+fn gather(
+    version: RtrProtocolVersion,
+    working: &[u32],
+    count: usize,
+    tail: &mut [u32],
+    piece: &[u8],
+    at: usize,
+) -> Taken
+    requires { (is_room (limit_of working.now) count working.now ≡ true) × (is_room (limit_of tail.old) 0 tail.old ≡ true) × (at ≤ length piece.now) }
+    ensures { GatheredTo (limit_of working.now) (limit_of tail.old) version piece.now at (records count working.now) tail.new result.count result.next }
+{
+    let most = least(tail.len() / 6, working.len() / 6 - count);
+    let mut n = 0;
+    let mut next = at;
+    while n < most {
+        let after = gather_one(version, working, count, tail, n, piece, next);
+        if after == next {
+            return Taken { count: n, next };
+        }
+        n += 1;
+        next = after;
+    }
+    Taken { count: n, next }
+}
+
+// A run of announcements enters the working room: gathered first, then merged. Where the next PDU is none the tail is not even set up.
+fn take_run(
+    version: RtrProtocolVersion,
+    working: &mut [u32],
+    count: usize,
+    piece: &[u8],
+    at: usize,
+) -> Taken
+    requires { (is_room (limit_of working.old) count working.old ≡ true) × (at ≤ length piece.now) }
+    ensures { TakenTo (limit_of working.old) version piece.now at count working.old result.count result.next working.new }
+{
+    let first = announced_at(version, piece, at);
+    if let Announced::Other = first {
+        return Taken { count, next: at };
+    }
+    let mut tail = [0u32; 6 * RUN_LIMIT];
+    let run = gather(version, working, count, &mut tail, piece, at);
+    let next = run.next;
+    match merge(working, count, &tail, run.count) {
+        MergeAnswer::Merged(merged) => Taken {
+            count: merged,
+            next,
+        },
+        MergeAnswer::NotARoom => Taken { count, next: at },
+    }
+}
+
+// What a feed does next: in a load with nothing held a run of announcements, else one PDU. The promise is that of one PDU.
 fn next_step(
     s: Session,
     live: &mut [u32],
@@ -971,6 +1132,21 @@ fn next_step(
     requires { StepAsks s.life.limit s live.old working.old hold.old piece.now at updates }
     ensures { Stepped s.life.limit (feed_here s.life.limit s live.old working.old hold.old piece.now at updates) piece.now at result live.new working.new hold.new }
 {
+    if !may_gather(s, hold.len()) {
+        return one_step(s, live, working, hold, piece, at, updates);
+    }
+    let life = s.life;
+    let version = life.version;
+    let in_working = s.working;
+    let run = take_run(version, working, in_working.records, piece, at);
+    if run.next > at {
+        return Step {
+            session: with_working(s, run.count),
+            next: run.next,
+            updates,
+            then: Then::Again,
+        };
+    }
     one_step(s, live, working, hold, piece, at, updates)
 }
 
