@@ -2,6 +2,7 @@
 // payloads, an End of Data with absent intervals, a route's state by the scan, how far a text is well formed, and the calls of rtr_held, whose record is lent. Numbers and slices only, as rtr_c's. Every call takes every input
 // and ends; nothing is promised of what it answers, which the driver compares.
 #![tactic(auto)]
+
 pub mod held;
 pub mod narrow;
 pub mod reading;
