@@ -182,16 +182,11 @@ class Fn:
         self.fields = {}
         self.bad = []
         self.goal = None
-        newnames = {}
         for place, parent, (old, new), fn, fl in info["places"]:
             if old and old not in self.steps:
                 self.steps[norm(old)] = new
             for a, b in fl:
                 self.fields.setdefault((norm(old), a), b)
-            # the record's name in Goals
-        for i, (place, *_r) in enumerate(info["places"]):
-            newnames[place] = info["places_by_name"][i]
-        self.places = newnames
         self.called = {}
         for place, parent, (old, new), f, fl in info["places"]:
             if f:
@@ -202,7 +197,6 @@ class Fn:
                 for newf, oldstep, oldpath in a[2]:
                     self.arms[(norm(oldstep), tuple(oldpath))] = (a[0], newf)
         self.needs = {norm(o): n for o, n in info["needs"]}
-        self.settled = {norm(s) for s in info["settled"]}
         self.loops = {o: (n, vs, ch) for ((o, n), vs), ch in zip(info["loops"], info["changed"])}
 
     def after_call(self, f, rest):
@@ -318,18 +312,10 @@ def given_lets(body):
 def no_auto(body):
     """What a slice's length is said by an unnamed fact: omega finds it."""
     body = re.sub(r"\n\s*c\.[\w.'-]+\.auto\.\d+,(?=\n)", "", body)
-    body = re.sub(r", c\.[\w.'-]+\.auto\.\d+(?=[,)])(?=[^()]*\))", lambda m: m[0] if False else "", body) if "omega (arith" in body else body
+    body = re.sub(r", c\.[\w.'-]+\.auto\.\d+(?=[,)])(?=[^()]*\))", "", body) if "omega (arith" in body else body
     body = re.sub(r"\(arith, c\.[\w.'-]+\.auto\.\d+\)", "arith", body)
     body = re.sub(r"c\.[\w.'-]+\.auto\.\d+", "(omega arith)", body)
     return re.sub(r"omega \(arith\)", "omega arith", body)
-
-
-def helper_lets(sections):
-    """Helpers over a place: (name, type, body in c)"""
-    out = []
-    for b in sections:
-        out.append(b)
-    return out
 
 
 def turn(old, info, fname, crate, out):
@@ -457,7 +443,6 @@ def turn(old, info, fname, crate, out):
                 lets.append(f"let {n} : {' '.join(t.split())} = {b} in")
         return lets, body
 
-    gen_name = fname
     inv_text, ans_text = [], []
     for p in invs:
         kind, loop = re.match(r"tie\.(invariant|decreases)-([\w-]+)", p["ty"]).groups()
@@ -563,7 +548,6 @@ def turn(old, info, fname, crate, out):
             f.write((hc + "\n" if hc and not inv_text else "") + "\n".join(uses) + extra + f"\nuse {gp}.Goals as goal\n\n" + "\n\n".join(lo + ans_text) + "\n")
     elif loose:
         fn.bad.append("loose lemmas and no answers: " + "; ".join(x.split("\n")[0] for x in loose))
-    known = ("same-length", "enum-told", "enum-known", "struct", "slice-", "shared-slice", "nonzero", "closed", "returns")
     rest = [d for d in dropped if not norm(d).startswith(("same-length", "enum-", "struct-", "slice-", "shared-slice", "mul-", "overflow-mul"))]
     if fn.bad or rest:
         print(f"{crate}.{fname}: {sorted(set(fn.bad))} dropped {rest}")

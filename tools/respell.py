@@ -1,5 +1,5 @@
 #!/usr/bin/env python3
-"""Respells the repository's own names after /opt/rattle/port/port.py: words in snake case, functions into Type in camel case.
+"""Respells the repository's own names after the port.py of the kit (port/port.py beside START-HERE.md): words in snake case, functions into Type in camel case.
 
 usage: tools/respell.py [TOP]      once, behind port.py, on a checkout as it was before both
 
