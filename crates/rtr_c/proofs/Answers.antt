@@ -1,6 +1,7 @@
 -- Read, encode, listing and validate by their answer: each is one of the cases of specs/Answers.antt, of the definition and of the call as Rattle reads its
 -- contract off the source. So a call that does not answer 0 leaves the numbers, or the output, as they were, and a state as 0. By what is found, and by the laws of the
 -- crates below. Assumes nothing.
+use Rattle.std.specs.Prelude.{Option, Some, None}
 use Prim.Native.Nat.{ℕ, ◌≤◌, ◌<◌}
 use mathlib.Core.Bool.{Bool, true, false, cond, true≢false}
 use mathlib.Core.List.{List, [], ◌∷◌}
@@ -23,17 +24,13 @@ use Rattle.rtr_listing.proofs.Exactly.{listed-exactly}
 use Rattle.rtr_receiver.specs.Contents.{contents}
 use Rattle.rtr_receiver.specs.History.{has_table}
 use Rattle.rtr_receiver.specs.Promises.{Reason, is_receiver}
-use Rattle.rtr_receiver.specs.declared.LiveTable.{LiveTable}
 use Rattle.rtr_receiver.specs.declared.Session.{Session}
 use Rattle.rtr_receiver.proofs.Shape.{shape-exactly}
 use Rattle.rtr_numbers.specs.Back.{session_of}
-use Rattle.rtr_numbers.specs.declared.SessionFound.{SessionFound}
 use Rattle.rtr_pdu_numbers.specs.Back.{pdu_of}
-use Rattle.rtr_pdu_numbers.specs.declared.PduFound.{PduFound}
 use Rattle.rtr_origin.specs.Origin.{state_of, state_number}
 use Rattle.rtr_origin.specs.Numbers.{route_of}
 use Rattle.rtr_origin.specs.declared.Route.{Route}
-use Rattle.rtr_origin.specs.declared.RouteFound.{RouteFound}
 use Rattle.rtr_origin.specs.declared.RouteState.{RouteState}
 use Rattle.rtr_origin.proofs.Shaped as origin
 use Rattle.rtr_origin.proofs.Numbers.{numbers-of-route}
@@ -43,6 +40,7 @@ use Rattle.rtr_c.proofs.hingemoss_read.Reads as read-reads
 use Rattle.rtr_c.proofs.hingemoss_encode.Reads as encode-reads
 use Rattle.rtr_c.proofs.hingemoss_listing.Reads as listing-reads
 use Rattle.rtr_c.proofs.hingemoss_validate.Reads as validate-reads
+use Rattle.rtr_receiver.specs.declared.Table.{Table}
 
 -- ---- read
 
@@ -83,7 +81,7 @@ unfolding encode_c
 encode-answers numbers payload out = by-found (pdu_of numbers) refl
   where
     -- the four checks in their order
-    by_tests : (pdu : RtrPdu) (k : ℕ) → pdu_of numbers ≡ PduFound.Known pdu k → (a b c d : Bool) →
+    by_tests : (pdu : RtrPdu) (k : ℕ) → pdu_of numbers ≡ Some (pdu, k) → (a b c d : Bool) →
         places_inside pdu payload ≡ a → text_in pdu payload ≡ b → leb (encoded_length in_use pdu) 4294967295 ≡ c → leb (encoded_length in_use pdu) (length out) ≡ d →
         EncodeAnswers numbers payload out (encode_left (encode in_use pdu payload out))
     by_tests pdu k e false b c d places text small room =
@@ -102,10 +100,10 @@ encode-answers numbers payload out = by-found (pdu_of numbers) refl
         let enough = leb-true (encoded_length in_use pdu) (length out) room in
         subst (EncodeAnswers numbers payload out) (sym (ap encode_left (tests-write in_use pdu payload out places text fits enough))) (EncodeAnswers.written pdu k e places text fits enough)
 
-    by-found : (x : PduFound) → pdu_of numbers ≡ x → EncodeAnswers numbers payload out (encode_found x payload out)
-    by-found (PduFound.Known pdu k) e =
+    by-found : (x : Option (RtrPdu × ℕ)) → pdu_of numbers ≡ x → EncodeAnswers numbers payload out (encode_found x payload out)
+    by-found (Some (pdu, k)) e =
         by_tests pdu k e (places_inside pdu payload) (text_in pdu payload) (leb (encoded_length in_use pdu) 4294967295) (leb (encoded_length in_use pdu) (length out)) refl refl refl refl
-    by-found PduFound.Unknown e = EncodeAnswers.unknown e
+    by-found None e = EncodeAnswers.unknown e
 
 -- ---- listing
 
@@ -116,7 +114,7 @@ listing-answers session live out = by-found (session_of session) refl
     no-reason : (s : Session) → is_listed s.life.limit s live ≡ true → ListReason s.life.limit s live → ⊥
     no-reason s e reason = true≢false (sym e ∙ (listed-exactly s.life.limit s live).1 reason)
 
-    by-room : (s : Session) → session_of session ≡ SessionFound.Known s → is_listed s.life.limit s live ≡ true → (b : Bool) → leb (length (text_of s live)) (length out) ≡ b →
+    by-room : (s : Session) → session_of session ≡ Some s → is_listed s.life.limit s live ≡ true → (b : Bool) → leb (length (text_of s live)) (length out) ≡ b →
         ListingAnswers session live out (encode_left (listing_says s.life.limit s live out))
     by-room s e t true q =
         let fits = leb-true (length (text_of s live)) (length out) q in
@@ -127,14 +125,14 @@ listing-answers session live out = by-found (session_of session) refl
         let left = listing.listed-is s.life.limit s live out t ∙ listing.short-is (text_of s live) out less in
         subst (ListingAnswers session live out) (sym (ap encode_left left)) (ListingAnswers.short s e (no-reason s t) less)
 
-    by_shape : (s : Session) → session_of session ≡ SessionFound.Known s → (b : Bool) → is_listed s.life.limit s live ≡ b → ListingAnswers session live out (encode_left (listing_says s.life.limit s live out))
+    by_shape : (s : Session) → session_of session ≡ Some s → (b : Bool) → is_listed s.life.limit s live ≡ b → ListingAnswers session live out (encode_left (listing_says s.life.limit s live out))
     by_shape s e true t = by-room s e t (leb (length (text_of s live)) (length out)) refl
     by_shape s e false t =
         subst (ListingAnswers session live out) (sym (ap encode_left (listing.refused-is s.life.limit s live out t))) (ListingAnswers.unlisted s e ((listed-exactly s.life.limit s live).0 t))
 
-    by-found : (x : SessionFound) → session_of session ≡ x → ListingAnswers session live out (listing_found x live out)
-    by-found (SessionFound.Known s) e = by_shape s e (is_listed s.life.limit s live) refl
-    by-found SessionFound.Unknown e = ListingAnswers.unknown e
+    by-found : (x : Option Session) → session_of session ≡ x → ListingAnswers session live out (listing_found x live out)
+    by-found (Some s) e = by_shape s e (is_listed s.life.limit s live) refl
+    by-found None e = ListingAnswers.unknown e
 
 -- ---- validate
 
@@ -146,37 +144,37 @@ module _ (session live working hold route : List ℕ) where
       Answers : ValidateLeft → Type 0
       Answers = ValidateAnswers session live working hold route
 
-      by_state : (s : Session) (q : Route) → Askable session live working hold route s → has_table s.table ≡ true → route_of route ≡ RouteFound.Known q →
+      by_state : (s : Session) (q : Route) → Askable session live working hold route s → has_table s.table ≡ true → route_of route ≡ Some q →
           (x : RouteState) → state_of q (contents s.live live) ≡ x → Answers (validate_gives 0 (state_number x))
       by_state s q a t r RouteState.NotFound e = ValidateAnswers.not_found s q a (record { tabled = t; routed = r; is_state = e })
       by_state s q a t r RouteState.Valid e = ValidateAnswers.valid s q a (record { tabled = t; routed = r; is_state = e })
       by_state s q a t r RouteState.Invalid e = ValidateAnswers.invalid s q a (record { tabled = t; routed = r; is_state = e })
 
-      by-table : (s : Session) → Askable session live working hold route s → is_receiver s.life.limit s live working hold ≡ true → (t : LiveTable) → s.table ≡ t →
-          (f : RouteFound) → route_of route ≡ f → Answers (validate_found (SessionFound.Known s) f live working hold)
-      by-table s a shape LiveTable.NoTable t (RouteFound.Known q) r =
+      by-table : (s : Session) → Askable session live working hold route s → is_receiver s.life.limit s live working hold ≡ true → (t : Option Table) → s.table ≡ t →
+          (f : Option Route) → route_of route ≡ f → Answers (validate_found (Some s) f live working hold)
+      by-table s a shape None t (Some q) r =
           subst Answers (sym (ap validate_left (origin.untabled-validate s.life.limit s live working hold q shape t))) (ValidateAnswers.untabled s a t)
-      by-table s a shape LiveTable.NoTable t RouteFound.Unknown r = rw (shape, t) (ValidateAnswers.untabled s a t)
-      by-table s a shape (LiveTable.Known i) t (RouteFound.Known q) r =
+      by-table s a shape None t None r = rw (shape, t) (ValidateAnswers.untabled s a t)
+      by-table s a shape (Some i) t (Some q) r =
           let short = (numbers-of-route route q r).1 in
           subst Answers (sym (ap validate_left (origin.shaped-validate s.life.limit s live working hold q shape (ap has_table t) short))) (by_state s q a (ap has_table t) r (state_of q (contents s.live live)) refl)
-      by-table s a shape (LiveTable.Known i) t RouteFound.Unknown r = rw (shape, t) (ValidateAnswers.unrouted s a (ap has_table t) r)
+      by-table s a shape (Some i) t None r = rw (shape, t) (ValidateAnswers.unrouted s a (ap has_table t) r)
 
       no-reason : (s : Session) → is_receiver s.life.limit s live working hold ≡ true → Reason s.life.limit s live working hold → ⊥
       no-reason s e reason = true≢false (sym e ∙ (shape-exactly s.life.limit s live working hold).1 reason)
 
-      without : (s : Session) → is_receiver s.life.limit s live working hold ≡ false → (f : RouteFound) → validate_found (SessionFound.Known s) f live working hold ≡ validate_gives 22 0
-      without s e (RouteFound.Known q) = ap validate_left (origin.shapeless-validate s.life.limit s live working hold q e)
-      without s e RouteFound.Unknown = rw e
+      without : (s : Session) → is_receiver s.life.limit s live working hold ≡ false → (f : Option Route) → validate_found (Some s) f live working hold ≡ validate_gives 22 0
+      without s e (Some q) = ap validate_left (origin.shapeless-validate s.life.limit s live working hold q e)
+      without s e None = rw e
 
-      by_shape : (s : Session) → session_of session ≡ SessionFound.Known s → length route ≡ 6 → (b : Bool) → is_receiver s.life.limit s live working hold ≡ b →
-          Answers (validate_found (SessionFound.Known s) (route_of route) live working hold)
+      by_shape : (s : Session) → session_of session ≡ Some s → length route ≡ 6 → (b : Bool) → is_receiver s.life.limit s live working hold ≡ b →
+          Answers (validate_found (Some s) (route_of route) live working hold)
       by_shape s e size true shape = by-table s (record { known = e; six = size; no-reason = no-reason s shape }) shape s.table refl (route_of route) refl
       by_shape s e size false shape = subst Answers (sym (without s shape (route_of route))) (ValidateAnswers.shapeless s e ((shape-exactly s.life.limit s live working hold).0 shape))
 
-      by-found : length route ≡ 6 → (x : SessionFound) → session_of session ≡ x → Answers (validate_found x (route_of route) live working hold)
-      by-found size (SessionFound.Known s) e = by_shape s e size (is_receiver s.life.limit s live working hold) refl
-      by-found size SessionFound.Unknown e = ValidateAnswers.unknown e
+      by-found : length route ≡ 6 → (x : Option Session) → session_of session ≡ x → Answers (validate_found x (route_of route) live working hold)
+      by-found size (Some s) e = by_shape s e size (is_receiver s.life.limit s live working hold) refl
+      by-found size None e = ValidateAnswers.unknown e
 
       by_size : (b : Bool) → eqb (length route) 6 ≡ b → Answers (cond b (validate_found (session_of session) (route_of route) live working hold) (validate_gives 22 0))
       by_size true q = by-found (eqb-true (length route) 6 q) (session_of session) refl
@@ -186,13 +184,13 @@ module _ (session live working hold route : List ℕ) where
   pub shaped-validate : (s : Session) → Askable session live working hold route s → (validate_c session live working hold route).answer ≡ 22 → ⊥
   shaped-validate s a = go validate-answers
     where
-      differ : SessionFound.Unknown ≡ SessionFound.Known s → ⊥
+      differ : None ≡ Some s → ⊥
       differ e = let z : ◌≡◌ {A = ℕ} 0 1 = cc in omega arith
 
       go : {left : ValidateLeft} → ValidateAnswers session live working hold route left → left.answer ≡ 22 → ⊥
       go (ValidateAnswers.not_six size) e = size a.six
       go (ValidateAnswers.unknown u) e = differ (sym u ∙ a.known)
-      go (ValidateAnswers.shapeless o k reason) e = let z : SessionFound.Known o ≡ SessionFound.Known s = sym k ∙ a.known in let same : o ≡ s = cc in a.no-reason (rw same at reason)
+      go (ValidateAnswers.shapeless o k reason) e = let z : Some o ≡ Some s = sym k ∙ a.known in let same : o ≡ s = cc in a.no-reason (rw same at reason)
       go (ValidateAnswers.untabled o k t) e = omega (arith, e)
       go (ValidateAnswers.unrouted o k t r) e = omega (arith, e)
       go (ValidateAnswers.not_found o q k h) e = omega (arith, e)

@@ -1,4 +1,5 @@
 -- `hingemoss_diff` by its answer, and that its promise leaves one answer and one content of all that is lent. Assumes nothing.
+use Rattle.std.specs.Prelude.{Result}
 use Prim.Native.Nat.{ℕ, ◌*◌, ◌≤◌, ◌<◌}
 use mathlib.Core.Bool.{Bool, true, false}
 use mathlib.Core.List.{List}
@@ -9,7 +10,6 @@ use lib.ListN.{length}
 use Rattle.rtr_receiver.specs.Promises.{record_limit}
 use Rattle.rtr_encode.specs.Encode.{Encoded}
 use Rattle.rtr_listing.specs.Promises.{list_said}
-use Rattle.rtr_listing.specs.declared.ListAnswer.{ListAnswer}
 use Rattle.rtr_listing.proofs.Laws.{written_is, short-is}
 use Rattle.rtr_listed.specs.Listed.{read_listing}
 use Rattle.rtr_listed.specs.Promises.{read_leaves}
@@ -19,9 +19,10 @@ use Rattle.rtr_encode.specs.Answers.{number_of}
 use Rattle.rtr_c.specs.Calls.{DiffCLeft, amount_of, diff_gives, diff_left_c, diff_c}
 use Rattle.rtr_c.specs.Answers.{DiffAnswers}
 use Rattle.rtr_c.proofs.hingemoss_diff.Reads as diff-reads
+use Rattle.rtr_listing.specs.declared.ListError.{ListError}
 
 -- the call's answer is that of `diff`
-pub diff-said : (old new old_room new_room out old_left new_left out' : List ℕ) (answer : ListAnswer) (number amount : ℕ) → diff_left answer old_left new_left out' ≡ diff_says record_limit old new old_room new_room out
+pub diff-said : (old new old_room new_room out old_left new_left out' : List ℕ) (answer : Result ℕ ListError) (number amount : ℕ) → diff_left answer old_left new_left out' ≡ diff_says record_limit old new old_room new_room out
     → number ≡ number_of (list_said answer) → amount ≡ amount_of (list_said answer) → diff_gives number amount old_left new_left out' ≡ diff_c old new old_room new_room out
 unfolding diff_c
 diff-said old new old_room new_room out old_left new_left out' answer number amount said named counted = (λ i. diff_gives (named i) (counted i) old_left new_left out') ∙ ap diff_left_c said

@@ -1,4 +1,5 @@
 -- validate_all by its answer (specs/Answers.antt), and each state beside what hingemoss_validate says of that route alone. By what is found, and by the laws of rtr_origin. Assumes nothing.
+use Rattle.std.specs.Prelude.{Option, Some, None}
 use Prim.Native.Nat.{ℕ, ◌+◌, ◌*◌, ◌%◌, ◌≤◌, ◌<◌}
 use mathlib.Core.Bool.{Bool, true, false, cond, true≢false}
 use mathlib.Core.List.{List, [], ◌++◌}
@@ -15,12 +16,10 @@ use Rattle.rtr_receiver.specs.Promises.{is_receiver}
 use Rattle.rtr_receiver.specs.declared.Session.{Session}
 use Rattle.rtr_receiver.proofs.Shape.{shape-exactly}
 use Rattle.rtr_numbers.specs.Back.{session_of}
-use Rattle.rtr_numbers.specs.declared.SessionFound.{SessionFound}
 use Rattle.rtr_encode.specs.Encode.{Encoded}
 use Rattle.rtr_origin.specs.Numbers.{route_of}
 use Rattle.rtr_origin.specs.Promises.{RouteSays, validate_says}
 use Rattle.rtr_origin.specs.Peer.{says_number, place_of, states_of, route_count}
-use Rattle.rtr_origin.specs.declared.RouteFound.{RouteFound}
 use Rattle.rtr_origin.proofs.Lists.{six_at, states-length}
 use Rattle.rtr_origin.proofs.PeerLaws.{state-at, list-joins}
 use Rattle.rtr_origin.proofs.PeerAnswers.{PeerCase, peer-cases}
@@ -30,25 +29,26 @@ use Rattle.rtr_c.specs.contracts.hingemoss_validate_all.{signature as all-signat
 use Rattle.rtr_c.proofs.hingemoss_validate_all.Reads as all-reads
 use Rattle.rtr_c.specs.contracts.hingemoss_validate.{signature as question-signature}
 use Rattle.rtr_c.proofs.hingemoss_validate.Reads as question-reads
+use Rattle.rtr_origin.specs.declared.Route.{Route}
 
 -- one route's answer as a byte: the state, or the refusal
 abbrev pub byte_of : ValidateLeft → ℕ
 byte_of left = cond (eqb left.answer 0) left.state left.answer
 
 -- the states of a list by what was found in the session's numbers
-abbrev states_by : SessionFound → List ℕ → List ℕ → List ℕ → List ℕ → List ℕ
-states_by (SessionFound.Known s) live working hold routes = states_of (validate_says s.life.limit s live working hold) routes
-states_by SessionFound.Unknown live working hold routes = []
+abbrev states_by : Option Session → List ℕ → List ℕ → List ℕ → List ℕ → List ℕ
+states_by (Some s) live working hold routes = states_of (validate_says s.life.limit s live working hold) routes
+states_by None live working hold routes = []
 
-joined_by : (f : SessionFound) (live working hold a b : List ℕ) → length a % 6 ≡ 0 → states_by f live working hold (a ++ b) ≡ states_by f live working hold a ++ states_by f live working hold b
-joined_by (SessionFound.Known s) live working hold a b e = list-joins (validate_says s.life.limit s live working hold) a b e
-joined_by SessionFound.Unknown live working hold a b e = refl
+joined_by : (f : Option Session) (live working hold a b : List ℕ) → length a % 6 ≡ 0 → states_by f live working hold (a ++ b) ≡ states_by f live working hold a ++ states_by f live working hold b
+joined_by (Some s) live working hold a b e = list-joins (validate_says s.life.limit s live working hold) a b e
+joined_by None live working hold a b e = refl
 
 module _ (session live working hold routes states : List ℕ) where
   abbrev Answers : EncodeLeft → Type 0
   Answers = ValidateAllAnswers session live working hold routes states
 
-  askable : (s : Session) → session_of session ≡ SessionFound.Known s → is_receiver s.life.limit s live working hold ≡ true → length routes % 6 ≡ 0 → AskableAll session live working hold routes s
+  askable : (s : Session) → session_of session ≡ Some s → is_receiver s.life.limit s live working hold ≡ true → length routes % 6 ≡ 0 → AskableAll session live working hold routes s
   askable s k e six = record { known = k; sixes = six; no-reason = λ reason. true≢false (sym e ∙ (shape-exactly s.life.limit s live working hold).1 reason) }
 
   -- the call is one of these, whatever it is lent
@@ -56,16 +56,16 @@ module _ (session live working hold routes states : List ℕ) where
   unfolding validate_all_c
   validate-all-answers = by-found (session_of session) refl
     where
-      by-case : (s : Session) → session_of session ≡ SessionFound.Known s → {left : Encoded} → PeerCase s.life.limit s live working hold routes states left → Answers (encode_left left)
+      by-case : (s : Session) → session_of session ≡ Some s → {left : Encoded} → PeerCase s.life.limit s live working hold routes states left → Answers (encode_left left)
       by-case s k (PeerCase.shapeless e) = ValidateAllAnswers.shapeless s k ((shape-exactly s.life.limit s live working hold).0 e)
       by-case s k (PeerCase.not_sixes e h) = ValidateAllAnswers.not_sixes s k h
       by-case s k (PeerCase.untabled e six t) = ValidateAllAnswers.untabled s (askable s k e six) t
       by-case s k (PeerCase.short e six t l) = ValidateAllAnswers.short s (askable s k e six) t l
       by-case s k (PeerCase.answered a) = ValidateAllAnswers.answered s (askable s k a.shape a.sixes) a.table a.fits
 
-      by-found : (x : SessionFound) → session_of session ≡ x → Answers (validate_all_found x live working hold routes states)
-      by-found (SessionFound.Known s) k = by-case s k (peer-cases s.life.limit s live working hold routes states)
-      by-found SessionFound.Unknown k = ValidateAllAnswers.unknown k
+      by-found : (x : Option Session) → session_of session ≡ x → Answers (validate_all_found x live working hold routes states)
+      by-found (Some s) k = by-case s k (peer-cases s.life.limit s live working hold routes states)
+      by-found None k = ValidateAllAnswers.unknown k
 
   -- a call that does not answer 0 leaves every state that stood there
   pub refused-keeps-validate-all : ((validate_all_c session live working hold routes states).answer ≡ 0 → ⊥) → (validate_all_c session live working hold routes states).out ≡ states
@@ -83,12 +83,12 @@ module _ (session live working hold routes states : List ℕ) where
   pub shaped-validate-all : (s : Session) → AskableAll session live working hold routes s → (validate_all_c session live working hold routes states).answer ≡ 22 → ⊥
   shaped-validate-all s a = go validate-all-answers
     where
-      differ : SessionFound.Unknown ≡ SessionFound.Known s → ⊥
+      differ : None ≡ Some s → ⊥
       differ e = let z : ◌≡◌ {A = ℕ} 0 1 = cc in omega arith
 
       go : {left : EncodeLeft} → Answers left → left.answer ≡ 22 → ⊥
       go (ValidateAllAnswers.unknown u) e = differ (sym u ∙ a.known)
-      go (ValidateAllAnswers.shapeless o k reason) e = let z : SessionFound.Known o ≡ SessionFound.Known s = sym k ∙ a.known in let same : o ≡ s = cc in a.no-reason (rw same at reason)
+      go (ValidateAllAnswers.shapeless o k reason) e = let z : Some o ≡ Some s = sym k ∙ a.known in let same : o ≡ s = cc in a.no-reason (rw same at reason)
       go (ValidateAllAnswers.not_sixes o k h) e = h a.sixes
       go (ValidateAllAnswers.untabled o k t) e = omega (arith, e)
       go (ValidateAllAnswers.short o k t l) e = omega (arith, e)
@@ -114,10 +114,10 @@ module _ (session live working hold routes states : List ℕ) where
       shape s a true e = e
       shape s a false e = absurd (a.no-reason ((shape-exactly s.life.limit s live working hold).0 e))
 
-      one : (s : Session) → is_receiver s.life.limit s live working hold ≡ true → has_table s.table ≡ true → (f : RouteFound) →
-          place_of (validate_says s.life.limit s live working hold) f ≡ byte_of (validate_found (SessionFound.Known s) f live working hold)
-      one s e t (RouteFound.Known q) = said (validate_says s.life.limit s live working hold q)
-      one s e t RouteFound.Unknown = rw (e, t)
+      one : (s : Session) → is_receiver s.life.limit s live working hold ≡ true → has_table s.table ≡ true → (f : Option Route) →
+          place_of (validate_says s.life.limit s live working hold) f ≡ byte_of (validate_found (Some s) f live working hold)
+      one s e t (Some q) = said (validate_says s.life.limit s live working hold q)
+      one s e t None = rw (e, t)
 
       six-long : (i : ℕ) → 6 * i + 6 ≤ length routes → length (six_at routes i) ≡ 6
       six-long i h = simp (length-take, length-drop) (omega arith)
@@ -156,7 +156,7 @@ module _ (session live working hold routes states : List ℕ) where
           let ask = validate_says s.life.limit s live working hold in (
             a.sixes,
             take_at (states_of ask routes) (drop (route_count routes) states) (route_count routes) (states-length ask (route_count routes) routes)
-                ∙ sym (ap (λ (f : SessionFound). states_by f live working hold routes) a.known),
+                ∙ sym (ap (λ (f : Option Session). states_by f live working hold routes) a.known),
           )
 
 -- ---- The calls

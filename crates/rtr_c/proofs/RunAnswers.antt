@@ -1,5 +1,6 @@
 -- `hingemoss_read_listing` and the runs by their answer (specs/Answers.antt), of the definition and of the call. Both kinds of run go one way: what is lent
 -- is tables' or nobody's, and then the run is put or 22 is said. Assumes nothing.
+use Rattle.std.specs.Prelude.{Option, Some, None}
 use Prim.Native.Nat.{ℕ, ◌*◌}
 use mathlib.Core.Bool.{Bool, true, false, cond, true≢false}
 use mathlib.Core.List.{List, []}
@@ -10,7 +11,6 @@ use lib.Dec.{eqb, leb}
 use lib.ListN.{length}
 use Rattle.rtr_models.specs.Codes.{version_found}
 use Rattle.rtr_models.specs.declared.RtrProtocolVersion.{RtrProtocolVersion}
-use Rattle.rtr_models.specs.declared.VersionFound.{VersionFound}
 use Rattle.rtr_encode.specs.Encode.{Encoded}
 use Rattle.rtr_room.specs.Room.{records}
 use Rattle.rtr_room.specs.declared.Record.{Record}
@@ -19,7 +19,6 @@ use Rattle.rtr_receiver.specs.Promises.{record_limit}
 use Rattle.rtr_receiver.specs.declared.LoadKind.{LoadKind}
 use Rattle.rtr_receiver.specs.declared.Table.{Table}
 use Rattle.rtr_numbers.specs.Back.{table_found}
-use Rattle.rtr_numbers.specs.declared.TableFound.{TableFound}
 use Rattle.rtr_listing.specs.Promises.{puts}
 use Rattle.rtr_listing.proofs.Laws.{written_is, short-is}
 use Rattle.rtr_listed.specs.Listed.{Read, read_listing}
@@ -116,10 +115,10 @@ module _ (kind : LoadKind) (Lent : List Record → List Record → Type 0) (run 
     run-answers : RunPut ⊎ RunRefused → Runs (run_found run (version_found version) (table_found end) out)
     run-answers lent = by-found (version_found version) refl (table_found end) refl
       where
-        by-found : (x : VersionFound) → version_found version ≡ x → (y : TableFound) → table_found end ≡ y → Runs (run_found run x y out)
-        by-found (VersionFound.Known v) p (TableFound.Known t) q = by-lent v t (record { spoken-is = p; numbers-are = q }) lent
-        by-found (VersionFound.Known v) p TableFound.Unknown q = RunAnswers.unnumbered q
-        by-found VersionFound.Unknown p y q = RunAnswers.unversioned p
+        by-found : (x : Option RtrProtocolVersion) → version_found version ≡ x → (y : Option Table) → table_found end ≡ y → Runs (run_found run x y out)
+        by-found (Some v) p (Some t) q = by-lent v t (record { spoken-is = p; numbers-are = q }) lent
+        by-found (Some v) p None q = RunAnswers.unnumbered q
+        by-found None p y q = RunAnswers.unversioned p
 
     -- a run that does not answer 0 leaves the output
     refused-keeps-output : {left : EncodeLeft} → Runs left → (left.answer ≡ 0 → ⊥) → left.out ≡ out

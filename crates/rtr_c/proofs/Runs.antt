@@ -1,6 +1,7 @@
 -- Demand 3 at the C boundary. A C host's run reads back as a run of the receiver with the same calls (`c-run-is-run`), so the receiver's laws hold of it: its numbers are
 -- always a session's in memory of receiver shape (`c-in-shape`), so none of its calls is answered by 22 (`c-never-22`), and numbers 6 to 11 and the live room hold the table that the updates make which finished in the history
 -- (`c-history`), wherever the bytes were cut (`c-cut-anywhere`); the finished updates grow by as many as a feed counts (`c-feed-counts`). Assumes nothing.
+use Rattle.std.specs.Prelude.{Some, Option, None}
 use Prim.Native.Nat.{ℕ}
 use mathlib.Core.Bool.{true}
 use mathlib.Core.List.{List, [], ◌∷◌, ◌++◌}
@@ -10,30 +11,28 @@ use native.Mathlib.Omega.{arith}
 use lib.ListN.{length, get_or}
 use Rattle.rtr_models.specs.Codes.{version_found}
 use Rattle.rtr_models.specs.declared.RtrProtocolVersion.{RtrProtocolVersion}
-use Rattle.rtr_models.specs.declared.VersionFound.{VersionFound}
 use Rattle.rtr_room.specs.Room.{records}
 use Rattle.rtr_receiver.specs.History.{Event, Update, Live, finished, table_of}
 use Rattle.rtr_receiver.specs.Promises.{FeedSays, is_receiver, record_limit, feed_says}
 use Rattle.rtr_receiver.specs.Runs.{Call, Memory, Run, history_of, live_in}
-use Rattle.rtr_receiver.specs.declared.LiveTable.{LiveTable}
 use Rattle.rtr_receiver.specs.declared.Session.{Session}
 use Rattle.rtr_receiver.proofs.Laws.{shape-kept, feed-counts, limit-for-life, next-step}
 use Rattle.rtr_receiver.proofs.Shaped as receiver
 use Rattle.rtr_receiver.proofs.Runs.{history, no_table_lem}
 use Rattle.rtr_numbers.specs.Numbers.{table_number}
 use Rattle.rtr_numbers.specs.Back.{session_of}
-use Rattle.rtr_numbers.specs.declared.SessionFound.{SessionFound}
 use Rattle.rtr_numbers.proofs.Laws.{numbers-of-session, session-table}
 use Rattle.rtr_c.proofs.Laws.{shaped-full-ask, shaped-change-ask, shaped-feed, shaped-reconnect, shaped-notify, shaped-listing}
 use Rattle.rtr_c.specs.Calls.{full_ask_c, change_ask_c, feed_left, feed_found, feed_c, reconnect_c, notify_c, listing_c}
 use Rattle.rtr_c.specs.Runs.{CMemory, memory_of, LeadsOn, CStep, CRun, Holds}
+use Rattle.rtr_receiver.specs.declared.Table.{Table}
 
 -- the session that the numbers are, and the receiver's run to it
 pub record ReadsBack (version H : ℕ) (calls : List Call) (c : CMemory) : Type 0 where
   pub spoken : RtrProtocolVersion
-  pub spoken-is : version_found version ≡ VersionFound.Known spoken
+  pub spoken-is : version_found version ≡ Some spoken
   pub known : Session
-  pub known_is : session_of c.session ≡ SessionFound.Known known
+  pub known_is : session_of c.session ≡ Some known
   pub run : Run record_limit spoken H calls (memory_of c known)
 
 step-leads : (c : CMemory) (call : Call) (c' : CMemory) → CStep c call c' → LeadsOn c call c'
@@ -64,7 +63,7 @@ c-run-is-run {version} {H} (CRun.next {calls} {call} {c} {c'} before step) =
     }
 
 -- so the numbers are a session's, in memory of receiver shape: a call on them is not refused for what was lent
-pub c-in-shape : {version H : ℕ} {calls : List Call} {c : CMemory} → CRun version H calls c → (s : Session) × (session_of c.session ≡ SessionFound.Known s) × (is_receiver s.life.limit s c.live c.working c.hold ≡ true)
+pub c-in-shape : {version H : ℕ} {calls : List Call} {c : CMemory} → CRun version H calls c → (s : Session) × (session_of c.session ≡ Some s) × (is_receiver s.life.limit s c.live c.working c.hold ≡ true)
 c-in-shape {version} {H} {calls} {c} r =
     let b = c-run-is-run r in (
       b.known,
@@ -92,7 +91,7 @@ c-never-22 {version} {H} {calls} {c} r =
     )
 
 -- what a session's numbers and its live room hold
-table-held : (c : CMemory) (s : Session) → session_of c.session ≡ SessionFound.Known s → Holds c (live_in (memory_of c s))
+table-held : (c : CMemory) (s : Session) → session_of c.session ≡ Some s → Holds c (live_in (memory_of c s))
 table-held c s e =
     let n = numbers-of-session c.session s e in
     let t = session-table s in
@@ -108,7 +107,7 @@ table-held c s e =
 
 -- In every C run, stopped after any byte: number 6, the session, serial and intervals in numbers 7 to 11, and the live room's records, are those of the table that the updates
 -- make which finished in the history. `finished` and `table_of` are the page to read first: rtr_receiver, specs/History.antt.
-pub c-history : {version H : ℕ} {calls : List Call} {c : CMemory} (v : RtrProtocolVersion) → version_found version ≡ VersionFound.Known v → CRun version H calls c → Holds c (table_of record_limit (finished record_limit H v (history_of calls)))
+pub c-history : {version H : ℕ} {calls : List Call} {c : CMemory} (v : RtrProtocolVersion) → version_found version ≡ Some v → CRun version H calls c → Holds c (table_of record_limit (finished record_limit H v (history_of calls)))
 c-history {version} {H} {calls} {c} v e r =
     let b = c-run-is-run r in
     let same : b.spoken ≡ v = cc (b.spoken-is, e) in
@@ -118,7 +117,7 @@ c-history {version} {H} {calls} {c} v e r =
     (table-held c b.known b.known_is)
 
 -- What *updates counts of a piece fed next: by so many do the updates that have finished in the history grow, at their end.
-pub c-feed-counts : {version H : ℕ} {calls : List Call} {c : CMemory} (v : RtrProtocolVersion) → version_found version ≡ VersionFound.Known v → CRun version H calls c → (piece : List ℕ) →
+pub c-feed-counts : {version H : ℕ} {calls : List Call} {c : CMemory} (v : RtrProtocolVersion) → version_found version ≡ Some v → CRun version H calls c → (piece : List ℕ) →
     (us : List Update)
     × (finished record_limit H v (history_of (calls ++ Call.feed piece ∷ [])) ≡ finished record_limit H v (history_of calls) ++ us)
     × (length us ≡ (feed_c c.session c.live c.working c.hold piece).updates)
@@ -134,7 +133,7 @@ c-feed-counts {version} {H} {calls} {c} v e r piece =
       law.0,
       law.1,
       law.2
-          ∙ sym (ap (λ (x : SessionFound). (feed_found x c.session c.live c.working c.hold piece).updates) b.known_is
+          ∙ sym (ap (λ (x : Option Session). (feed_found x c.session c.live c.working c.hold piece).updates) b.known_is
           ∙ ap (λ (n : ℕ). (feed_left (feed_says n s c.live c.working c.hold piece)).updates) (limit-for-life record_limit H v calls m run)
           ∙ ap (λ (x : FeedSays). (feed_left x).updates) said),
     )
@@ -149,7 +148,7 @@ c-cut-anywhere {version} {H} {calls} {calls'} {c} {c'} r r' e =
     )
 
 -- number 6 is 0 exactly where no update has finished
-pub c-no-table : {version H : ℕ} {calls : List Call} {c : CMemory} (v : RtrProtocolVersion) → version_found version ≡ VersionFound.Known v → CRun version H calls c → (get_or c.session 6 0 ≡ 0) ↔ (finished record_limit H v (history_of calls) ≡ [])
+pub c-no-table : {version H : ℕ} {calls : List Call} {c : CMemory} (v : RtrProtocolVersion) → version_found version ≡ Some v → CRun version H calls c → (get_or c.session 6 0 ≡ 0) ↔ (finished record_limit H v (history_of calls) ≡ [])
 c-no-table {version} {H} {calls} {c} v e r =
     let b = c-run-is-run r in
     let s : Session = b.known in
@@ -159,6 +158,6 @@ c-no-table {version} {H} {calls} {c} v e r =
     let law = no_table_lem record_limit H b.spoken calls (memory_of c s) b.run in
     (λ q. sym one ∙ law.0 (none s.table (sym six ∙ q)), λ q. six ∙ ap table_number (law.1 (one ∙ q)))
   where
-    none : (t : LiveTable) → table_number t ≡ 0 → t ≡ LiveTable.NoTable
-    none LiveTable.NoTable q = refl
-    none (LiveTable.Known t) q = absurd (omega arith)
+    none : (t : Option Table) → table_number t ≡ 0 → t ≡ None
+    none None q = refl
+    none (Some t) q = absurd (omega arith)

@@ -1,5 +1,6 @@
 -- What `hingemoss_full_run` and `hingemoss_change_run` write serves a receiver: where the answer is 0, the bytes written are a run that can be served (rtr_cache's `Wrote`), by what the calls
 -- tested and hold. And a listing that was read back can be served: its head has the five numbers that a run is lent, and its room is a table's (`listing-can-be-served`). Assumes nothing.
+use Rattle.std.specs.Prelude.{Some, Option}
 use Prim.Native.Nat.{ℕ, ◌≤◌}
 use mathlib.Core.Bool.{true}
 use mathlib.Core.List.{List}
@@ -16,14 +17,12 @@ use Rattle.rtr_receiver.specs.Promises.{record_limit}
 use Rattle.rtr_receiver.specs.declared.LoadKind.{LoadKind}
 use Rattle.rtr_receiver.specs.declared.Table.{Table}
 use Rattle.rtr_receiver.specs.Fits.{TableNumbersFit}
-use Rattle.rtr_receiver.specs.declared.LiveTable.{LiveTable}
 use Rattle.rtr_room.specs.Room.{room}
 use Rattle.rtr_listed.specs.Fits.{InfoFits}
 use Rattle.rtr_listed.specs.Listed.{Listed, Read, read_listing}
 use Rattle.rtr_listed.specs.Promises.{listed_head}
 use Rattle.rtr_listed.proofs.Laws.{reads-exactly}
 use Rattle.rtr_numbers.specs.Back.{table_found}
-use Rattle.rtr_numbers.specs.declared.TableFound.{TableFound}
 use Rattle.rtr_numbers.proofs.Laws.{table-exactly}
 use Rattle.rtr_cache.specs.Cache.{run_bytes}
 use Rattle.rtr_cache.specs.Serves.{RoomFits, Servable}
@@ -94,11 +93,11 @@ change-run-call-serves κs a s p =
 
 -- ---- a listing that was read back: neither its numbers nor its room is a reason for 22
 
-pub listing-can-be-served : (text : List ℕ) (v : Listed) (t : Table) → read_listing record_limit text ≡ Read.listed v → v.table ≡ LiveTable.Known t
-    → (table_found (take 5 (drop 2 (head_numbers (listed_head v)))) ≡ TableFound.Known t) × Lends (room record_limit v.records) (length v.records) v.records
+pub listing-can-be-served : (text : List ℕ) (v : Listed) (t : Table) → read_listing record_limit text ≡ Read.listed v → v.table ≡ Some t
+    → (table_found (take 5 (drop 2 (head_numbers (listed_head v)))) ≡ Some t) × Lends (room record_limit v.records) (length v.records) v.records
 listing-can-be-served text v t e known =
     let fits = ((reads-exactly record_limit text v).0 e).1 in
-    let numbers : TableNumbersFit t = subst (λ (x : LiveTable). InfoFits x v.records) known fits.info in (
-      ap (λ (x : LiveTable). table_found (take 5 (drop 2 (head_numbers (record { stopped = v.stopped; table = x; count = length v.records }))))) known ∙ (table-exactly _ t).1 (numbers, refl),
+    let numbers : TableNumbersFit t = subst (λ (x : Option Table). InfoFits x v.records) known fits.info in (
+      ap (λ (x : Option Table). table_found (take 5 (drop 2 (head_numbers (record { stopped = v.stopped; table = x; count = length v.records }))))) known ∙ (table-exactly _ t).1 (numbers, refl),
       record { within = fits.within; table = fits.table; counted = refl; lent = refl },
     )

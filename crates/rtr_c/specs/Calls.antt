@@ -1,9 +1,8 @@
 -- What each call from C answers and leaves, through the crates below: a session is its 24 numbers (rtr_numbers) and a PDU its 12 (rtr_pdu_numbers), rooms are
 -- of the limit that the session holds. Numbers that are no session's and no PDU's are refused by 22. A route is its six (rtr_origin).
-use Rattle.std.specs.Prelude.{ℕ, Bool, true, false, cond, List, [], ◌∷◌, ◌++◌, eqb, length, get_or, take}
+use Rattle.std.specs.Prelude.{ℕ, Bool, true, false, cond, List, [], ◌∷◌, ◌++◌, eqb, length, get_or, take, Option, Some, None}
 use Rattle.rtr_models.specs.Codes.{type_number, version_found}
 use Rattle.rtr_models.specs.declared.RtrProtocolVersion.{RtrProtocolVersion}
-use Rattle.rtr_models.specs.declared.VersionFound.{VersionFound}
 use Rattle.rtr_codec.specs.Reading.{in_use}
 use Rattle.rtr_codec.specs.Read.{Verdict, read}
 use Rattle.rtr_encode.specs.Encode.{Writing, Encoded, encode}
@@ -23,19 +22,17 @@ use Rattle.rtr_numbers.specs.Numbers.{table_number, table_or, table_numbers_of, 
 use Rattle.rtr_pdu_numbers.specs.Numbers.{pdu_numbers}
 use Rattle.rtr_numbers.specs.Back.{session_of, table_found}
 use Rattle.rtr_pdu_numbers.specs.Back.{pdu_of}
-use Rattle.rtr_numbers.specs.declared.SessionFound.{SessionFound}
-use Rattle.rtr_numbers.specs.declared.TableFound.{TableFound}
-use Rattle.rtr_pdu_numbers.specs.declared.PduFound.{PduFound}
 use Rattle.rtr_origin.specs.Origin.{state_number}
 use Rattle.rtr_origin.specs.Promises.{RouteSays, validate_says}
 use Rattle.rtr_origin.specs.Numbers.{route_of}
 use Rattle.rtr_origin.specs.Peer.{peer_leaves}
-use Rattle.rtr_origin.specs.declared.RouteFound.{RouteFound}
+use Rattle.rtr_models.specs.declared.RtrPdu.{RtrPdu}
+use Rattle.rtr_origin.specs.declared.Route.{Route}
 
 -- ---- whether numbers are a session's; those that are none are refused by 22 in every call but start, which writes them
-abbrev pub is_known : SessionFound → Bool
-is_known (SessionFound.Known s) = true
-is_known SessionFound.Unknown = false
+abbrev pub is_known : Option Session → Bool
+is_known (Some s) = true
+is_known None = false
 
 -- numbers that some session has
 unfoldable pub is_session : List ℕ → Bool
@@ -79,9 +76,9 @@ abbrev pub encode_left : Encoded → EncodeLeft
 encode_left e = encode_gives (number_of e.says) (amount_of e.says) e.out
 
 -- a PDU that was found is encoded
-abbrev pub encode_found : PduFound → List ℕ → List ℕ → EncodeLeft
-encode_found (PduFound.Known pdu consumed) payload out = encode_left (encode in_use pdu payload out)
-encode_found PduFound.Unknown payload out = encode_gives 22 0 out
+abbrev pub encode_found : Option (RtrPdu × ℕ) → List ℕ → List ℕ → EncodeLeft
+encode_found (Some (pdu, consumed)) payload out = encode_left (encode in_use pdu payload out)
+encode_found None payload out = encode_gives 22 0 out
 
 -- the promise of `hingemoss_encode`
 unfoldable pub encode_c : List ℕ → List ℕ → List ℕ → EncodeLeft
@@ -138,9 +135,9 @@ start_left (StartSays.started left) session = start_gives 0 (left_numbers left) 
 start_left (StartSays.refused_start number live working) session = start_gives number session live working
 
 -- a version that was found is started
-abbrev pub start_found : VersionFound → List ℕ → List ℕ → List ℕ → List ℕ → StartLeft
-start_found (VersionFound.Known version) session live working hold = start_left (start_says record_limit version live working hold) session
-start_found VersionFound.Unknown session live working hold = start_gives 22 session live working
+abbrev pub start_found : Option RtrProtocolVersion → List ℕ → List ℕ → List ℕ → List ℕ → StartLeft
+start_found (Some version) session live working hold = start_left (start_says record_limit version live working hold) session
+start_found None session live working hold = start_gives 22 session live working
 
 -- the promise of `hingemoss_start`
 unfoldable pub start_c : ℕ → List ℕ → List ℕ → List ℕ → List ℕ → StartLeft
@@ -162,9 +159,9 @@ abbrev pub ask_left : AskSays → AskLeft
 ask_left a = ask_gives (number_of a.says) (left_numbers a.left) a.out
 
 -- a session that was found asks
-abbrev pub ask_found : (Session → AskSays) → SessionFound → List ℕ → List ℕ → AskLeft
-ask_found ask (SessionFound.Known s) session out = ask_left (ask s)
-ask_found ask SessionFound.Unknown session out = ask_gives 22 session out
+abbrev pub ask_found : (Session → AskSays) → Option Session → List ℕ → List ℕ → AskLeft
+ask_found ask (Some s) session out = ask_left (ask s)
+ask_found ask None session out = ask_gives 22 session out
 
 -- the promise of `hingemoss_full_ask`
 unfoldable pub full_ask_c : List ℕ → List ℕ → List ℕ → List ℕ → List ℕ → AskLeft
@@ -230,9 +227,9 @@ feed_left (FeedSays.refused_feed number taken updates left hold) =
     }
 
 -- a session that was found is fed
-abbrev pub feed_found : SessionFound → List ℕ → List ℕ → List ℕ → List ℕ → List ℕ → FeedLeft
-feed_found (SessionFound.Known s) session live working hold piece = feed_left (feed_says s.life.limit s live working hold piece)
-feed_found SessionFound.Unknown session live working hold piece = feed_gives 22 session live working hold 0 0
+abbrev pub feed_found : Option Session → List ℕ → List ℕ → List ℕ → List ℕ → List ℕ → FeedLeft
+feed_found (Some s) session live working hold piece = feed_left (feed_says s.life.limit s live working hold piece)
+feed_found None session live working hold piece = feed_gives 22 session live working hold 0 0
 
 -- the promise of `hingemoss_feed`
 unfoldable pub feed_c : List ℕ → List ℕ → List ℕ → List ℕ → List ℕ → FeedLeft
@@ -253,9 +250,9 @@ abbrev pub reconnect_left : ReconnectSays → ReconnectLeft
 reconnect_left r = reconnect_gives r.number (left_numbers r.left) r.left.working
 
 -- a session that was found is reconnected
-abbrev pub reconnect_found : SessionFound → List ℕ → List ℕ → List ℕ → List ℕ → ReconnectLeft
-reconnect_found (SessionFound.Known s) session live working hold = reconnect_left (reconnect_says s.life.limit s live working hold)
-reconnect_found SessionFound.Unknown session live working hold = reconnect_gives 22 session working
+abbrev pub reconnect_found : Option Session → List ℕ → List ℕ → List ℕ → List ℕ → ReconnectLeft
+reconnect_found (Some s) session live working hold = reconnect_left (reconnect_says s.life.limit s live working hold)
+reconnect_found None session live working hold = reconnect_gives 22 session working
 
 -- the promise of `hingemoss_reconnect`
 unfoldable pub reconnect_c : List ℕ → List ℕ → List ℕ → List ℕ → ReconnectLeft
@@ -285,18 +282,18 @@ notify_left (NotifySays.compares n) = notify_gives 0 (compared_number n)
 notify_left (NotifySays.refused_notify number) = notify_gives number 0
 
 -- a session that was found is compared
-abbrev pub notify_found : SessionFound → List ℕ → List ℕ → List ℕ → NotifyLeft
-notify_found (SessionFound.Known s) live working hold = notify_left (notify_says s.life.limit s live working hold)
-notify_found SessionFound.Unknown live working hold = notify_gives 22 0
+abbrev pub notify_found : Option Session → List ℕ → List ℕ → List ℕ → NotifyLeft
+notify_found (Some s) live working hold = notify_left (notify_says s.life.limit s live working hold)
+notify_found None live working hold = notify_gives 22 0
 
 -- the promise of `hingemoss_notify`
 unfoldable pub notify_c : List ℕ → List ℕ → List ℕ → List ℕ → NotifyLeft
 notify_c session live working hold = notify_found (session_of session) live working hold
 
 -- ---- listing: 0, 22 or 9; the bytes written, or needed (9), or 0; and the output
-abbrev pub listing_found : SessionFound → List ℕ → List ℕ → EncodeLeft
-listing_found (SessionFound.Known s) live out = encode_left (listing_says s.life.limit s live out)
-listing_found SessionFound.Unknown live out = encode_gives 22 0 out
+abbrev pub listing_found : Option Session → List ℕ → List ℕ → EncodeLeft
+listing_found (Some s) live out = encode_left (listing_says s.life.limit s live out)
+listing_found None live out = encode_gives 22 0 out
 
 -- the promise of `hingemoss_listing`
 unfoldable pub listing_c : List ℕ → List ℕ → List ℕ → EncodeLeft
@@ -367,13 +364,13 @@ validate_left (RouteSays.state s) = validate_gives 0 (state_number s)
 validate_left (RouteSays.refused number) = validate_gives number 0
 
 -- a session that was found is asked of a route; where six numbers are no route's, 23 comes behind 22 and 21 as for one that is too long
-abbrev pub validate_found : SessionFound → RouteFound → List ℕ → List ℕ → List ℕ → ValidateLeft
-validate_found (SessionFound.Known s) (RouteFound.Known q) live working hold = validate_left (validate_says s.life.limit s live working hold q)
-validate_found (SessionFound.Known s) RouteFound.Unknown live working hold =
+abbrev pub validate_found : Option Session → Option Route → List ℕ → List ℕ → List ℕ → ValidateLeft
+validate_found (Some s) (Some q) live working hold = validate_left (validate_says s.life.limit s live working hold q)
+validate_found (Some s) None live working hold =
     cond (is_receiver s.life.limit s live working hold)
     (cond (has_table s.table) (validate_gives 23 0) (validate_gives 21 0))
     (validate_gives 22 0)
-validate_found SessionFound.Unknown route live working hold = validate_gives 22 0
+validate_found None route live working hold = validate_gives 22 0
 
 -- the promise of `hingemoss_validate`
 unfoldable pub validate_c : List ℕ → List ℕ → List ℕ → List ℕ → List ℕ → ValidateLeft
@@ -381,9 +378,9 @@ validate_c session live working hold route =
     cond (eqb (length route) 6) (validate_found (session_of session) (route_of route) live working hold) (validate_gives 22 0)
 
 -- ---- validate_all: 0, 22, 21 or 9; how many routes there were, or how many states are needed (9), or 0; and the list of states
-abbrev pub validate_all_found : SessionFound → List ℕ → List ℕ → List ℕ → List ℕ → List ℕ → EncodeLeft
-validate_all_found (SessionFound.Known s) live working hold routes states = encode_left (peer_leaves s.life.limit s live working hold routes states)
-validate_all_found SessionFound.Unknown live working hold routes states = encode_gives 22 0 states
+abbrev pub validate_all_found : Option Session → List ℕ → List ℕ → List ℕ → List ℕ → List ℕ → EncodeLeft
+validate_all_found (Some s) live working hold routes states = encode_left (peer_leaves s.life.limit s live working hold routes states)
+validate_all_found None live working hold routes states = encode_gives 22 0 states
 
 -- the promise of `hingemoss_validate_all`
 unfoldable pub validate_all_c : List ℕ → List ℕ → List ℕ → List ℕ → List ℕ → List ℕ → EncodeLeft
@@ -392,10 +389,10 @@ validate_all_c session live working hold routes states = validate_all_found (ses
 -- ---- the runs: 0, 22 (also where the version or the five numbers are none's) or 9; the bytes written, or needed (9), or 0; and the output
 
 -- a run of a version and a table's numbers that were found
-abbrev pub run_found : (RtrProtocolVersion → Table → Encoded) → VersionFound → TableFound → List ℕ → EncodeLeft
-run_found run (VersionFound.Known version) (TableFound.Known end) out = encode_left (run version end)
-run_found run (VersionFound.Known version) TableFound.Unknown out = encode_gives 22 0 out
-run_found run VersionFound.Unknown end out = encode_gives 22 0 out
+abbrev pub run_found : (RtrProtocolVersion → Table → Encoded) → Option RtrProtocolVersion → Option Table → List ℕ → EncodeLeft
+run_found run (Some version) (Some end) out = encode_left (run version end)
+run_found run (Some version) None out = encode_gives 22 0 out
+run_found run None end out = encode_gives 22 0 out
 
 -- the promise of `hingemoss_full_run`
 unfoldable pub full_run_c : ℕ → List ℕ → List ℕ → ℕ → List ℕ → EncodeLeft

@@ -2,11 +2,10 @@
 -- library's calls are these steps. proofs/Runs.antt: such a run is a run of the receiver, so demand 3 holds of it. Between two calls the host writes nothing of the four memories, the hold's spare
 -- bytes included. Read, encode, walk, notify and listing may stand anywhere in between: they are lent the session, the rooms and the hold to read only, or not at all. A start that is refused leaves them
 -- (`refused-keeps-start`), and one that answers 0 begins a new run.
-use Rattle.std.specs.Prelude.{ℕ, List, [], ◌∷◌, ◌++◌, ◌≡◌, length, get_or}
+use Rattle.std.specs.Prelude.{ℕ, List, [], ◌∷◌, ◌++◌, ◌≡◌, length, get_or, Some}
 use Rattle.rtr_receiver.specs.Promises.{record_limit}
 use Rattle.rtr_models.specs.Codes.{version_found}
 use Rattle.rtr_models.specs.declared.RtrProtocolVersion.{RtrProtocolVersion}
-use Rattle.rtr_models.specs.declared.VersionFound.{VersionFound}
 use Rattle.rtr_receiver.specs.Contents.{contents}
 use Rattle.rtr_receiver.specs.History.{Live}
 use Rattle.rtr_receiver.specs.Runs.{Call, Memory, Step, Run}
@@ -14,7 +13,6 @@ use Rattle.rtr_receiver.specs.declared.LoadKind.{LoadKind}
 use Rattle.rtr_receiver.specs.declared.Session.{Session}
 use Rattle.rtr_numbers.specs.Numbers.{table_number, table_or}
 use Rattle.rtr_numbers.specs.Back.{session_of}
-use Rattle.rtr_numbers.specs.declared.SessionFound.{SessionFound}
 use Rattle.rtr_c.specs.Calls.{start_gives, start_c, ask_gives, full_ask_c, change_ask_c, feed_gives, feed_c, reconnect_gives, reconnect_c}
 
 -- what a host lends between two calls: the session's numbers, both rooms and the hold
@@ -37,19 +35,19 @@ memory_of c s = record { session = s; live = c.live; working = c.working; hold =
 -- session, and that the hold keeps its length; demand 3 goes by it alone.
 pub record Led (c : CMemory) (s : Session) (call : Call) (c' : CMemory) : Type 0 where
   pub known : Session
-  pub known_is : session_of c'.session ≡ SessionFound.Known known
+  pub known_is : session_of c'.session ≡ Some known
   pub step : Step s.life.limit (memory_of c s) call (memory_of c' known)
 
 -- wherever the numbers were a session's
 abbrev pub LeadsOn : CMemory → Call → CMemory → Type 0
-LeadsOn c call c' = (s : Session) → session_of c.session ≡ SessionFound.Known s → Led c s call c'
+LeadsOn c call c' = (s : Session) → session_of c.session ≡ Some s → Led c s call c'
 
 -- the version is one of the two, the numbers are a session's, and the receiver has begun in that version
 pub record Begins (version : ℕ) (c : CMemory) : Type 0 where
   pub spoken : RtrProtocolVersion
-  pub spoken-is : version_found version ≡ VersionFound.Known spoken
+  pub spoken-is : version_found version ≡ Some spoken
   pub known : Session
-  pub known_is : session_of c.session ≡ SessionFound.Known known
+  pub known_is : session_of c.session ≡ Some known
   pub run : Run record_limit spoken (length c.hold) [] (memory_of c known)
 
 -- ---- A run

@@ -21,39 +21,38 @@ ghost use Rattle.rtr_c.specs.Calls.{head_numbers, read_listing_gives, read_listi
 ghost use Rattle.rtr_c.specs.Private.{feed_number, notify_number, notify_compared, validate_number, validate_state, asked_route};
 ghost use Rattle.rtr_c.specs.Runs.{memory, LeadsOn, Begins};
 
-use rtr_cache::{RunAnswer, RunError};
-use rtr_codec::ReadAnswer;
-use rtr_encode::{EncodeAnswer, EncodeError};
-use rtr_listed::{ListedAnswer, ListedError};
-use rtr_listing::{Head, ListAnswer, ListError};
+use rtr_cache::{RunError};
+use Result<(RtrPdu, usize), RtrError>;
+use rtr_encode::{EncodeError};
+use rtr_listed::{ListedError};
+use rtr_listing::{Head, ListError};
 use rtr_models::*;
-use rtr_numbers::{SessionFound, TableFound};
-use rtr_origin::{PeerAnswer, PeerError, Route, RouteFound, RoutePrefix, ValidateAnswer};
-use rtr_pdu_numbers::PduFound;
-use rtr_receiver::{AskAnswer, AskError, FeedAnswer, NotifyAnswer, ReconnectAnswer, StartAnswer};
-use rtr_walk::{WalkAnswer, WalkEnd};
+use rtr_origin::{PeerError, Route, RoutePrefix};
+use Option<(RtrPdu, usize)>;
+use rtr_receiver::{AskError};
+use rtr_walk::{WalkEnd};
 
 // How many numbers a listing's head is.
 const HEAD_NUMBERS: usize = 8;
 
 // ---- Numbers of answers
 
-fn encode_number(answer: EncodeAnswer) -> u8
+fn encode_number(answer: Result<usize, EncodeError>) -> u8
     ensures { result ≡ number_of (writing answer) }
 {
     match answer {
-        EncodeAnswer::Written(_) => 0,
-        EncodeAnswer::Refused(error) => error.number(),
+        Ok(_) => 0,
+        Err(error) => error.number(),
     }
 }
 
 // The bytes written, or needed where the output is too short.
-fn encode_amount(answer: EncodeAnswer) -> u64
+fn encode_amount(answer: Result<usize, EncodeError>) -> u64
     ensures { result ≡ amount_of (writing answer) }
 {
     match answer {
-        EncodeAnswer::Written(n) => n as u64,
-        EncodeAnswer::Refused(error) => match error {
+        Ok(n) => n as u64,
+        Err(error) => match error {
             EncodeError::PlaceOutside => 0,
             EncodeError::InvalidUtf8 => 0,
             EncodeError::TooLong => 0,
@@ -62,42 +61,42 @@ fn encode_amount(answer: EncodeAnswer) -> u64
     }
 }
 
-fn list_number(answer: ListAnswer) -> u8
+fn list_number(answer: Result<usize, ListError>) -> u8
     ensures { result ≡ number_of (list_said answer) }
 {
     match answer {
-        ListAnswer::Written(_) => 0,
-        ListAnswer::Refused(error) => error.number(),
+        Ok(_) => 0,
+        Err(error) => error.number(),
     }
 }
 
-fn list_amount(answer: ListAnswer) -> u64
+fn list_amount(answer: Result<usize, ListError>) -> u64
     ensures { result ≡ amount_of (list_said answer) }
 {
     match answer {
-        ListAnswer::Written(n) => n as u64,
-        ListAnswer::Refused(error) => match error {
+        Ok(n) => n as u64,
+        Err(error) => match error {
             ListError::NotAReceiver => 0,
             ListError::OutputShort { needed } => needed as u64,
         },
     }
 }
 
-fn run_number(answer: RunAnswer) -> u8
+fn run_number(answer: Result<usize, RunError>) -> u8
     ensures { result ≡ number_of (run_writing answer) }
 {
     match answer {
-        RunAnswer::Written(_) => 0,
-        RunAnswer::Refused(error) => error.number(),
+        Ok(_) => 0,
+        Err(error) => error.number(),
     }
 }
 
-fn run_amount(answer: RunAnswer) -> u64
+fn run_amount(answer: Result<usize, RunError>) -> u64
     ensures { result ≡ amount_of (run_writing answer) }
 {
     match answer {
-        RunAnswer::Written(n) => n as u64,
-        RunAnswer::Refused(error) => match error {
+        Ok(n) => n as u64,
+        Err(error) => match error {
             RunError::NotARoom => 0,
             RunError::OutputShort { needed } => needed as u64,
         },
@@ -154,12 +153,12 @@ fn end_value(end: WalkEnd) -> u64
     }
 }
 
-fn ask_number(answer: AskAnswer) -> u8
+fn ask_number(answer: Result<usize, AskError>) -> u8
     ensures { result ≡ number_of (ask_writing answer) }
 {
     match answer {
-        AskAnswer::Written(_) => 0,
-        AskAnswer::Refused(error) => match error {
+        Ok(_) => 0,
+        Err(error) => match error {
             AskError::NotAReceiver => 22,
             AskError::WrongPhase => 20,
             AskError::NoTable => 21,
@@ -168,87 +167,87 @@ fn ask_number(answer: AskAnswer) -> u8
     }
 }
 
-fn feed_number(answer: FeedAnswer) -> u8
+fn feed_number(answer: Result<(), FeedError>) -> u8
     ensures { result ≡ feed_number answer }
 {
     match answer {
-        FeedAnswer::GoesOn => 0,
-        FeedAnswer::Stopped(stop) => stop.number(),
-        FeedAnswer::NotAReceiver => 22,
+        Ok(()) => 0,
+        Err(FeedError::Stopped(stop)) => stop.number(),
+        Err(FeedError::NotAReceiver) => 22,
     }
 }
 
-fn reconnect_number(answer: ReconnectAnswer) -> u8
+fn reconnect_number(answer: Result<(), NotAReceiver>) -> u8
     ensures { result ≡ reconnect_number answer }
 {
     match answer {
-        ReconnectAnswer::Connected => 0,
-        ReconnectAnswer::NotAReceiver => 22,
+        Ok(()) => 0,
+        Err(_) => 22,
     }
 }
 
-fn notify_number(answer: NotifyAnswer) -> u8
+fn notify_number(answer: Result<Comparison, NotAReceiver>) -> u8
     ensures { result ≡ notify_number answer }
 {
     match answer {
-        NotifyAnswer::None => 0,
-        NotifyAnswer::OtherSession => 0,
-        NotifyAnswer::Same => 0,
-        NotifyAnswer::Newer => 0,
-        NotifyAnswer::Older => 0,
-        NotifyAnswer::Undefined => 0,
-        NotifyAnswer::NotAReceiver => 22,
+        Ok(Comparison::None) => 0,
+        Ok(Comparison::OtherSession) => 0,
+        Ok(Comparison::Same) => 0,
+        Ok(Comparison::Newer) => 0,
+        Ok(Comparison::Older) => 0,
+        Ok(Comparison::Undefined) => 0,
+        Err(_) => 22,
     }
 }
 
-fn notify_compared(answer: NotifyAnswer) -> u64
+fn notify_compared(answer: Result<Comparison, NotAReceiver>) -> u64
     ensures { result ≡ notify_compared answer }
 {
     match answer {
-        NotifyAnswer::None => 0,
-        NotifyAnswer::OtherSession => 1,
-        NotifyAnswer::Same => 2,
-        NotifyAnswer::Newer => 3,
-        NotifyAnswer::Older => 4,
-        NotifyAnswer::Undefined => 5,
-        NotifyAnswer::NotAReceiver => 0,
+        Ok(Comparison::None) => 0,
+        Ok(Comparison::OtherSession) => 1,
+        Ok(Comparison::Same) => 2,
+        Ok(Comparison::Newer) => 3,
+        Ok(Comparison::Older) => 4,
+        Ok(Comparison::Undefined) => 5,
+        Err(_) => 0,
     }
 }
 
-fn validate_number(answer: ValidateAnswer) -> u8
+fn validate_number(answer: Result<RouteState, ValidateError>) -> u8
     ensures { result ≡ validate_number answer }
 {
     match answer {
-        ValidateAnswer::State(_) => 0,
-        ValidateAnswer::Refused(error) => error.number(),
+        Ok(_) => 0,
+        Err(error) => error.number(),
     }
 }
 
-fn validate_state(answer: ValidateAnswer) -> u64
+fn validate_state(answer: Result<RouteState, ValidateError>) -> u64
     ensures { result ≡ validate_state answer }
 {
     match answer {
-        ValidateAnswer::State(state) => state.number() as u64,
-        ValidateAnswer::Refused(_) => 0,
+        Ok(state) => state.number() as u64,
+        Err(_) => 0,
     }
 }
 
-fn peer_number(answer: PeerAnswer) -> u8
+fn peer_number(answer: Result<usize, PeerError>) -> u8
     ensures { result ≡ number_of (peer_said answer) }
 {
     match answer {
-        PeerAnswer::Answered(_) => 0,
-        PeerAnswer::Refused(error) => error.number(),
+        Ok(_) => 0,
+        Err(error) => error.number(),
     }
 }
 
 // The routes answered, or the states needed where the list of them is too short.
-fn peer_amount(answer: PeerAnswer) -> u64
+fn peer_amount(answer: Result<usize, PeerError>) -> u64
     ensures { result ≡ amount_of (peer_said answer) }
 {
     match answer {
-        PeerAnswer::Answered(n) => n as u64,
-        PeerAnswer::Refused(error) => match error {
+        Ok(n) => n as u64,
+        Err(error) => match error {
             PeerError::OutOfShape => 0,
             PeerError::NoTable => 0,
             PeerError::StatesShort { needed } => needed as u64,
@@ -257,12 +256,12 @@ fn peer_amount(answer: PeerAnswer) -> u64
 }
 
 // Where numbers are no route's, one that is too long stands for them: it is refused by 23 in its turn.
-fn asked_route(found: RouteFound) -> Route
+fn asked_route(found: Option<Route>) -> Route
     ensures { result ≡ asked_route found }
 {
     match found {
-        RouteFound::Known(q) => q,
-        RouteFound::Unknown => Route {
+        Some(q) => q,
+        None => Route {
             prefix: RoutePrefix::IPv4(0),
             length: 255,
             origin: 0,
@@ -282,11 +281,11 @@ pub extern "C" fn hingemoss_read(bytes: &[u8], pdu: &mut [u64]) -> u8
     }
     let answer = rtr_codec::parse_rtr_pdu(bytes);
     match answer {
-        ReadAnswer::Read(value, consumed) => {
+        Ok((value, consumed)) => {
             rtr_pdu_numbers::put_pdu(value, consumed, pdu);
             0
         }
-        ReadAnswer::Refused(error) => error.number(),
+        Err(error) => error.number(),
     }
 }
 
@@ -297,8 +296,8 @@ pub extern "C" fn hingemoss_read_value(bytes: &[u8], i: usize) -> u64
 {
     let answer = rtr_codec::parse_rtr_pdu(bytes);
     match answer {
-        ReadAnswer::Read(_, _) => 0,
-        ReadAnswer::Refused(error) => rtr_numbers::error_value(error, i),
+        Ok((_, _)) => 0,
+        Err(error) => rtr_numbers::error_value(error, i),
     }
 }
 
@@ -314,12 +313,12 @@ pub extern "C" fn hingemoss_encode(
 {
     let found = rtr_pdu_numbers::pdu_of(pdu);
     match found {
-        PduFound::Known(value, _) => {
+        Some((value, _)) => {
             let answer = rtr_encode::encode(value, payload, out);
             *written = encode_amount(answer);
             encode_number(answer)
         }
-        PduFound::Unknown => {
+        None => {
             *written = 0;
             22
         }
@@ -338,13 +337,13 @@ pub extern "C" fn hingemoss_walk(
 {
     let answer = rtr_walk::walk(bytes);
     match answer {
-        WalkAnswer::Walked(depth, last) => {
+        Ok((depth, last)) => {
             *level = depth as u64;
             *end = end_number(last);
             *value = end_value(last);
             0
         }
-        WalkAnswer::Refused(error) => {
+        Err(error) => {
             *level = 0;
             *end = 0;
             *value = 0;
@@ -374,17 +373,17 @@ pub extern "C" fn hingemoss_start(
     }
     let found = RtrProtocolVersion::from_u8(version);
     match found {
-        VersionFound::Known(v) => {
+        Some(v) => {
             let answer = rtr_receiver::start(v, live, working, hold);
             match answer {
-                StartAnswer::Started(s) => {
+                Ok(s) => {
                     rtr_numbers::put_session(s, session);
                     0
                 }
-                StartAnswer::NotAReceiver => 22,
+                Err(_) => 22,
             }
         }
-        VersionFound::Unknown => 22,
+        None => 22,
     }
 }
 
@@ -403,14 +402,14 @@ pub extern "C" fn hingemoss_full_ask(
 {
     let found = rtr_numbers::session_of(session);
     match found {
-        SessionFound::Known(s) => {
+        Some(s) => {
             let asked = rtr_receiver::full_ask(s, live, working, hold, out);
             let left = asked.session;
             let answer = asked.answer;
             rtr_numbers::put_session(left, session);
             ask_number(answer)
         }
-        SessionFound::Unknown => 22,
+        None => 22,
     }
 }
 
@@ -429,14 +428,14 @@ pub extern "C" fn hingemoss_change_ask(
 {
     let found = rtr_numbers::session_of(session);
     match found {
-        SessionFound::Known(s) => {
+        Some(s) => {
             let asked = rtr_receiver::change_ask(s, live, working, hold, out);
             let left = asked.session;
             let answer = asked.answer;
             rtr_numbers::put_session(left, session);
             ask_number(answer)
         }
-        SessionFound::Unknown => 22,
+        None => 22,
     }
 }
 
@@ -457,7 +456,7 @@ pub extern "C" fn hingemoss_feed(
 {
     let found = rtr_numbers::session_of(session);
     match found {
-        SessionFound::Known(s) => {
+        Some(s) => {
             let fed = rtr_receiver::feed(s, live, working, hold, piece);
             let left = fed.session;
             let done = fed.done;
@@ -467,7 +466,7 @@ pub extern "C" fn hingemoss_feed(
             *updates = done.updates as u64;
             feed_number(answer)
         }
-        SessionFound::Unknown => {
+        None => {
             *taken = 0;
             *updates = 0;
             22
@@ -489,14 +488,14 @@ pub extern "C" fn hingemoss_reconnect(
 {
     let found = rtr_numbers::session_of(session);
     match found {
-        SessionFound::Known(s) => {
+        Some(s) => {
             let reconnected = rtr_receiver::reconnect(s, live, working, hold);
             let left = reconnected.session;
             let answer = reconnected.answer;
             rtr_numbers::put_session(left, session);
             reconnect_number(answer)
         }
-        SessionFound::Unknown => 22,
+        None => 22,
     }
 }
 
@@ -513,12 +512,12 @@ pub extern "C" fn hingemoss_notify(
 {
     let found = rtr_numbers::session_of(session);
     match found {
-        SessionFound::Known(s) => {
+        Some(s) => {
             let compared = rtr_receiver::notify(s, live, working, hold);
             *answer = notify_compared(compared);
             notify_number(compared)
         }
-        SessionFound::Unknown => {
+        None => {
             *answer = 0;
             22
         }
@@ -537,12 +536,12 @@ pub extern "C" fn hingemoss_listing(
 {
     let found = rtr_numbers::session_of(session);
     match found {
-        SessionFound::Known(s) => {
+        Some(s) => {
             let answer = rtr_listing::listing(s, live, out);
             *written = list_amount(answer);
             list_number(answer)
         }
-        SessionFound::Unknown => {
+        None => {
             *written = 0;
             22
         }
@@ -565,12 +564,12 @@ pub extern "C" fn hingemoss_read_listing(
     }
     let answer = rtr_listed::read_listing(text, room);
     match answer {
-        ListedAnswer::Listed(said) => {
+        Ok(said) => {
             let numbers = head_numbers(said);
             rtr_numbers::put_numbers(head, &numbers);
             0
         }
-        ListedAnswer::Refused(error) => {
+        Err(error) => {
             *line = line_number(error);
             error.number()
         }
@@ -612,13 +611,13 @@ pub extern "C" fn hingemoss_validate(
     }
     let found = rtr_numbers::session_of(session);
     match found {
-        SessionFound::Known(s) => {
+        Some(s) => {
             let asked = asked_route(rtr_origin::route_of(route));
             let answer = rtr_origin::validate(s, live, working, hold, asked);
             *state = validate_state(answer);
             validate_number(answer)
         }
-        SessionFound::Unknown => {
+        None => {
             *state = 0;
             22
         }
@@ -640,12 +639,12 @@ pub extern "C" fn hingemoss_validate_all(
 {
     let found = rtr_numbers::session_of(session);
     match found {
-        SessionFound::Known(s) => {
+        Some(s) => {
             let answer = rtr_origin::validate_all(s, live, working, hold, routes, states);
             *written = peer_amount(answer);
             peer_number(answer)
         }
-        SessionFound::Unknown => {
+        None => {
             *written = 0;
             22
         }
@@ -670,18 +669,18 @@ pub extern "C" fn hingemoss_full_run(
     *written = 0;
     let found = RtrProtocolVersion::from_u8(version);
     match found {
-        VersionFound::Known(v) => {
+        Some(v) => {
             let numbers = rtr_numbers::table_of(end);
             match numbers {
-                TableFound::Known(t) => {
+                Some(t) => {
                     let answer = rtr_cache::full_run(v, t, table, count as usize, out);
                     *written = run_amount(answer);
                     run_number(answer)
                 }
-                TableFound::Unknown => 22,
+                None => 22,
             }
         }
-        VersionFound::Unknown => 22,
+        None => 22,
     }
 }
 
@@ -704,10 +703,10 @@ pub extern "C" fn hingemoss_change_run(
     *written = 0;
     let found = RtrProtocolVersion::from_u8(version);
     match found {
-        VersionFound::Known(v) => {
+        Some(v) => {
             let numbers = rtr_numbers::table_of(end);
             match numbers {
-                TableFound::Known(t) => {
+                Some(t) => {
                     let answer = rtr_cache::change_run(
                         v,
                         t,
@@ -720,9 +719,9 @@ pub extern "C" fn hingemoss_change_run(
                     *written = run_amount(answer);
                     run_number(answer)
                 }
-                TableFound::Unknown => 22,
+                None => 22,
             }
         }
-        VersionFound::Unknown => 22,
+        None => 22,
     }
 }

@@ -1,5 +1,6 @@
 -- Who is ready for a run: a receiver whose ask was written (`full-ask-ready`, `change-ask-ready`), and one that was served and asks again (`served-again`). So nothing that
 -- `Ready` asks for keeps a receiver out: its serial, intervals and note, and for a full run its live table, are anything. Assumes nothing.
+use Rattle.std.specs.Prelude.{Option, Some, ⊤}
 use Prim.Native.Nat.{ℕ, ◌≤◌}
 use mathlib.Core.Bool.{Bool, cond}
 use mathlib.Core.List.{List, [], ◌∷◌}
@@ -15,7 +16,6 @@ use Rattle.rtr_encode.specs.Encode.{Writing, encode}
 use Rattle.rtr_encode.proofs.Laws.{reset-query-says, serial-query-says}
 use Rattle.rtr_room.specs.declared.Record.{Record}
 use Rattle.rtr_receiver.specs.Receiver.{Receiver, Stage, in_stage, reset_query, full_query, serial_query, change_query, asked_by, ask}
-use Rattle.rtr_receiver.specs.declared.LiveTable.{LiveTable}
 use Rattle.rtr_receiver.specs.declared.LoadKind.{LoadKind}
 use Rattle.rtr_receiver.specs.declared.Table.{Table}
 use Rattle.rtr_cache.specs.Serves.{sent_as, Ready, served}
@@ -27,7 +27,7 @@ full-asked r out space =
     ap (λ (w : Writing). (asked_by w Stage.asked_full r left).receiver) (reset-query-says in_use r.version out)
     ∙ ap (λ (b : Bool). (asked_by (cond b (Writing.written 8) (Writing.refused 9 (8 ∷ []))) Stage.asked_full r left).receiver) (le-leb 8 (length out) space)
 
-change-asked : (r : Receiver) (t : Table) (out : List ℕ) → 12 ≤ length out → (ask (serial_query (LiveTable.Known t) r) r out).receiver ≡ in_stage Stage.asked_change r
+change-asked : (r : Receiver) (t : Table) (out : List ℕ) → 12 ≤ length out → (ask (serial_query (Some t) r) r out).receiver ≡ in_stage Stage.asked_change r
 change-asked r t out space =
     let left : List ℕ = (encode in_use (SerialQuery (record { version = r.version; session_id = t.session; serial_number = t.serial })) [] out).out in
     ap (λ (w : Writing). (asked_by w Stage.asked_change r left).receiver) (serial-query-says in_use r.version t.session t.serial out)
@@ -44,11 +44,11 @@ full-ask-ready session first r out free none space =
     by (inr e) = ap (λ (s : Stage). (ask (full_query s r) r out).receiver) e
 
 -- a change ask from Idle with a table, with nothing held: ready for a change of that session from the live table
-pub change-ask-ready : (r : Receiver) (t : Table) (out : List ℕ) → r.stage ≡ Stage.idle → r.table ≡ LiveTable.Known t → r.held ≡ [] → 12 ≤ length out
+pub change-ask-ready : (r : Receiver) (t : Table) (out : List ℕ) → r.stage ≡ Stage.idle → r.table ≡ Some t → r.held ≡ [] → 12 ≤ length out
     → Ready LoadKind.Change r.version t.session r.live (ask (change_query r.stage r) r out).receiver
 change-ask-ready r t out idle known none space =
     let asked : (ask (change_query r.stage r) r out).receiver ≡ in_stage Stage.asked_change r =
-    ap (λ (s : Stage). (ask (change_query s r) r out).receiver) idle ∙ ap (λ (x : LiveTable). (ask (serial_query x r) r out).receiver) known ∙ change-asked r t out space in
+    ap (λ (s : Stage). (ask (change_query s r) r out).receiver) idle ∙ ap (λ (x : Option Table). (ask (serial_query x r) r out).receiver) known ∙ change-asked r t out space in
     subst (Ready LoadKind.Change r.version t.session r.live) (sym asked) (record { version = refl; asked = refl; nothing-held = none; holds = (refl, (t, known, refl)) })
 
 -- what a version sends keeps the session

@@ -1,6 +1,7 @@
 -- Of the calls. What they answer, exactly (`full-22-exactly` and its like); and what a call wrote (`Wrote`): a run of tables that can be served, at the front of its output. So
 -- what is said of runs holds of what a call wrote, once for both kinds: a receiver that is ready is served by it (`wrote-serves`), in memory (`wrote-served`) and in a history
 -- (`wrote-finished`). Assumes nothing.
+use Rattle.std.specs.Prelude.{Some, Result, Ok, Err}
 use Prim.Native.Nat.{ℕ, zero, suc, ◌+◌, ◌*◌, ◌≤◌, ◌<◌}
 use mathlib.Core.Bool.{Bool, true, false, cond, ◌&&◌}
 use mathlib.Core.List.{List, [], ◌∷◌, ◌++◌}
@@ -22,7 +23,6 @@ use Rattle.rtr_receiver.specs.History.{Place, finished, stands_after, table_of}
 use Rattle.rtr_receiver.specs.Promises.{is_receiver, receiver_of, in_memory, record_limit}
 use Rattle.rtr_receiver.specs.Receiver.{Receiver, feed_all}
 use Rattle.rtr_receiver.specs.Runs.{Call, Memory, Steps, Run, feeds, history_of, left_in}
-use Rattle.rtr_receiver.specs.declared.LiveTable.{LiveTable}
 use Rattle.rtr_receiver.specs.declared.LoadKind.{LoadKind}
 use Rattle.rtr_receiver.specs.declared.Table.{Table}
 use Rattle.rtr_listing.specs.Promises.{puts}
@@ -31,8 +31,6 @@ use Rattle.rtr_changes.proofs.Laws.{room-of-rules}
 use Rattle.rtr_cache.specs.Cache.{run_pdus, run_bytes, run_size, is_lent, not_lent, run_leaves, full_run_says, change_run_says}
 use Rattle.rtr_cache.specs.Serves.{RoomFits, sent_as, Servable, Ready, served, update_of, NoLonger}
 use Rattle.rtr_cache.specs.declared.RunError.TheVariants.{NotARoom, OutputShort}
-use Rattle.rtr_cache.specs.declared.RunAnswer.{RunAnswer}
-use Rattle.rtr_cache.specs.declared.RunAnswer.TheVariants.{Written, Refused}
 use Rattle.rtr_cache.proofs.Finishes.{run-finished}
 use Rattle.rtr_cache.proofs.Laws.{lent-rules, lent-within}
 use Rattle.rtr_cache.proofs.Lengths.{run_length}
@@ -40,15 +38,16 @@ use Rattle.rtr_cache.proofs.Serves.{run-serves, run-served-in-pieces}
 use Rattle.rtr_cache.proofs.Unique.{run_answer_of, said-back}
 use Rattle.rtr_cache.proofs.full_run.Reads as full-run
 use Rattle.rtr_cache.proofs.change_run.Reads as change-run
+use Rattle.rtr_cache.specs.declared.RunError.{RunError}
 
 -- ---- the three answers
 
-module _ (lent : Bool) (run out left : List ℕ) (r : RunAnswer) (said : run_leaves r left ≡ cond lent (puts run out) (not_lent out)) where
+module _ (lent : Bool) (run out left : List ℕ) (r : Result ℕ RunError) (said : run_leaves r left ≡ cond lent (puts run out) (not_lent out)) where
   -- what is not lent is refused by 22; what does not fit by 9, with the run's length; else the run is at the front of the output, and behind it the output is as it was
   data Answers : Type 0 where
-    not-lent : lent ≡ false → r ≡ Refused NotARoom → left ≡ out → Answers
-    short : lent ≡ true → length out < length run → r ≡ Refused (OutputShort (length run)) → left ≡ out → Answers
-    wrote : lent ≡ true → length run ≤ length out → r ≡ Written (length run) → left ≡ run ++ drop (length run) out → Answers
+    not-lent : lent ≡ false → r ≡ Err NotARoom → left ≡ out → Answers
+    short : lent ≡ true → length out < length run → r ≡ Err (OutputShort (length run)) → left ≡ out → Answers
+    wrote : lent ≡ true → length run ≤ length out → r ≡ Ok (length run) → left ≡ run ++ drop (length run) out → Answers
 
   by_answer : (given : Encoded) → cond lent (puts run out) (not_lent out) ≡ given → (r ≡ run_answer_of given.says) × (left ≡ given.out)
   by_answer given e = (sym (said-back r) ∙ ap (λ (x : Encoded). run_answer_of x.says) (said ∙ e), ap (λ (x : Encoded). x.out) (said ∙ e))
@@ -71,47 +70,47 @@ module _ (lent : Bool) (run out left : List ℕ) (r : RunAnswer) (said : run_lea
   clash : {A : Type 0} → lent ≡ true → lent ≡ false → A
   clash t f = absurd (let z : true ≡ false = sym t ∙ f in let o : ◌≡◌ {A = ℕ} 0 1 = cc in omega arith)
 
-  is-22 : (r ≡ Refused NotARoom) ↔ (lent ≡ false)
+  is-22 : (r ≡ Err NotARoom) ↔ (lent ≡ false)
   is-22 = (there answers, back answers)
     where
-      there : Answers → r ≡ Refused NotARoom → lent ≡ false
+      there : Answers → r ≡ Err NotARoom → lent ≡ false
       there (not-lent e is same) q = e
       there (short e less is same) q = absurd (let o : ◌≡◌ {A = ℕ} 0 1 = cc in omega arith)
       there (wrote e fits is same) q = absurd (let o : ◌≡◌ {A = ℕ} 0 1 = cc in omega arith)
 
-      back : Answers → lent ≡ false → r ≡ Refused NotARoom
+      back : Answers → lent ≡ false → r ≡ Err NotARoom
       back (not-lent e is same) q = is
       back (short e less is same) q = clash e q
       back (wrote e fits is same) q = clash e q
 
-  is-9 : (n : ℕ) → (r ≡ Refused (OutputShort n)) ↔ ((lent ≡ true) × (n ≡ length run) × (length out < n))
+  is-9 : (n : ℕ) → (r ≡ Err (OutputShort n)) ↔ ((lent ≡ true) × (n ≡ length run) × (length out < n))
   is-9 n = (there answers, back answers)
     where
-      there : Answers → r ≡ Refused (OutputShort n) → (lent ≡ true) × (n ≡ length run) × (length out < n)
+      there : Answers → r ≡ Err (OutputShort n) → (lent ≡ true) × (n ≡ length run) × (length out < n)
       there (not-lent e is same) q = absurd (let o : ◌≡◌ {A = ℕ} 0 1 = cc in omega arith)
       there (short e less is same) q = let n-is : n ≡ length run = cc in (e, n-is, omega (arith, less, n-is))
       there (wrote e fits is same) q = absurd (let o : ◌≡◌ {A = ℕ} 0 1 = cc in omega arith)
 
-      back : Answers → (lent ≡ true) × (n ≡ length run) × (length out < n) → r ≡ Refused (OutputShort n)
+      back : Answers → (lent ≡ true) × (n ≡ length run) × (length out < n) → r ≡ Err (OutputShort n)
       back (not-lent e is same) q = clash q.0 e
-      back (short e less is same) q = is ∙ ap (λ (k : ℕ). Refused (OutputShort k)) (sym q.1)
+      back (short e less is same) q = is ∙ ap (λ (k : ℕ). Err (OutputShort k)) (sym q.1)
       back (wrote e fits is same) q = absurd (omega (arith, q.1, q.2, fits))
 
-  is-written : (n : ℕ) → (r ≡ Written n) ↔ ((lent ≡ true) × (n ≡ length run) × (n ≤ length out))
+  is-written : (n : ℕ) → (r ≡ Ok n) ↔ ((lent ≡ true) × (n ≡ length run) × (n ≤ length out))
   is-written n = (there answers, back answers)
     where
-      there : Answers → r ≡ Written n → (lent ≡ true) × (n ≡ length run) × (n ≤ length out)
+      there : Answers → r ≡ Ok n → (lent ≡ true) × (n ≡ length run) × (n ≤ length out)
       there (not-lent e is same) q = absurd (let o : ◌≡◌ {A = ℕ} 0 1 = cc in omega arith)
       there (short e less is same) q = absurd (let o : ◌≡◌ {A = ℕ} 0 1 = cc in omega arith)
       there (wrote e fits is same) q = let n-is : n ≡ length run = cc in (e, n-is, omega (arith, fits, n-is))
 
-      back : Answers → (lent ≡ true) × (n ≡ length run) × (n ≤ length out) → r ≡ Written n
+      back : Answers → (lent ≡ true) × (n ≡ length run) × (n ≤ length out) → r ≡ Ok n
       back (not-lent e is same) q = clash q.0 e
       back (short e less is same) q = absurd (omega (arith, q.1, q.2, less))
-      back (wrote e fits is same) q = is ∙ ap Written (sym q.1)
+      back (wrote e fits is same) q = is ∙ ap Ok (sym q.1)
 
   -- a refusal leaves the output
-  keeps : (error : _) → r ≡ Refused error → left ≡ out
+  keeps : (error : _) → r ≡ Err error → left ≡ out
   keeps error q = go answers
     where
       go : Answers → left ≡ out
@@ -120,7 +119,7 @@ module _ (lent : Bool) (run out left : List ℕ) (r : RunAnswer) (said : run_lea
       go (wrote e fits is same) = absurd (let o : ◌≡◌ {A = ℕ} 0 1 = cc in omega arith)
 
   -- what was written stands at the front
-  front-is : (n : ℕ) → r ≡ Written n → (lent ≡ true) × (n ≡ length run) × (take n left ≡ run)
+  front-is : (n : ℕ) → r ≡ Ok n → (lent ≡ true) × (n ≡ length run) × (take n left ≡ run)
   front-is n q = go answers
     where
       go : Answers → (lent ≡ true) × (n ≡ length run) × (take n left ≡ run)
@@ -191,13 +190,13 @@ module _ (kind : LoadKind) (v : RtrProtocolVersion) (end : Table) (first second 
       Run limit v H calls m →
       Ready kind v end.session first (receiver_of m.session m.live m.working m.hold) →
       (finished limit H v (history_of (calls ++ feeds pieces)) ≡ finished limit H v (history_of calls) ++ update_of kind v end first second ∷ [])
-      × (table_of limit (finished limit H v (history_of (calls ++ feeds pieces))) ≡ record { info = LiveTable.Known (sent_as v end); records = second })
+      × (table_of limit (finished limit H v (history_of (calls ++ feeds pieces))) ≡ record { info = Some (sent_as v end); records = second })
       × (stands_after limit H v (history_of (calls ++ feeds pieces)) ≡ Place.idle)
   wrote-finished limit H calls m within fits run ready = run-finished limit H kind v end first second calls m pieces did.parts within fits run ready bytes-are
 
 -- ---- full_run: κs and a are what is lent, s the same as the call returns
 
-module _ (κs : _) (a : _) (r : RunAnswer) (s : _) (post : full-run.Post κs a r s) where
+module _ (κs : _) (a : _) (r : Result ℕ RunError) (s : _) (post : full-run.Post κs a r s) where
   abbrev full_room : List ℕ
   full_room = a.1.1.0.now
 
@@ -218,29 +217,29 @@ module _ (κs : _) (a : _) (r : RunAnswer) (s : _) (post : full-run.Post κs a r
   full-said = post.0
 
   -- 22 exactly where the room is not lent as a table's
-  pub full-22-exactly : (r ≡ Refused NotARoom) ↔ (is_lent full_count full_room ≡ false)
+  pub full-22-exactly : (r ≡ Err NotARoom) ↔ (is_lent full_count full_room ≡ false)
   full-22-exactly = is-22 _ _ _ _ r full-said
 
   -- then 9, with the whole run's length, exactly where the output is shorter
-  pub full-9-exactly : (n : ℕ) → (r ≡ Refused (OutputShort n)) ↔ ((is_lent full_count full_room ≡ true) × (n ≡ run_size LoadKind.Full a.0 [] full_table) × (length full_out < n))
+  pub full-9-exactly : (n : ℕ) → (r ≡ Err (OutputShort n)) ↔ ((is_lent full_count full_room ≡ true) × (n ≡ run_size LoadKind.Full a.0 [] full_table) × (length full_out < n))
   full-9-exactly n =
       let size = run_length LoadKind.Full a.0 a.1.0 [] full_table in
       let is = is-9 _ _ _ _ r full-said n in
       (λ q. let x = is.0 q in (x.0, x.1 ∙ size, x.2), λ x. is.1 (x.0, x.1 ∙ sym size, x.2))
 
   -- else it is written; an output that it fills is taken
-  pub full-written-exactly : (n : ℕ) → (r ≡ Written n) ↔ ((is_lent full_count full_room ≡ true) × (n ≡ run_size LoadKind.Full a.0 [] full_table) × (n ≤ length full_out))
+  pub full-written-exactly : (n : ℕ) → (r ≡ Ok n) ↔ ((is_lent full_count full_room ≡ true) × (n ≡ run_size LoadKind.Full a.0 [] full_table) × (n ≤ length full_out))
   full-written-exactly n =
       let size = run_length LoadKind.Full a.0 a.1.0 [] full_table in
       let is = is-written _ _ _ _ r full-said n in
       (λ q. let x = is.0 q in (x.0, x.1 ∙ size, x.2), λ x. is.1 (x.0, x.1 ∙ sym size, x.2))
 
   -- a refusal leaves the output
-  pub full-refusal-keeps : (error : _) → r ≡ Refused error → full_left ≡ full_out
+  pub full-refusal-keeps : (error : _) → r ≡ Err error → full_left ≡ full_out
   full-refusal-keeps error q = keeps (is_lent full_count full_room) (run_bytes LoadKind.Full a.0 a.1.0 [] full_table) full_out full_left r full-said error q
 
   -- and what was written is a run that can be served
-  pub full-wrote : (n : ℕ) → r ≡ Written n → Wrote LoadKind.Full a.0 a.1.0 [] full_table n full_left
+  pub full-wrote : (n : ℕ) → r ≡ Ok n → Wrote LoadKind.Full a.0 a.1.0 [] full_table n full_left
   full-wrote n q =
       let is = front-is _ _ _ _ r full-said n q in
       record {
@@ -259,7 +258,7 @@ module _ (κs : _) (a : _) (r : RunAnswer) (s : _) (post : full-run.Post κs a r
 
 -- ---- change_run, likewise
 
-module _ (κs : _) (a : _) (r : RunAnswer) (s : _) (post : change-run.Post κs a r s) where
+module _ (κs : _) (a : _) (r : Result ℕ RunError) (s : _) (post : change-run.Post κs a r s) where
   abbrev first_room : List ℕ
   first_room = a.1.1.0.now
 
@@ -292,25 +291,25 @@ module _ (κs : _) (a : _) (r : RunAnswer) (s : _) (post : change-run.Post κs a
   change-said = post.0
 
   -- 22 exactly where either room is not lent as a table's
-  pub change-22-exactly : (r ≡ Refused NotARoom) ↔ (both_lent ≡ false)
+  pub change-22-exactly : (r ≡ Err NotARoom) ↔ (both_lent ≡ false)
   change-22-exactly = is-22 _ _ _ _ r change-said
 
-  pub change-9-exactly : (n : ℕ) → (r ≡ Refused (OutputShort n)) ↔ ((both_lent ≡ true) × (n ≡ run_size LoadKind.Change a.0 first_table second_table) × (length change_out < n))
+  pub change-9-exactly : (n : ℕ) → (r ≡ Err (OutputShort n)) ↔ ((both_lent ≡ true) × (n ≡ run_size LoadKind.Change a.0 first_table second_table) × (length change_out < n))
   change-9-exactly n =
       let size = run_length LoadKind.Change a.0 a.1.0 first_table second_table in
       let is = is-9 _ _ _ _ r change-said n in
       (λ q. let x = is.0 q in (x.0, x.1 ∙ size, x.2), λ x. is.1 (x.0, x.1 ∙ sym size, x.2))
 
-  pub change-written-exactly : (n : ℕ) → (r ≡ Written n) ↔ ((both_lent ≡ true) × (n ≡ run_size LoadKind.Change a.0 first_table second_table) × (n ≤ length change_out))
+  pub change-written-exactly : (n : ℕ) → (r ≡ Ok n) ↔ ((both_lent ≡ true) × (n ≡ run_size LoadKind.Change a.0 first_table second_table) × (n ≤ length change_out))
   change-written-exactly n =
       let size = run_length LoadKind.Change a.0 a.1.0 first_table second_table in
       let is = is-written _ _ _ _ r change-said n in
       (λ q. let x = is.0 q in (x.0, x.1 ∙ size, x.2), λ x. is.1 (x.0, x.1 ∙ sym size, x.2))
 
-  pub change-refusal-keeps : (error : _) → r ≡ Refused error → change_left ≡ change_out
+  pub change-refusal-keeps : (error : _) → r ≡ Err error → change_left ≡ change_out
   change-refusal-keeps error q = keeps both_lent (run_bytes LoadKind.Change a.0 a.1.0 first_table second_table) change_out change_left r change-said error q
 
-  pub change-wrote : (n : ℕ) → r ≡ Written n → Wrote LoadKind.Change a.0 a.1.0 first_table second_table n change_left
+  pub change-wrote : (n : ℕ) → r ≡ Ok n → Wrote LoadKind.Change a.0 a.1.0 first_table second_table n change_left
   change-wrote n q =
       let is = front-is _ _ _ _ r change-said n q in
       let lent = both-lent (is_lent first_count first_room) (is_lent second_count second_room) is.0 in

@@ -1,5 +1,6 @@
 -- A run in a history: by History's page exactly one update finishes by it, the changes of the run under what its End of Data said, and the table that it makes is the second one
 -- (`run-finishes`, `run-finished`). So rtr-table's listing of a full run of version 1 is the table's own (`full-run-listed`). Assumes nothing.
+use Rattle.std.specs.Prelude.{Option, Some, ⊤}
 use Prim.Native.Nat.{ℕ, ◌≤◌}
 use mathlib.Core.Bool.{Bool, cond}
 use mathlib.Core.List.{List, [], ◌∷◌, ◌++◌, map, map-append, append_assoc, append-nil}
@@ -14,7 +15,6 @@ use Rattle.rtr_receiver.specs.Contents.{Contents}
 use Rattle.rtr_receiver.specs.History.{Event, Changed, Update, Live, Item, Place, no_table, with_all, base, updated, table_of, items, of_session, on_response, Outcome, after, outcome, finished, stands_after}
 use Rattle.rtr_receiver.specs.Promises.{receiver_of}
 use Rattle.rtr_receiver.specs.Runs.{Call, Memory, Run, bytes, feeds, history_of, live_in}
-use Rattle.rtr_receiver.specs.declared.LiveTable.{LiveTable}
 use Rattle.rtr_receiver.specs.declared.LoadKind.{LoadKind}
 use Rattle.rtr_receiver.specs.declared.Table.{Table}
 use Rattle.rtr_receiver.proofs.Laws.{with-all-none, with-all-last}
@@ -37,7 +37,7 @@ load-begins : (live : Live) (kind : LoadKind) (first : List Record) (session : �
 load-begins live LoadKind.Full first session holds = refl
 load-begins live LoadKind.Change first session holds =
     let t : Table = holds.1.0 in
-    ap (λ (info : LiveTable). cond (of_session info session) (Place.loading LoadKind.Change session []) (Place.lost 15 [])) holds.1.1
+    ap (λ (info : Option Table). cond (of_session info session) (Place.loading LoadKind.Change session []) (Place.lost 15 [])) holds.1.1
     ∙ ap (λ (b : Bool). cond b (Place.loading LoadKind.Change session []) (Place.lost 15 [])) (eq-eqb session t.session (sym holds.1.2))
 
 -- what it begins from is what the run begins from
@@ -83,9 +83,9 @@ pub update-makes : (limit : ℕ) (kind : LoadKind) (v : RtrProtocolVersion) (end
     Servable kind end first second →
     length second ≤ limit →
     Holds kind first end.session live →
-    updated limit live (update_of kind v end first second) ≡ record { info = LiveTable.Known (sent_as v end); records = second }
+    updated limit live (update_of kind v end first second) ≡ record { info = Some (sent_as v end); records = second }
 update-makes limit kind v end first second live parts within holds =
-    ap (λ (t : Contents). record { info = LiveTable.Known (sent_as v end); records = t })
+    ap (λ (t : Contents). record { info = Some (sent_as v end); records = t })
     (ap (λ (t : Contents). with_all limit t (changes (base kind first) second)) (from_first live kind first end.session holds)
     ∙ with-all-changes limit (base kind first) second parts.first-table parts.second-table within)
 
@@ -96,7 +96,7 @@ pub run-finishes : (limit H : ℕ) (kind : LoadKind) (v : RtrProtocolVersion) (e
     NoLonger H (run_pdus kind v end first second) →
     Holds kind first end.session live →
     outcome limit v live (Place.asked kind) (items H [] (bytes (run_bytes kind v end first second) ++ later))
-    ≡ after (update_of kind v end first second ∷ []) (outcome limit v (record { info = LiveTable.Known (sent_as v end); records = second }) Place.idle (items H [] later))
+    ≡ after (update_of kind v end first second ∷ []) (outcome limit v (record { info = Some (sent_as v end); records = second }) Place.idle (items H [] later))
 unfolding run_bytes
 run-finishes limit H kind v end first second live later parts within fits holds =
     ap (outcome limit v live (Place.asked kind)) (told-all H (run_pdus kind v end first second) later (run-in-run kind v end first second parts) fits)
@@ -120,7 +120,7 @@ pub run-finished : (limit H : ℕ) (kind : LoadKind) (v : RtrProtocolVersion) (e
     Ready kind v end.session first (receiver_of m.session m.live m.working m.hold) →
     joined pieces ≡ run_bytes kind v end first second →
     (finished limit H v (history_of (calls ++ feeds pieces)) ≡ finished limit H v (history_of calls) ++ update_of kind v end first second ∷ [])
-    × (table_of limit (finished limit H v (history_of (calls ++ feeds pieces))) ≡ record { info = LiveTable.Known (sent_as v end); records = second })
+    × (table_of limit (finished limit H v (history_of (calls ++ feeds pieces))) ≡ record { info = Some (sent_as v end); records = second })
     × (stands_after limit H v (history_of (calls ++ feeds pieces)) ≡ Place.idle)
 run-finished limit H kind v end first second calls m pieces parts within fits run ready cut =
     let u : Update = update_of kind v end first second in
@@ -134,7 +134,7 @@ run-finished limit H kind v end first second calls m pieces parts within fits ru
     ∙ (λ i. after before (outcome limit v (live_in m) (place i) (items H (ready.nothing-held i) (bytes (run_bytes kind v end first second) ++ []))))
     ∙ ap (after before) (run-finishes limit H kind v end first second (live_in m) [] parts within fits ready.holds ∙ none-later limit H v _ (u ∷ [])) in
     let updates : finished limit H v (history_of (calls ++ feeds pieces)) ≡ before ++ u ∷ [] = ap (λ (o : Outcome). o.updates) all in
-    let table : table_of limit (finished limit H v (history_of (calls ++ feeds pieces))) ≡ record { info = LiveTable.Known (sent_as v end); records = second } =
+    let table : table_of limit (finished limit H v (history_of (calls ++ feeds pieces))) ≡ record { info = Some (sent_as v end); records = second } =
     ap (table_of limit) updates
     ∙ table-with limit before u
     ∙ ap (λ (l : Live). updated limit l u) (sym (history limit H v calls m run))
@@ -151,11 +151,11 @@ pub full-run-listed : (limit H : ℕ) (end : Table) (second : List Record) (quer
     8 ≤ length query →
     joined pieces ≡ run_bytes LoadKind.Full V1 end [] second →
     printed_after limit H V1 (history_of (Call.ask LoadKind.Full query ∷ feeds pieces))
-    ≡ head_lines (record { stopped = 0; table = LiveTable.Known end; count = length second }) ++ all_lines second
+    ≡ head_lines (record { stopped = 0; table = Some end; count = length second }) ++ all_lines second
 full-run-listed limit H end second query pieces parts within fits space cut =
     let u : Update = update_of LoadKind.Full V1 end [] second in
     let run : List ℕ = run_bytes LoadKind.Full V1 end [] second in
-    let known : Live = record { info = LiveTable.Known end; records = second } in
+    let known : Live = record { info = Some end; records = second } in
     let events : history_of (Call.ask LoadKind.Full query ∷ feeds pieces) ≡ Event.ask LoadKind.Full (length query) ∷ (bytes run ++ []) =
     history-asked LoadKind.Full query (feeds pieces)
     ∙ ap (λ (es : List Event). Event.ask LoadKind.Full (length query) ∷ es) (history-of-feeds pieces ∙ ap bytes cut ∙ sym (append-nil (bytes run))) in
@@ -170,4 +170,4 @@ full-run-listed limit H end second query pieces parts within fits space cut =
     ap (λ (o : Outcome). stop_line (lost_by o.place) ++ printed (table_of limit o.updates)) all
     ∙ ap (λ (l : Live). stop_line 0 ++ printed l) table
     ∙ sym (append_assoc (stop_line 0) _ (all_lines second))
-    ∙ ap (λ (x : List ℕ). x ++ all_lines second) (sym (head-lines-are (record { stopped = 0; table = LiveTable.Known end; count = length second })))
+    ∙ ap (λ (x : List ℕ). x ++ all_lines second) (sym (head-lines-are (record { stopped = 0; table = Some end; count = length second })))

@@ -1,4 +1,5 @@
 -- What encoding writes at the front of a part of the output is written there in the whole. Assumes nothing.
+use Rattle.std.specs.Prelude.{Result, Ok, Err}
 use Prim.Native.Nat.{ℕ, ◌+◌, ◌-◌}
 use mathlib.Core.List.{List, [], ◌++◌, append_assoc, append-nil}
 use mathlib.Core.Path.{◌≡◌, sym, ap, ◌∙◌}
@@ -13,30 +14,29 @@ use Rattle.rtr_encode.specs.Encode.{Encoded, encoding, encode}
 use Rattle.rtr_encode.specs.Encode.Writing.{written}
 use Rattle.rtr_encode.specs.Answers.{writing, leaves}
 use Rattle.rtr_encode.specs.declared.EncodeError.{EncodeError}
-use Rattle.rtr_encode.specs.declared.EncodeAnswer.{EncodeAnswer}
 use Rattle.rtr_encode.proofs.Laws.{tests-write}
 use Rattle.rtr_listing.specs.Private.{Fits, Put}
 use Rattle.rtr_cache.specs.Private.{behind_of}
 use Rattle.rtr_cache.proofs.NoPayload.{NoPayload}
 
-said-written : (answer : EncodeAnswer) (n at : ℕ) → writing answer ≡ written n → behind_of at answer ≡ at + n
-said-written (EncodeAnswer.Written k) n at e = let same : k ≡ n = cc in ap (λ (x : ℕ). at + x) same
-said-written (EncodeAnswer.Refused EncodeError.PlaceOutside) n at e = let z : ◌≡◌ {A = ℕ} 0 1 = cc in absurd (omega arith)
-said-written (EncodeAnswer.Refused EncodeError.InvalidUtf8) n at e = let z : ◌≡◌ {A = ℕ} 0 1 = cc in absurd (omega arith)
-said-written (EncodeAnswer.Refused EncodeError.TooLong) n at e = let z : ◌≡◌ {A = ℕ} 0 1 = cc in absurd (omega arith)
-said-written (EncodeAnswer.Refused (EncodeError.OutputShort k)) n at e = let z : ◌≡◌ {A = ℕ} 0 1 = cc in absurd (omega arith)
+said-written : (answer : Result ℕ EncodeError) (n at : ℕ) → writing answer ≡ written n → behind_of at answer ≡ at + n
+said-written (Ok k) n at e = let same : k ≡ n = cc in ap (λ (x : ℕ). at + x) same
+said-written (Err EncodeError.PlaceOutside) n at e = let z : ◌≡◌ {A = ℕ} 0 1 = cc in absurd (omega arith)
+said-written (Err EncodeError.InvalidUtf8) n at e = let z : ◌≡◌ {A = ℕ} 0 1 = cc in absurd (omega arith)
+said-written (Err EncodeError.TooLong) n at e = let z : ◌≡◌ {A = ℕ} 0 1 = cc in absurd (omega arith)
+said-written (Err (EncodeError.OutputShort k)) n at e = let z : ◌≡◌ {A = ℕ} 0 1 = cc in absurd (omega arith)
 
 -- what a call left of the part of an output from a place on
-pub record Part (bytes out : List ℕ) (at : ℕ) (answer : EncodeAnswer) (part : List ℕ) : Type 0 where
+pub record Part (bytes out : List ℕ) (at : ℕ) (answer : Result ℕ EncodeError) (part : List ℕ) : Type 0 where
   pub behind : behind_of at answer ≡ at + length bytes
   pub whole : take at out ++ (part ++ drop (length out - at) (drop at out)) ≡ over out at bytes
 
-pub put-part : {bytes out : List ℕ} {at : ℕ} {answer : EncodeAnswer} {part : List ℕ} → Part bytes out at answer part
+pub put-part : {bytes out : List ℕ} {at : ℕ} {answer : Result ℕ EncodeError} {part : List ℕ} → Part bytes out at answer part
     → (next : ℕ) → next ≡ behind_of at answer → Put out at bytes next (take at out ++ (part ++ drop (length out - at) (drop at out)))
 put-part p next e = record { place = e ∙ p.behind; content = p.whole }
 
 -- the PDU that was given to it is this one
-module _ (pdu : RtrPdu) (plain : NoPayload pdu) (out : List ℕ) (at : ℕ) (fits : Fits out at (encoding in_use pdu [])) (answer : EncodeAnswer) (part : List ℕ) where
+module _ (pdu : RtrPdu) (plain : NoPayload pdu) (out : List ℕ) (at : ℕ) (fits : Fits out at (encoding in_use pdu [])) (answer : Result ℕ EncodeError) (part : List ℕ) where
   abbrev span : ℕ
   span = length out - at
 

@@ -1,4 +1,5 @@
 -- A receiver that is fed a run: PDU by PDU along `changes-apply`, over both versions, both kinds and every cut (`run-serves`), and in memory (`run-served`). Assumes nothing.
+use Rattle.std.specs.Prelude.{Option, Some, ⊤}
 use Prim.Native.Nat.{ℕ, ◌+◌, ◌≤◌}
 use mathlib.Core.Bool.{Bool, true, false, cond}
 use mathlib.Core.List.{List, [], ◌∷◌, ◌++◌, map, append_assoc, append-nil}
@@ -22,7 +23,6 @@ use Rattle.rtr_receiver.specs.Receiver.{Receiver, Stage, Deed, Feed, is_due, kin
 use Rattle.rtr_receiver.specs.History.{Changed, Place, applied, base, end_says}
 use Rattle.rtr_receiver.specs.Receives.{stage_at}
 use Rattle.rtr_receiver.specs.Runs.{Call, Memory, Step, Steps, feeds, left_in}
-use Rattle.rtr_receiver.specs.declared.LiveTable.{LiveTable}
 use Rattle.rtr_receiver.specs.declared.LoadKind.{LoadKind}
 use Rattle.rtr_receiver.specs.declared.Table.{Table}
 use Rattle.rtr_receiver.proofs.Shaped.{shaped-feed}
@@ -86,7 +86,7 @@ module _ (limit H : ℕ) where
       let same : eqb session t.session ≡ true = eq-eqb session t.session (sym ready.holds.1.2) in
       on-response limit (record { version = v; session_id = session }) r (sym ready.version) (ap (is_due RtrPduType.CacheResponse) ready.asked)
       ∙ ap (λ (s : Stage). no_update (on_cache_response (kind_in s) session r)) ready.asked
-      ∙ ap (λ (x : LiveTable). no_update (on_change_response x session r)) ready.holds.1.1
+      ∙ ap (λ (x : Option Table). no_update (on_change_response x session r)) ready.holds.1.1
       ∙ ap (λ (b : Bool). no_update (cond b (start_load LoadKind.Change session r.live r) (stop 15 [] r))) same
       ∙ (λ i. no_update (record { version = r.version; stage = Stage.loading LoadKind.Change session; table = r.table; note = r.note; live = r.live; working = ready.holds.0 i; held = ready.nothing-held i }))
 
@@ -128,7 +128,7 @@ module _ (limit H : ℕ) where
       let load : Receiver = in_load kind end.session t r in
       on-end limit (end_of v end) load (sym version) refl
       ∙ ap (λ (b : Bool). cond b (record { then = finish (end_of v end) load; updates = 1 }) (no_update (stop 15 [] load))) (eq-eqb end.session end.session refl)
-      ∙ ap (λ (x : Table). record { then = record { version = r.version; stage = Stage.idle; table = LiveTable.Known x; note = r.note; live = t; working = []; held = [] }; updates = 1 }) (end-says v end)
+      ∙ ap (λ (x : Table). record { then = record { version = r.version; stage = Stage.idle; table = Some x; note = r.note; live = t; working = []; held = [] }; updates = 1 }) (end-says v end)
 
 -- ---- the run
 

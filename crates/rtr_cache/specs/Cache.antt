@@ -1,8 +1,6 @@
 -- What a cache sends: document 02, request Five; RFC 6810 and RFC 8210, section 5. A run is one definition over its kind: a full run is the change run from nothing. What a
 -- receiver makes of it is on the next page, Serves.
-use Rattle.std.specs.Prelude.{ℕ, ◌+◌, Bool, cond, ◌&&◌, List, [], ◌∷◌, ◌++◌, map, eqb}
-use Rattle.rtr_models.specs.declared.Interval.{Interval}
-use Rattle.rtr_models.specs.declared.Interval.TheVariants.{Absent, Seconds}
+use Rattle.std.specs.Prelude.{ℕ, ◌+◌, Bool, cond, ◌&&◌, List, [], ◌∷◌, ◌++◌, map, eqb, Option, Some, None, Result, Ok, Err}
 use Rattle.rtr_models.specs.declared.RtrProtocolVersion.{RtrProtocolVersion}
 use Rattle.rtr_models.specs.declared.RtrProtocolVersion.TheVariants.{V0, V1}
 use Rattle.rtr_models.specs.declared.RtrEndOfData.{RtrEndOfData}
@@ -21,7 +19,6 @@ use Rattle.rtr_receiver.specs.declared.Table.{Table}
 use Rattle.rtr_listing.specs.Promises.{puts}
 use Rattle.rtr_changes.specs.Changes.{changes}
 use Rattle.rtr_cache.specs.declared.RunError.{RunError}
-use Rattle.rtr_cache.specs.declared.RunAnswer.{RunAnswer}
 
 -- ---- the PDUs of a run
 
@@ -56,9 +53,9 @@ abbrev pub sent_prefix : RtrProtocolVersion → Changed → RtrPdu
 sent_prefix v c = cond (eqb (family_of c.what) 4) (sent_ipv4 v (flags_of c.announced) c.what) (sent_ipv6 v (flags_of c.announced) c.what)
 
 -- 5.8 End of Data: RFC 6810's has no intervals
-abbrev pub interval_of : RtrProtocolVersion → ℕ → Interval
-interval_of V0 seconds = Absent
-interval_of V1 seconds = Seconds seconds
+abbrev pub interval_of : RtrProtocolVersion → ℕ → Option ℕ
+interval_of V0 seconds = None
+interval_of V1 seconds = Some seconds
 
 abbrev pub end_of : RtrProtocolVersion → Table → RtrEndOfData
 end_of v end =
@@ -130,10 +127,10 @@ run_refusal RunError.NotARoom = refused 22 []
 run_refusal (RunError.OutputShort needed) = refused 9 (needed ∷ [])
 
 -- what an answer says
-abbrev pub run_writing : RunAnswer → Writing
-run_writing (RunAnswer.Written n) = written n
-run_writing (RunAnswer.Refused error) = run_refusal error
+abbrev pub run_writing : Result ℕ RunError → Writing
+run_writing (Ok n) = written n
+run_writing (Err error) = run_refusal error
 
 -- an answer and the output that it leaves
-abbrev pub run_leaves : RunAnswer → List ℕ → Encoded
+abbrev pub run_leaves : Result ℕ RunError → List ℕ → Encoded
 run_leaves answer out = record { says = run_writing answer; out = out }

@@ -1,12 +1,12 @@
 -- What the functions inside this crate ask and leave.
-use Rattle.std.specs.Prelude.{ℕ, ◌+◌, ◌≤◌, Bool, true, List, map, ◌≡◌}
+use Rattle.std.specs.Prelude.{ℕ, ◌+◌, ◌≤◌, Bool, true, List, map, ◌≡◌, Result, Ok, Err}
 use Rattle.rtr_models.specs.declared.RtrProtocolVersion.{RtrProtocolVersion}
-use Rattle.rtr_encode.specs.declared.EncodeAnswer.{EncodeAnswer}
 use Rattle.rtr_room.specs.Room.{is_room, limit_of}
 use Rattle.rtr_room.specs.declared.Record.{Record}
 use Rattle.rtr_receiver.specs.History.{Changed}
 use Rattle.rtr_changes.specs.Changes.{without}
 use Rattle.rtr_cache.specs.Cache.{sent_prefix, encodings}
+use Rattle.rtr_encode.specs.declared.EncodeError.{EncodeError}
 
 -- a change of one side
 abbrev pub sided : Bool → Record → Changed
@@ -25,6 +25,6 @@ abbrev pub Few : ℕ → Type 0
 Few count = count ≤ 16384
 
 -- the place behind what was written
-abbrev pub behind_of : ℕ → EncodeAnswer → ℕ
-behind_of at (EncodeAnswer.Written n) = at + n
-behind_of at (EncodeAnswer.Refused error) = at
+abbrev pub behind_of : ℕ → Result ℕ EncodeError → ℕ
+behind_of at (Ok n) = at + n
+behind_of at (Err error) = at

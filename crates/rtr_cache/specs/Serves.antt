@@ -1,7 +1,7 @@
 -- What a receiver makes of a run: document 02, request Five. A receiver that is ready (`Ready`), fed the run in any pieces, is the one that was served (`served`): `run-serves`
 -- of proofs/Serves.antt, once for both versions, both kinds and every cut. Beside it stand how a run is read by place (`ReadsAs`), its bytes by the RFCs' pictures, and what the
 -- calls promise of the numbers lent to them.
-use Rattle.std.specs.Prelude.{ℕ, ◌+◌, ◌≤◌, true, List, [], ◌∷◌, ◌++◌, ◌≡◌, get_or}
+use Rattle.std.specs.Prelude.{ℕ, ◌+◌, ◌≤◌, true, List, [], ◌∷◌, ◌++◌, ◌≡◌, get_or, Some}
 use Rattle.rtr_models.specs.declared.RtrProtocolVersion.{RtrProtocolVersion}
 use Rattle.rtr_models.specs.declared.RtrProtocolVersion.TheVariants.{V0, V1}
 use Rattle.rtr_models.specs.declared.RtrPdu.{RtrPdu}
@@ -16,7 +16,6 @@ use Rattle.rtr_receiver.specs.Fits.{TableNumbersFit}
 use Rattle.rtr_receiver.specs.Receiver.{Receiver, Stage}
 use Rattle.rtr_receiver.specs.History.{Place, Update, Live, base}
 use Rattle.rtr_receiver.specs.Receives.{stage_at}
-use Rattle.rtr_receiver.specs.declared.LiveTable.{LiveTable}
 use Rattle.rtr_receiver.specs.declared.LoadKind.{LoadKind}
 use Rattle.rtr_receiver.specs.declared.Table.{Table}
 use Rattle.rtr_changes.specs.Changes.{changes}
@@ -39,7 +38,7 @@ pub record Servable (kind : LoadKind) (end : Table) (first second : List Record)
 -- for a change the live table is the first one, of the run's session; for a full run it is any, or none
 abbrev pub Holds : LoadKind → List Record → ℕ → Live → Type 0
 Holds LoadKind.Full first session live = Unit {0}
-Holds LoadKind.Change first session live = (live.records ≡ first) × ((t : Table) × (live.info ≡ LiveTable.Known t) × (t.session ≡ session))
+Holds LoadKind.Change first session live = (live.records ≡ first) × ((t : Table) × (live.info ≡ Some t) × (t.session ≡ session))
 
 -- a receiver that is ready for a run: it is of the run's version, has asked for its kind, and holds no bytes. `full-ask-ready` and `change-ask-ready` (proofs/Asks.antt): an ask
 -- that is written makes it so
@@ -52,7 +51,7 @@ pub record Ready (kind : LoadKind) (v : RtrProtocolVersion) (session : ℕ) (fir
 -- what it then is: Idle with the second table and what the End of Data said; version and note are kept
 abbrev pub served : RtrProtocolVersion → Table → List Record → Receiver → Receiver
 served v end second r =
-    record { version = r.version; stage = Stage.idle; table = LiveTable.Known (sent_as v end); note = r.note; live = second; working = []; held = [] }
+    record { version = r.version; stage = Stage.idle; table = Some (sent_as v end); note = r.note; live = second; working = []; held = [] }
 
 -- the update that has then finished
 abbrev pub update_of : LoadKind → RtrProtocolVersion → Table → List Record → List Record → Update

@@ -15,16 +15,16 @@ ghost use Rattle.rtr_cache.specs.Private.{sided, side_bytes, IsRoom, Few, behind
 ghost use Rattle.rtr_receiver.specs.Fits.{TableNumbersFit};
 ghost use Rattle.rtr_cache.specs.Serves.{RoomFits};
 
-use rtr_changes::{Only, next_only};
+use rtr_changes::{next_only};
 use rtr_encode::{
-    EncodeAnswer, encode_cache_response, encode_end_of_data, encode_ipv4_prefix, encode_ipv6_prefix,
+    encode_cache_response, encode_end_of_data, encode_ipv4_prefix, encode_ipv6_prefix,
 };
 use rtr_models::{
-    Interval, Ipv6Addr, RtrCacheResponse, RtrEndOfData, RtrIPv4Prefix, RtrIPv6Prefix,
+    Ipv6Addr, RtrCacheResponse, RtrEndOfData, RtrIPv4Prefix, RtrIPv6Prefix,
     RtrProtocolVersion,
 };
 use rtr_receiver::{RECORD_LIMIT, Table};
-use rtr_room::{Record, RecordFound, get, rules};
+use rtr_room::{Record, get, rules};
 
 // Why no run is written.
 #[derive(Clone, Copy)]
@@ -45,23 +45,16 @@ impl RunError {
     }
 }
 
-// How many bytes were written, or why none were.
-#[derive(Clone, Copy)]
-pub enum RunAnswer {
-    Written(usize),
-    Refused(RunError),
-}
-
 // ---- PDUs: each is written from a place on, and gives the next place
 
 // Behind what was written.
-fn behind(at: usize, answer: EncodeAnswer) -> usize
+fn behind(at: usize, answer: Result<usize, EncodeError>) -> usize
     requires { behind_of at answer < 18446744073709551616 }
     ensures { result ≡ behind_of at answer }
 {
     match answer {
-        EncodeAnswer::Written(n) => at + n,
-        EncodeAnswer::Refused(_) => at,
+        Ok(n) => at + n,
+        Err(_) => at,
     }
 }
 
@@ -144,12 +137,12 @@ fn put_prefix(
 }
 
 // Version 0 has no intervals.
-fn interval_of(version: RtrProtocolVersion, seconds: u32) -> Interval
+fn interval_of(version: RtrProtocolVersion, seconds: u32) -> Option<u32>
     ensures { result ≡ interval_of version seconds }
 {
     match version {
-        RtrProtocolVersion::V0 => Interval::Absent,
-        RtrProtocolVersion::V1 => Interval::Seconds(seconds),
+        RtrProtocolVersion::V0 => None,
+        RtrProtocolVersion::V1 => Some(seconds),
     }
 }
 
@@ -200,8 +193,8 @@ fn record_of(room: &[u32], i: usize) -> Record
     ensures { result ≡ record_at room.now i }
 {
     match get(room, i) {
-        RecordFound::Found(r) => r,
-        RecordFound::Outside => Record::ipv4(0, 0, 0, 0),
+        Some(r) => r,
+        None => Record::ipv4(0, 0, 0, 0),
     }
 }
 
@@ -213,14 +206,14 @@ fn side_length(a: &[u32], a_count: usize, b: &[u32], b_count: usize) -> usize
     let mut i = 0;
     while i < a_count {
         match next_only(a, a_count, b, b_count, i) {
-            Only::At(p) => {
+            Ok(Some(p)) => {
                 sum += prefix_size(record_of(a, p));
                 i = p + 1;
             }
-            Only::Nothing => {
+            Ok(None) => {
                 return sum;
             }
-            Only::NotARoom => {
+            Err(_) => {
                 return sum;
             }
         }
@@ -245,14 +238,14 @@ fn put_side(
     let mut i = 0;
     while i < a_count {
         match next_only(a, a_count, b, b_count, i) {
-            Only::At(p) => {
+            Ok(Some(p)) => {
                 next = put_prefix(out, next, version, announced, record_of(a, p));
                 i = p + 1;
             }
-            Only::Nothing => {
+            Ok(None) => {
                 return next;
             }
-            Only::NotARoom => {
+            Err(_) => {
                 return next;
             }
         }
@@ -263,10 +256,10 @@ fn put_side(
 // ---- Runs
 
 // Refusal 9.
-fn short(needed: usize) -> RunAnswer
-    ensures { result ≡ RunAnswer.Refused (RunError.OutputShort needed) }
+fn short(needed: usize) -> Result<usize, RunError>
+    ensures { result ≡ Err (RunError.OutputShort needed) }
 {
-    RunAnswer::Refused(RunError::OutputShort { needed })
+    Err(RunError::OutputShort { needed })
 }
 
 // From one table to another: lengths first, so that nothing is written where it does not fit.
@@ -278,7 +271,7 @@ fn write_run(
     second: &[u32],
     second_count: usize,
     out: &mut [u8],
-) -> RunAnswer
+) -> Result<usize, RunError>
     requires { (IsRoom first.now first_count × IsRoom second.now second_count) × (Few first_count × Few second_count) }
     ensures { run_leaves result out.new ≡ puts (run_bytes LoadKind.Change version end (records first_count first.now) (records second_count second.now)) out.old }
 {
@@ -310,7 +303,7 @@ fn write_run(
         first_count,
     );
     put_end(out, at_end, version, end);
-    RunAnswer::Written(needed)
+    Ok(needed)
 }
 
 // A table is lent: a room of a size that a receiver may have, which keeps the room rules.
@@ -331,12 +324,12 @@ pub fn full_run(
     room: &[u32],
     count: usize,
     out: &mut [u8],
-) -> RunAnswer
+) -> Result<usize, RunError>
     ensures says { run_leaves result out.new ≡ full_run_says version end room.now count out.old }
     ensures numbers_fit { TableNumbersFit end × RoomFits room.now }
 {
     if !is_lent(room, count) {
-        return RunAnswer::Refused(RunError::NotARoom);
+        return Err(RunError::NotARoom);
     }
     write_run(version, end, &room[0..0], 0, room, count, out)
 }
@@ -350,15 +343,15 @@ pub fn change_run(
     second: &[u32],
     second_count: usize,
     out: &mut [u8],
-) -> RunAnswer
+) -> Result<usize, RunError>
     ensures says { run_leaves result out.new ≡ change_run_says version end first.now first_count second.now second_count out.old }
     ensures numbers_fit { TableNumbersFit end × (RoomFits first.now × RoomFits second.now) }
 {
     if !is_lent(first, first_count) {
-        return RunAnswer::Refused(RunError::NotARoom);
+        return Err(RunError::NotARoom);
     }
     if !is_lent(second, second_count) {
-        return RunAnswer::Refused(RunError::NotARoom);
+        return Err(RunError::NotARoom);
     }
     write_run(version, end, first, first_count, second, second_count, out)
 }

@@ -1,5 +1,6 @@
 -- What holds of the changes between two tables, over any limit, and of the search for them in two rooms. The argument is in the files beside this
 -- one. Assumes nothing.
+use Rattle.std.specs.Prelude.{Result, Ok, Err, Option, Some, None}
 use Prim.Native.Nat.{ℕ, ◌+◌, ◌≤◌}
 use mathlib.Core.Bool.{true, false, cond}
 use mathlib.Core.List.{List, [], ◌∷◌, ◌++◌, map, append-nil}
@@ -15,12 +16,12 @@ use Rattle.rtr_room.proofs.Laws.Tests.{second-of}
 use Rattle.rtr_receiver.specs.History.{Changed, with_all}
 use Rattle.rtr_receiver.proofs.Laws.{with-all-none}
 use Rattle.rtr_changes.specs.Changes.{without, withdraw, announce, changes, Applies, withdrawn_by, announced_by, how_often, OnlySays, next_only, only_said}
-use Rattle.rtr_changes.specs.declared.Only.{Only}
 use Rattle.rtr_changes.proofs.Without as kept
 use Rattle.rtr_changes.proofs.Applying as applying
 use Rattle.rtr_changes.proofs.Counting as counting
 use Rattle.rtr_changes.proofs.Places as places
 use Rattle.rtr_changes.proofs.Places.{RoomOf, NextAt, Means}
+use Rattle.rtr_room.specs.declared.NotARoom.{NotARoom}
 
 -- ---- Those of one table that are not in another
 
@@ -152,18 +153,18 @@ pub behind-all : {s : List Record} {a : List ℕ} {m : ℕ} (t : List Record) �
 behind-all {s} {a} {m} t first i h = places.behind-all s t a m first i h
 
 module _ {s t : List Record} {a b : List ℕ} {m n : ℕ} (first : RoomOf s a m) (second : RoomOf t b n)
-    (i : ℕ) (answer : Only) (says : only_said answer ≡ next_only a m b n i) where
-  meant : (shape : Only) → answer ≡ shape → Means s t a m i (only_said shape)
+    (i : ℕ) (answer : Result (Option ℕ) NotARoom) (says : only_said answer ≡ next_only a m b n i) where
+  meant : (shape : Result (Option ℕ) NotARoom) → answer ≡ shape → Means s t a m i (only_said shape)
   meant shape e = subst (λ (o : OnlySays). Means s t a m i o) (sym says ∙ ap only_said e) (places.next-means s t a b m n first second i)
 
   -- a place: the next of those of s that are not in t stands there, and behind it come those from the next place on
-  pub next-at : (p : ℕ) → answer ≡ Only.At p → NextAt s t a m i p
-  next-at p e = meant (Only.At p) e
+  pub next-at : (p : ℕ) → answer ≡ Ok (Some p) → NextAt s t a m i p
+  next-at p e = meant (Ok (Some p)) e
 
   -- nothing: none is left
-  pub next-nothing : answer ≡ Only.Nothing → without (drop i s) t ≡ []
-  next-nothing e = meant Only.Nothing e
+  pub next-nothing : answer ≡ Ok None → without (drop i s) t ≡ []
+  next-nothing e = meant (Ok None) e
 
   -- and 22 does not come
-  pub next-never-22 : answer ≡ Only.NotARoom → ⊥
-  next-never-22 e = meant Only.NotARoom e
+  pub next-never-22 : answer ≡ Err (record {}) → ⊥
+  next-never-22 e = meant (Err (record {})) e

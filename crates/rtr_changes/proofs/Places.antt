@@ -1,5 +1,6 @@
 -- The search for the next difference: on any numbers, turn by turn, as the loop of `next_only` goes; and on the rooms of two tables, where a
 -- record stands in the other room exactly where it is in the other table, so that what is found is the next of `without`. Assumes nothing.
+use Rattle.std.specs.Prelude.{Some}
 use Prim.Native.Nat.{ℕ, zero, suc, ◌+◌, ◌-◌, ◌≤◌, ◌<◌}
 use mathlib.Core.Bool.{Bool, true, false, cond, and-false}
 use mathlib.Core.List.{List, [], ◌∷◌}
@@ -13,7 +14,6 @@ use lib.Seq.{drop-cons}
 use Rattle.rtr_room.specs.Table.{in_rule, all_in_rule, is_table, is_in}
 use Rattle.rtr_room.specs.Room.{room, records, record_at, record_found, is_room, limit_of, stands}
 use Rattle.rtr_room.specs.declared.Record.{Record}
-use Rattle.rtr_room.specs.declared.RecordFound.{RecordFound}
 use Rattle.rtr_room.proofs.Laws.{room-length, room-limit, record-of-room, records-of-room, found_inside, in-rule-at, stands-is-in, rules-exactly}
 use Rattle.rtr_room.proofs.Laws.Tests.{second-of}
 use Rattle.rtr_changes.specs.Changes.{without, OnlySays, first_only, next_only}
@@ -89,7 +89,7 @@ pub record NextAt (s t : List Record) (a : List ℕ) (m i p : ℕ) : Type 0 wher
   pub behind : i ≤ p
   pub inside : p < length s
   pub below : p < m
-  pub there : record_found a p ≡ RecordFound.Found (record_at a p)
+  pub there : record_found a p ≡ Some (record_at a p)
   pub in-rule : in_rule (record_at a p) ≡ true
   pub rest : without (drop i s) t ≡ record_at a p ∷ without (drop (suc p) s) t
 
@@ -100,7 +100,7 @@ Means s t a m i none_only = without (drop i s) t ≡ []
 Means s t a m i (refused k) = ⊥
 
 module _ (s t : List Record) (a b : List ℕ) (m n : ℕ) (first : RoomOf s a m) (second : RoomOf t b n) where
-  is-there : (i : ℕ) → i < length s → record_found a i ≡ RecordFound.Found (record_at a i)
+  is-there : (i : ℕ) → i < length s → record_found a i ≡ Some (record_at a i)
   is-there i l = found_inside a i (omega (arith, ap length first.is-room, room-length first.limit s first.fits, first.fits))
 
   record_is : (i : ℕ) → i < length s → record_at a i ≡ get_or s i (record_at a i)

@@ -1,12 +1,12 @@
 -- What changed between two tables: document 02, request Four ("withdrawals then announcements, .. both in table order"). A change is `Changed` of
 -- rtr_receiver's History page, and applies by its `applied`. That the changes make the new table of the old one is `changes-apply` of
 -- proofs/Laws.antt.
-use Rattle.std.specs.Prelude.{ℕ, zero, suc, ◌-◌, true, false, cond, ◌&&◌, List, [], ◌∷◌, ◌++◌, map, ◌≡◌, leb}
+use Rattle.std.specs.Prelude.{ℕ, zero, suc, ◌-◌, true, false, cond, ◌&&◌, List, [], ◌∷◌, ◌++◌, map, ◌≡◌, leb, Result, Ok, Err, Option, Some, None}
 use Rattle.rtr_room.specs.Table.{Change, same, is_in}
 use Rattle.rtr_room.specs.Room.{record_at, stands, limit_of}
 use Rattle.rtr_room.specs.declared.Record.{Record}
 use Rattle.rtr_receiver.specs.History.{Changed, applied}
-use Rattle.rtr_changes.specs.declared.Only.{Only}
+use Rattle.rtr_room.specs.declared.NotARoom.{NotARoom}
 
 -- ---- the changes
 
@@ -68,10 +68,10 @@ unfoldable pub next_only : List ℕ → ℕ → List ℕ → ℕ → ℕ → Onl
 next_only a a_count b b_count from = cond (leb a_count (limit_of a) && leb b_count (limit_of b)) (first_only (a_count - from) a b b_count from) (refused 22)
 
 -- what the code's answer says
-abbrev pub only_said : Only → OnlySays
-only_said (Only.At p) = only_at p
-only_said Only.Nothing = none_only
-only_said Only.NotARoom = refused 22
+abbrev pub only_said : Result (Option ℕ) NotARoom → OnlySays
+only_said (Ok (Some p)) = only_at p
+only_said (Ok None) = none_only
+only_said (Err refusal) = refused 22
 
 -- document 01's number of it, or 0 where it is no refusal
 abbrev pub only_number : OnlySays → ℕ

@@ -5,25 +5,17 @@ ghost use Rattle.std.specs.Prelude.{◌+◌, ◌*◌, ◌≤◌, ◌≡◌, leng
 ghost use Rattle.rtr_room.specs.Room.{record_at, stands, limit_of};
 ghost use Rattle.rtr_changes.specs.Changes.{next_only, only_said, only_number};
 
-use rtr_room::{LookUp, Record, RecordFound, get, look_up};
+use rtr_room::{Record, get, look_up};
 
-// The place of a record that the other room has not, that there is none, or that a count is over its limit.
-#[derive(Clone, Copy)]
-pub enum Only {
-    At(usize),
-    Nothing,
-    NotARoom,
-}
-
-impl Only {
+impl Result<Option<usize>, NotARoom> {
     // Document 01's number of it, or 0 where it is no refusal.
     pub fn number(self) -> u8
         ensures { result ≡ only_number (only_said self) }
     {
         match self {
-            Only::At(_) => 0,
-            Only::Nothing => 0,
-            Only::NotARoom => 22,
+            Ok(Some(_)) => 0,
+            Ok(None) => 0,
+            Err(_) => 22,
         }
     }
 }
@@ -34,8 +26,8 @@ fn record_of(room: &[u32], i: usize) -> Record
     ensures { result ≡ record_at room.now i }
 {
     match get(room, i) {
-        RecordFound::Found(r) => r,
-        RecordFound::Outside => Record::ipv4(0, 0, 0, 0),
+        Some(r) => r,
+        None => Record::ipv4(0, 0, 0, 0),
     }
 }
 
@@ -45,28 +37,28 @@ fn is_there(room: &[u32], count: usize, r: Record) -> bool
     ensures { result ≡ stands room.now count r }
 {
     match look_up(room, count, r) {
-        LookUp::At(_) => true,
-        LookUp::Missing(_) => false,
-        LookUp::NotARoom => false,
+        Ok(Position::At(_)) => true,
+        Ok(Position::Missing(_)) => false,
+        Err(_) => false,
     }
 }
 
 // The first place of a, from one on, whose record does not stand in b.
-pub fn next_only(a: &[u32], a_count: usize, b: &[u32], b_count: usize, from: usize) -> Only
+pub fn next_only(a: &[u32], a_count: usize, b: &[u32], b_count: usize, from: usize) -> Result<Option<usize>, NotARoom>
     ensures { only_said result ≡ next_only a.now a_count b.now b_count from }
 {
     if a_count > a.len() / 6 {
-        return Only::NotARoom;
+        return Err(NotARoom);
     }
     if b_count > b.len() / 6 {
-        return Only::NotARoom;
+        return Err(NotARoom);
     }
     let mut i = from;
     while i < a_count {
         if !is_there(b, b_count, record_of(a, i)) {
-            return Only::At(i);
+            return Ok(Some(i));
         }
         i += 1;
     }
-    Only::Nothing
+    Ok(None)
 }

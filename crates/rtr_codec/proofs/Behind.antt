@@ -1,5 +1,6 @@
 -- Bytes behind a PDU do not change what is read of it. A number that lies in s is the same in s ++ t, so each check goes the same way;
 -- where a check passes, what it tested says that the fields behind it lie in s too. Over every reading. Assumes nothing.
+use Rattle.std.specs.Prelude.{Option, Some, None}
 use Prim.Native.Nat.{ℕ, zero, suc, ◌≤◌, ◌+◌}
 use mathlib.Core.Bool.{Bool, true, false, cond}
 use mathlib.Core.List.{List, [], ◌∷◌, ◌++◌}
@@ -16,9 +17,6 @@ use Rattle.rtr_models.specs.declared.RtrPduType.{RtrPduType}
 use Rattle.rtr_models.specs.declared.RtrPduType.TheVariants.{SerialNotify, SerialQuery, ResetQuery, CacheResponse, IPv4Prefix, IPv6Prefix, EndOfData, CacheReset, RouterKey, ErrorReport}
 use Rattle.rtr_models.specs.declared.RtrErrorCode.{RtrErrorCode}
 use Rattle.rtr_models.specs.declared.Place.{Place}
-use Rattle.rtr_models.specs.declared.VersionFound.{VersionFound}
-use Rattle.rtr_models.specs.declared.TypeFound.{TypeFound}
-use Rattle.rtr_models.specs.declared.CodeFound.{CodeFound}
 use Rattle.rtr_codec.specs.Bytes.{number}
 use Rattle.rtr_codec.specs.Reading.{Reading}
 use Rattle.rtr_codec.specs.Layout.{Label, Field, widths, length_of, same, place, place_from, value_from, value_of}
@@ -100,10 +98,10 @@ module _ (s t : List ℕ) (large : 8 ≤ length s) (fits : header_length s ≤ l
       (same_check (leb (16 + e) (header_length s)) 4 _ _ _
       (λ q. simp (inside (16 + e) (leb-true (16 + e) (header_length s) q) (12 + e) 4 (omega arith)) (text-behind R v c e (number s (12 + e) 4))))
 
-  code-behind : (R : Reading) (v : RtrProtocolVersion) (n : ℕ) (f : CodeFound) → 16 ≤ header_length s → read_code R v n f (s ++ t) ≡ read_code R v n f s
+  code-behind : (R : Reading) (v : RtrProtocolVersion) (n : ℕ) (f : Option RtrErrorCode) → 16 ≤ header_length s → read_code R v n f (s ++ t) ≡ read_code R v n f s
   unfolding read_code
-  code-behind R v n CodeFound.Unknown h = refl
-  code-behind R v n (CodeFound.Known c) h = simp (inside 16 h 8 4 (omega arith), encapsulated-behind R v c (number s 8 4))
+  code-behind R v n None h = refl
+  code-behind R v n (Some c) h = simp (inside 16 h 8 4 (omega arith), encapsulated-behind R v c (number s 8 4))
 
   as-behind : (R : Reading) (v : RtrProtocolVersion) (type : RtrPduType) → read_as R v type (s ++ t) ≡ read_as R v type s
   unfolding read_as read_serial_notify read_serial_query read_reset_query read_cache_response read_ipv4_prefix read_ipv6_prefix read_end_of_data read_cache_reset read_router_key read_error_report
@@ -142,13 +140,13 @@ module _ (s t : List ℕ) (large : 8 ≤ length s) (fits : header_length s ≤ l
       (same_check (leb 16 (header_length s)) 4 _ _ _
       (λ e. simp (number_behind s t 2 2 (omega arith)) (code-behind R v (number s 2 2) (code_found (number s 2 2)) (leb-true 16 (header_length s) e))))
 
-  typed-behind : (R : Reading) (v : RtrProtocolVersion) (n : ℕ) (f : TypeFound) → read_typed R v n f (s ++ t) ≡ read_typed R v n f s
+  typed-behind : (R : Reading) (v : RtrProtocolVersion) (n : ℕ) (f : Option RtrPduType) → read_typed R v n f (s ++ t) ≡ read_typed R v n f s
   unfolding read_typed
-  typed-behind R v n TypeFound.Unknown = refl
-  typed-behind R v n (TypeFound.Known type) = as-behind R v type
+  typed-behind R v n None = refl
+  typed-behind R v n (Some type) = as-behind R v type
 
-  pub versioned-behind : (R : Reading) (n : ℕ) (f : VersionFound) → read_versioned R n f (s ++ t) ≡ read_versioned R n f s
+  pub versioned-behind : (R : Reading) (n : ℕ) (f : Option RtrProtocolVersion) → read_versioned R n f (s ++ t) ≡ read_versioned R n f s
   unfolding read_versioned
-  versioned-behind R n VersionFound.Unknown = refl
-  versioned-behind R n (VersionFound.Known v) =
+  versioned-behind R n None = refl
+  versioned-behind R n (Some v) =
       simp (number_behind s t 1 1 (omega arith)) (typed-behind R v (number s 1 1) (type_found (number s 1 1)))

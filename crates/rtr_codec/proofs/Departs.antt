@@ -1,6 +1,7 @@
 -- Two readings that differ only in departures that do not apply to a slice read it alike. A check before a switch has passed where the switch is asked; the
 -- version and the type that were found are the header's (the tables' laws), so each switch is asked only where its departure applies, or where both of its ways
 -- give the same test. Assumes nothing.
+use Rattle.std.specs.Prelude.{Option, Some, None}
 use Prim.Native.Nat.{ℕ, ◌≤◌, ◌+◌}
 use mathlib.Core.Bool.{Bool, true, false}
 use mathlib.Core.List.{List}
@@ -16,9 +17,6 @@ use Rattle.rtr_models.specs.declared.RtrProtocolVersion.TheVariants.{V0, V1}
 use Rattle.rtr_models.specs.declared.RtrPduType.{RtrPduType}
 use Rattle.rtr_models.specs.declared.RtrPduType.TheVariants.{SerialNotify, SerialQuery, ResetQuery, CacheResponse, IPv4Prefix, IPv6Prefix, EndOfData, CacheReset, RouterKey, ErrorReport}
 use Rattle.rtr_models.specs.declared.RtrErrorCode.{RtrErrorCode}
-use Rattle.rtr_models.specs.declared.VersionFound.{VersionFound}
-use Rattle.rtr_models.specs.declared.TypeFound.{TypeFound}
-use Rattle.rtr_models.specs.declared.CodeFound.{CodeFound}
 use Rattle.rtr_models.proofs.Laws.{version-known, type-known, code-known, code-at-most-8}
 use Rattle.rtr_codec.specs.Bytes.{number}
 use Rattle.rtr_codec.specs.Reading.{Reading}
@@ -98,11 +96,11 @@ module _ (R R' : Reading) (s : List ℕ) (alike : Alike R R' s) (here : there s 
   unfolding read_encapsulated
   encapsulated-alike r v c = simp (text-alike r v c)
 
-  by_code : (v : RtrProtocolVersion) → number s 0 1 ≡ version_number v → number s 1 1 ≡ 10 → leb 16 (header_length s) ≡ true → (f : CodeFound) → code_found (number s 2 2) ≡ f
+  by_code : (v : RtrProtocolVersion) → number s 0 1 ≡ version_number v → number s 1 1 ≡ 10 → leb 16 (header_length s) ≡ true → (f : Option RtrErrorCode) → code_found (number s 2 2) ≡ f
       → read_code R v (number s 2 2) f s ≡ read_code R' v (number s 2 2) f s
   unfolding read_code
-  by_code v q t l CodeFound.Unknown e = refl
-  by_code v q t l (CodeFound.Known c) e =
+  by_code v q t l None e = refl
+  by_code v q t l (Some c) e =
       let small : number s 2 2 ≤ 8 = omega (arith, (code-known (number s 2 2) c).0 e, code-at-most-8 c) in
       need-alike _ _ 7 _ _ _ (code_alike R.code_eight_in_v0 R'.code_eight_in_v0 v (number s 2 2) small (λ z c. switch code_eight_in_v0 (code-applies R s here (q ∙ z) t l c)))
       (λ x. encapsulated-alike (reported-is R s v q t x) v c)
@@ -125,15 +123,15 @@ module _ (R R' : Reading) (s : List ℕ) (alike : Alike R R' s) (here : there s 
   as-alike V1 RouterKey q t = ap (λ (b : Bool). read_key (key_fields b) s) (switch key_by_crate (key-applies R s here q t))
   as-alike v ErrorReport q t = report-alike v q t
 
-  by-type : (v : RtrProtocolVersion) → number s 0 1 ≡ version_number v → (f : TypeFound) → type_found (number s 1 1) ≡ f → read_typed R v (number s 1 1) f s ≡ read_typed R' v (number s 1 1) f s
+  by-type : (v : RtrProtocolVersion) → number s 0 1 ≡ version_number v → (f : Option RtrPduType) → type_found (number s 1 1) ≡ f → read_typed R v (number s 1 1) f s ≡ read_typed R' v (number s 1 1) f s
   unfolding read_typed
-  by-type v q TypeFound.Unknown e = refl
-  by-type v q (TypeFound.Known type) e = as-alike v type q ((type-known (number s 1 1) type).0 e)
+  by-type v q None e = refl
+  by-type v q (Some type) e = as-alike v type q ((type-known (number s 1 1) type).0 e)
 
-  by-version : (f : VersionFound) → version_found (number s 0 1) ≡ f → read_versioned R (number s 0 1) f s ≡ read_versioned R' (number s 0 1) f s
+  by-version : (f : Option RtrProtocolVersion) → version_found (number s 0 1) ≡ f → read_versioned R (number s 0 1) f s ≡ read_versioned R' (number s 0 1) f s
   unfolding read_versioned
-  by-version VersionFound.Unknown e = refl
-  by-version (VersionFound.Known v) e = by-type v ((version-known (number s 0 1) v).0 e) (type_found (number s 1 1)) refl
+  by-version None e = refl
+  by-version (Some v) e = by-type v ((version-known (number s 0 1) v).0 e) (type_found (number s 1 1)) refl
 
 pub read_alike : (R R' : Reading) (s : List ℕ) → Alike R R' s → read R s ≡ read R' s
 unfolding read

@@ -1,6 +1,7 @@
 -- Where a departure applies, readings that differ in it differ in their verdicts: the converse of Departs. Where it applies, the checks before its switch have
 -- passed, so the verdict is what the switch gives: another length expected or another place for a key, 7 for a code, 4 for bytes behind a text. Assumes
 -- nothing.
+use Rattle.std.specs.Prelude.{Option, Some, None}
 use Prim.Native.Nat.{ℕ, ◌+◌, ◌≤◌}
 use mathlib.Core.Bool.{Bool, true, false, cond, ◌&&◌, ◌||◌, and-false}
 use mathlib.Core.List.{List, [], ◌∷◌}
@@ -17,7 +18,6 @@ use Rattle.rtr_models.specs.declared.RtrProtocolVersion.{RtrProtocolVersion}
 use Rattle.rtr_models.specs.declared.RtrProtocolVersion.TheVariants.{V0, V1}
 use Rattle.rtr_models.specs.declared.RtrErrorCode.{RtrErrorCode}
 use Rattle.rtr_models.specs.declared.RtrErrorCode.TheVariants.{CorruptData, InternalError, NoDataAvailable, InvalidRequest, UnsupportedProtocolVersion, UnsupportedPduType, WithdrawalOfUnknownRecord, DuplicateAnnouncementReceived, UnexpectedProtocolVersion}
-use Rattle.rtr_models.specs.declared.CodeFound.{CodeFound}
 use Rattle.rtr_models.specs.declared.RtrRouterKey.{RtrRouterKey}
 use Rattle.rtr_models.specs.declared.RtrPdu.{RtrPdu}
 use Rattle.rtr_codec.specs.Bytes.{number}
@@ -56,12 +56,12 @@ same_key b b' s e = go b b' e
 -- ---- A report
 
 -- a code that is in a list is known
-code-there : (n : ℕ) → n ≤ 8 → (c : RtrErrorCode) × (code_found n ≡ CodeFound.Known c)
+code-there : (n : ℕ) → n ≤ 8 → (c : RtrErrorCode) × (code_found n ≡ Some c)
 code-there n h = go (code_found n) refl
   where
-    go : (f : CodeFound) → code_found n ≡ f → (c : RtrErrorCode) × (code_found n ≡ CodeFound.Known c)
-    go (CodeFound.Known c) e = (c, e)
-    go CodeFound.Unknown e =
+    go : (f : Option RtrErrorCode) → code_found n ≡ f → (c : RtrErrorCode) × (code_found n ≡ Some c)
+    go (Some c) e = (c, e)
+    go None e =
         let other = (code-unknown n).0 e in
         let h1 : 1 ≤ n = omega (arith, other CorruptData) in
         let h2 : 2 ≤ n = omega (arith, other InternalError) in
@@ -143,7 +143,7 @@ module _ (s : List ℕ) (header : leb 8 (length s) ≡ true) (whole : leb (heade
   unfolding read read_versioned read_typed read_as read_router_key
   key-read R v t = simp (header, whole, v, t)
 
-  report-read : (R : Reading) (v : RtrProtocolVersion) (c : RtrErrorCode) → number s 0 1 ≡ version_number v → number s 1 1 ≡ 10 → leb 16 (header_length s) ≡ true → code_found (number s 2 2) ≡ CodeFound.Known c
+  report-read : (R : Reading) (v : RtrProtocolVersion) (c : RtrErrorCode) → number s 0 1 ≡ version_number v → number s 1 1 ≡ 10 → leb 16 (header_length s) ≡ true → code_found (number s 2 2) ≡ Some c
       → read R s ≡ need (code_in R.code_eight_in_v0 v (number s 2 2)) 7 (number s 2 2 ∷ []) (read_encapsulated R v c (number s 8 4) s)
   unfolding read read_versioned read_typed read_as read_error_report read_code
   report-read R v c q t l k = simp (header, whole, (version-known (number s 0 1) v).1 q, t, l, k)
@@ -168,7 +168,7 @@ module _ (s : List ℕ) (header : leb 8 (length s) ≡ true) (whole : leb (heade
 
     codes-alike : number s 0 1 ≡ 0 → number s 1 1 ≡ 10 → leb 16 (header_length s) ≡ true → number s 2 2 ≡ 8 → R.code_eight_in_v0 ≡ R'.code_eight_in_v0
     codes-alike v t l c =
-        let known : code_found (number s 2 2) ≡ CodeFound.Known UnexpectedProtocolVersion = (code-known (number s 2 2) UnexpectedProtocolVersion).1 c in
+        let known : code_found (number s 2 2) ≡ Some UnexpectedProtocolVersion = (code-known (number s 2 2) UnexpectedProtocolVersion).1 c in
         let same = same_code (code_in R.code_eight_in_v0 V0 (number s 2 2)) (code_in R'.code_eight_in_v0 V0 (number s 2 2)) (number s 2 2 ∷ []) _ _
         (past-code R V0 UnexpectedProtocolVersion (number s 8 4) s) (past-code R' V0 UnexpectedProtocolVersion (number s 8 4) s)
         (sym (report-read R V0 UnexpectedProtocolVersion v t l known) ∙ agree ∙ report-read R' V0 UnexpectedProtocolVersion v t l known) in

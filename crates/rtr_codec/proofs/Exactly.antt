@@ -1,5 +1,6 @@
 -- A slice is read as a PDU of n bytes exactly if the PDU stands in its first n bytes (`read-exactly`). One way: a check (`need`) that passes says what it tested, so each kind follows from its last line. The other: each check
 -- passes by what stands there. Assumes nothing.
+use Rattle.std.specs.Prelude.{Option, Some, None, ⊤}
 use Prim.Native.Nat.{ℕ, ◌+◌, ◌-◌, ◌≤◌}
 use mathlib.Core.Bool.{Bool, true, false, ◌&&◌}
 use mathlib.Core.List.{List}
@@ -15,9 +16,6 @@ use Rattle.rtr_models.specs.Values.{type_of, version_of}
 use Rattle.rtr_models.proofs.Laws.{version-known, type-known, code-known}
 use Rattle.rtr_models.specs.declared.RtrProtocolVersion.{RtrProtocolVersion}
 use Rattle.rtr_models.specs.declared.RtrProtocolVersion.TheVariants.{V0, V1}
-use Rattle.rtr_models.specs.declared.VersionFound.{VersionFound}
-use Rattle.rtr_models.specs.declared.TypeFound.{TypeFound}
-use Rattle.rtr_models.specs.declared.CodeFound.{CodeFound}
 use Rattle.rtr_models.specs.declared.RtrPduType.{RtrPduType}
 use Rattle.rtr_models.specs.declared.RtrPduType.TheVariants.{SerialNotify, SerialQuery, ResetQuery, CacheResponse, IPv4Prefix, IPv6Prefix, EndOfData, CacheReset, RouterKey, ErrorReport}
 use Rattle.rtr_models.specs.declared.RtrEndOfData.{RtrEndOfData}
@@ -32,6 +30,7 @@ use Rattle.rtr_codec.specs.Read.{Verdict, need, ends, code_in, header_length, ke
 use Rattle.rtr_codec.specs.Read.Verdict.{accepted, refused}
 use Rattle.rtr_codec.specs.Stands.{EndStands, KeyStands, ReportStands, KindStands, Stands}
 use Rattle.rtr_codec.proofs.Laws.{read-consumes}
+use Rattle.rtr_models.specs.declared.RtrErrorCode.{RtrErrorCode}
 
 -- check 6 of a prefix
 in_order : (a b limit : ℕ) → leb a b && leb b limit ≡ true → (a ≤ b) × (b ≤ limit)
@@ -74,10 +73,10 @@ module _ (R : Reading) (s : List ℕ) where
   key-stands true e = (leb-true 34 (header_length s) e, refl, refl, refl, refl)
   key-stands false e = (leb-true 32 (header_length s) e, refl, refl, refl, refl)
 
-  code-stands : (v : RtrProtocolVersion) (f : CodeFound) → code_found (number s 2 2) ≡ f → number s 0 1 ≡ version_number v → number s 1 1 ≡ 10 → StandsIn (read_code R v (number s 2 2) f s)
+  code-stands : (v : RtrProtocolVersion) (f : Option RtrErrorCode) → code_found (number s 2 2) ≡ f → number s 0 1 ≡ version_number v → number s 1 1 ≡ 10 → StandsIn (read_code R v (number s 2 2) f s)
   unfolding read_code read_encapsulated read_text
-  code-stands v CodeFound.Unknown q pv pt = tt
-  code-stands v (CodeFound.Known c) q pv pt =
+  code-stands v None q pv pt = tt
+  code-stands v (Some c) q pv pt =
       let e : ℕ = number s 8 4 in
       let t : ℕ = number s (12 + e) 4 in
       checked (code_in R.code_eight_in_v0 v (number s 2 2)) 7 _ _
@@ -112,15 +111,15 @@ module _ (R : Reading) (s : List ℕ) where
       checked (leb (length_of (key_fields R.key_by_crate)) (header_length s)) 4 _ _ (λ e. (pv, pt, (refl, key-stands R.key_by_crate e)))
   as-stands v ErrorReport pv pt = checked (leb 16 (header_length s)) 4 _ _ (λ _. code-stands v (code_found (number s 2 2)) refl pv pt)
 
-  typed-stands : (v : RtrProtocolVersion) (f : TypeFound) → type_found (number s 1 1) ≡ f → number s 0 1 ≡ version_number v → StandsIn (read_typed R v (number s 1 1) f s)
+  typed-stands : (v : RtrProtocolVersion) (f : Option RtrPduType) → type_found (number s 1 1) ≡ f → number s 0 1 ≡ version_number v → StandsIn (read_typed R v (number s 1 1) f s)
   unfolding read_typed
-  typed-stands v TypeFound.Unknown e pv = tt
-  typed-stands v (TypeFound.Known t) e pv = as-stands v t pv ((type-known (number s 1 1) t).0 e)
+  typed-stands v None e pv = tt
+  typed-stands v (Some t) e pv = as-stands v t pv ((type-known (number s 1 1) t).0 e)
 
-  versioned-stands : (f : VersionFound) → version_found (number s 0 1) ≡ f → StandsIn (read_versioned R (number s 0 1) f s)
+  versioned-stands : (f : Option RtrProtocolVersion) → version_found (number s 0 1) ≡ f → StandsIn (read_versioned R (number s 0 1) f s)
   unfolding read_versioned
-  versioned-stands VersionFound.Unknown e = tt
-  versioned-stands (VersionFound.Known v) e = typed-stands v (type_found (number s 1 1)) refl ((version-known (number s 0 1) v).0 e)
+  versioned-stands None e = tt
+  versioned-stands (Some v) e = typed-stands v (type_found (number s 1 1)) refl ((version-known (number s 0 1) v).0 e)
 
   read-stands : StandsIn (read R s)
   unfolding read
@@ -163,7 +162,7 @@ module _ (R : Reading) (s : List ℕ) where
       let e : ℕ = number s 8 4 in
       let t : ℕ = number s (12 + e) 4 in
       let within : 16 + e + t ≤ header_length s = ends-within R.bytes_behind_text (16 + e + t) (header_length s) k.4 in
-      let code : code_found (number s 2 2) ≡ CodeFound.Known p.error_code = (code-known (number s 2 2) p.error_code).1 k.0 in
+      let code : code_found (number s 2 2) ≡ Some p.error_code = (code-known (number s 2 2) p.error_code).1 k.0 in
       simp (code, k.1, le-leb 16 (header_length s) (omega arith), le-leb (16 + e) (header_length s) (omega arith), k.4, k.5)
       (λ i. accepted (RtrPdu.ErrorReport (record { version = p.version; error_code = p.error_code; erroneous_pdu = k.2 i; error_text = k.3 i })) (header_length s))
 

@@ -1,5 +1,6 @@
 -- Ignored bytes change no verdict (`ignored-bytes-ignored`). By the type: where a type has ignored bytes, every number that reading looks at stands in the others; where it has none, the slices are the same.
 -- Assumes nothing.
+use Rattle.std.specs.Prelude.{Option, Some, None}
 use Prim.Native.Nat.{ℕ, zero, suc, ◌+◌, ◌<◌}
 use mathlib.Core.Bool.{Bool, true, false, cond, false≢true}
 use mathlib.Core.List.{List, [], ◌∷◌, ◌++◌}
@@ -15,7 +16,6 @@ use Rattle.rtr_models.specs.Codes.{type_number, version_found}
 use Rattle.rtr_models.proofs.Laws.{type-known}
 use Rattle.rtr_models.specs.declared.RtrProtocolVersion.{RtrProtocolVersion}
 use Rattle.rtr_models.specs.declared.RtrProtocolVersion.TheVariants.{V0, V1}
-use Rattle.rtr_models.specs.declared.VersionFound.{VersionFound}
 use Rattle.rtr_models.specs.declared.RtrPduType.{RtrPduType}
 use Rattle.rtr_models.specs.declared.RtrPduType.TheVariants.{SerialNotify, SerialQuery, ResetQuery, CacheResponse, IPv4Prefix, IPv6Prefix, EndOfData, CacheReset, RouterKey, ErrorReport}
 use Rattle.rtr_codec.specs.Bytes.{number}
@@ -42,9 +42,9 @@ module _ (R : Reading) (s t : List ℕ) (long : length s ≡ length t) where
       (λ (x : Verdict). need (leb 8 (length t)) 1 (length t ∷ 8 ∷ []) (need (leb (number t 4 4) (length t)) 1 (length t ∷ number t 4 4 ∷ []) x))
       (go (version_found (number t 0 1))))
     where
-      go : (f : VersionFound) → read_versioned R (number t 0 1) f s ≡ read_versioned R (number t 0 1) f t
-      go VersionFound.Unknown = refl
-      go (VersionFound.Known v) = simp ((type-known (number s 1 1) type).1 ps, (type-known (number t 1 1) type).1 pt) (kinds v)
+      go : (f : Option RtrProtocolVersion) → read_versioned R (number t 0 1) f s ≡ read_versioned R (number t 0 1) f t
+      go None = refl
+      go (Some v) = simp ((type-known (number s 1 1) type).1 ps, (type-known (number t 1 1) type).1 pt) (kinds v)
 
   -- the numbers of one byte and of four, byte by byte
   one : (at : ℕ) → get_or s at 0 ≡ get_or t at 0 → number s at 1 ≡ number t at 1

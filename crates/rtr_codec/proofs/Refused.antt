@@ -1,5 +1,6 @@
 -- A slice is refused by a number with values exactly in the cases of specs/Refusals.antt (`refused-exactly`). One way: a check that fails gives its case, those before it being passed, in the order in which `read`
 -- has them. The other: by what a case says of the bytes each check before it passes and its own fails. Assumes nothing.
+use Rattle.std.specs.Prelude.{Option, Some, None, ⊤}
 use Prim.Native.Nat.{ℕ, zero, suc, ◌+◌, ◌≤◌, ◌<◌}
 use mathlib.Core.Bool.{Bool, true, false, cond, ◌&&◌, ◌||◌}
 use mathlib.Core.List.{List, [], ◌∷◌}
@@ -14,9 +15,6 @@ use Rattle.rtr_models.specs.Codes.{version_number, type_number, code_number, ver
 use Rattle.rtr_models.proofs.Laws.{version-known, version-unknown, type-known, type-unknown, code-known, code-unknown}
 use Rattle.rtr_models.specs.declared.RtrProtocolVersion.{RtrProtocolVersion}
 use Rattle.rtr_models.specs.declared.RtrProtocolVersion.TheVariants.{V0, V1}
-use Rattle.rtr_models.specs.declared.VersionFound.{VersionFound}
-use Rattle.rtr_models.specs.declared.TypeFound.{TypeFound}
-use Rattle.rtr_models.specs.declared.CodeFound.{CodeFound}
 use Rattle.rtr_models.specs.declared.RtrErrorCode.{RtrErrorCode}
 use Rattle.rtr_models.specs.declared.RtrErrorCode.TheVariants.{CorruptData, InternalError, NoDataAvailable, InvalidRequest, UnsupportedProtocolVersion, UnsupportedPduType, WithdrawalOfUnknownRecord, DuplicateAnnouncementReceived, UnexpectedProtocolVersion}
 use Rattle.rtr_models.specs.declared.RtrPduType.{RtrPduType}
@@ -207,17 +205,17 @@ module _ (R : Reading) (s : List ℕ) where
   sized-least : (x y : ℕ) → Allowed s → expected R s ≡ x → number s 1 1 ≡ y → 9 ≤ y → leb x (number s 4 4) ≡ true → Sized R s
   sized-least x y al ex ty ge holds = (al, λ h. absurd (omega (arith, h, ty, ge)), λ _. omega (arith, leb-true x (number s 4 4) holds, ex))
 
-  code-explains : (v : RtrProtocolVersion) (f : CodeFound) → code_found (number s 2 2) ≡ f → Sized R s → number s 0 1 ≡ version_number v → number s 1 1 ≡ 10
+  code-explains : (v : RtrProtocolVersion) (f : Option RtrErrorCode) → code_found (number s 2 2) ≡ f → Sized R s → number s 0 1 ≡ version_number v → number s 1 1 ≡ 10
       → Explains (read_code R v (number s 2 2) f s)
   unfolding header_length read_code read_encapsulated read_text
-  code-explains v CodeFound.Unknown q sz pv pt = code sz pt (go (leb (number s 2 2) 8) refl)
+  code-explains v None q sz pv pt = code sz pt (go (leb (number s 2 2) 8) refl)
     where
       go : (p : Bool) → leb (number s 2 2) 8 ≡ p → last_code_in R s < number s 2 2
       go true e =
           let c = code_of (number s 2 2) (leb-true (number s 2 2) 8 e) in
           absurd ((code-unknown (number s 2 2)).0 q c.0 c.1)
       go false e = omega (arith, leb-false (number s 2 2) 8 e, last-is R.code_eight_in_v0 v (number s 0 1) pv, last-at-most-8 R.code_eight_in_v0 v)
-  code-explains v (CodeFound.Known c) q sz pv pt =
+  code-explains v (Some c) q sz pv pt =
       let n : ℕ = number s 2 2 in
       let e : ℕ = number s 8 4 in
       let t : ℕ = number s (12 + e) 4 in
@@ -275,9 +273,9 @@ module _ (R : Reading) (s : List ℕ) where
       checked (leb 16 (number s 4 4)) 4 _ _ (short 16 10 al ex pt (omega arith))
       (λ size. code-explains v (code_found (number s 2 2)) refl (sized-least 16 10 al ex pt (omega arith) size) pv pt)
 
-  typed-explains : (v : RtrProtocolVersion) (f : TypeFound) → type_found (number s 1 1) ≡ f → Complete s → number s 0 1 ≡ version_number v → Explains (read_typed R v (number s 1 1) f s)
+  typed-explains : (v : RtrProtocolVersion) (f : Option RtrPduType) → type_found (number s 1 1) ≡ f → Complete s → number s 0 1 ≡ version_number v → Explains (read_typed R v (number s 1 1) f s)
   unfolding read_typed
-  typed-explains v TypeFound.Unknown e c pv = go (leb (number s 1 1) 10) (eqb (number s 1 1) 5) refl refl
+  typed-explains v None e c pv = go (leb (number s 1 1) 10) (eqb (number s 1 1) 5) refl refl
     where
       versioned : Versioned s
       versioned = (c, omega (arith, pv, version-small v))
@@ -288,16 +286,16 @@ module _ (R : Reading) (s : List ℕ) where
       go true false h five =
           let t = type-of (number s 1 1) (leb-true (number s 1 1) 10 h) (eqb-false (number s 1 1) 5 five) in
           absurd ((type-unknown (number s 1 1)).0 e t.0 t.1)
-  typed-explains v (TypeFound.Known t) e c pv = as-explains v t c pv ((type-known (number s 1 1) t).0 e)
+  typed-explains v (Some t) e c pv = as-explains v t c pv ((type-known (number s 1 1) t).0 e)
 
-  versioned-explains : (f : VersionFound) → version_found (number s 0 1) ≡ f → Complete s → Explains (read_versioned R (number s 0 1) f s)
+  versioned-explains : (f : Option RtrProtocolVersion) → version_found (number s 0 1) ≡ f → Complete s → Explains (read_versioned R (number s 0 1) f s)
   unfolding read_versioned
-  versioned-explains VersionFound.Unknown e c = go (leb (number s 0 1) 1) refl
+  versioned-explains None e c = go (leb (number s 0 1) 1) refl
     where
       go : (p : Bool) → leb (number s 0 1) 1 ≡ p → Refusal R s 2 (number s 0 1 ∷ [])
       go true h = let v = version_of (number s 0 1) (leb-true (number s 0 1) 1 h) in absurd ((version-unknown (number s 0 1)).0 e v.0 v.1)
       go false h = version c (leb-false (number s 0 1) 1 h)
-  versioned-explains (VersionFound.Known v) e c = typed-explains v (type_found (number s 1 1)) refl c ((version-known (number s 0 1) v).0 e)
+  versioned-explains (Some v) e c = typed-explains v (type_found (number s 1 1)) refl c ((version-known (number s 0 1) v).0 e)
 
   read-explains : Explains (read R s)
   unfolding header_length read
@@ -399,9 +397,9 @@ module _ (R : Reading) (s : List ℕ) where
       let v = version_of (number s 0 1) sz.0.0.0.1 in
       report-read sz pt v.0 v.1 ∙ go v.0 v.1 (code_found (number s 2 2))
     where
-      go : (v : RtrProtocolVersion) → number s 0 1 ≡ version_number v → (f : CodeFound) → read_code R v (number s 2 2) f s ≡ refused 7 (number s 2 2 ∷ [])
-      go v pv CodeFound.Unknown = refl
-      go v pv (CodeFound.Known c) =
+      go : (v : RtrProtocolVersion) → number s 0 1 ≡ version_number v → (f : Option RtrErrorCode) → read_code R v (number s 2 2) f s ≡ refused 7 (number s 2 2 ∷ [])
+      go v pv None = refl
+      go v pv (Some c) =
           simp (code_out R.code_eight_in_v0 v (number s 2 2) (omega (arith, lt, last-is R.code_eight_in_v0 v (number s 0 1) pv)))
 
   coded-read : Coded R s → (v : RtrProtocolVersion) (c : RtrErrorCode) → number s 0 1 ≡ version_number v → number s 2 2 ≡ code_number c → read R s ≡ read_encapsulated R v c (number s 8 4) s

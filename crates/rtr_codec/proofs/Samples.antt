@@ -1,5 +1,6 @@
 -- The smallest slice of each departure, read both ways, and one slice of its kind to which it does not apply: docs/DIFFERENCES.md has them in
 -- hex. Then document 01's edges of reading, which rtr_edges cites. Each is computed. Assumes nothing.
+use Rattle.std.specs.Prelude.{Some}
 use Prim.Native.Nat.{ℕ}
 use mathlib.Core.Bool.{true, false}
 use mathlib.Core.List.{List, [], ◌∷◌, ◌++◌}
@@ -10,7 +11,6 @@ use Rattle.rtr_text.proofs.Laws.{empty-is-well-formed}
 use Rattle.rtr_text.proofs.Passes.{ascii-passes, nul-passes}
 use Rattle.rtr_models.specs.declared.RtrProtocolVersion.TheVariants.{V0, V1}
 use Rattle.rtr_models.specs.declared.RtrErrorCode.TheVariants.{CorruptData, UnexpectedProtocolVersion}
-use Rattle.rtr_models.specs.declared.Interval.{Interval}
 use Rattle.rtr_models.specs.declared.RtrPdu.{RtrPdu}
 use Rattle.rtr_models.specs.declared.RtrPdu.TheVariants.{ResetQuery, CacheResponse, IPv4Prefix, EndOfData, RouterKey, ErrorReport}
 use Rattle.rtr_codec.specs.Bytes.{number}
@@ -192,9 +192,9 @@ end_pdu session serial =
       version = V1;
       session_id = session;
       serial_number = serial;
-      refresh_interval = Interval.Seconds 3600;
-      retry_interval = Interval.Seconds 600;
-      expire_interval = Interval.Seconds 7200;
+      refresh_interval = Some 3600;
+      retry_interval = Some 600;
+      expire_interval = Some 7200;
     })
 
 pub response-read : read in_use response_bytes ≡ accepted response_pdu 8

@@ -1,5 +1,6 @@
 -- An Error Report's checks: the part of a slice from a to a + t is t bytes from a, so the test of that part is the test of the text; and
 -- the crate takes every code of the table in both versions. Assumes nothing.
+use Rattle.std.specs.Prelude.{Some}
 use Prim.Native.Nat.{ℕ, ◌+◌, ◌-◌, ◌≤◌}
 use mathlib.Core.Bool.{Bool, true, false}
 use mathlib.Core.List.{List}
@@ -14,7 +15,6 @@ use Rattle.rtr_models.specs.Codes.{code_found}
 use Rattle.rtr_models.specs.declared.RtrProtocolVersion.{RtrProtocolVersion}
 use Rattle.rtr_models.specs.declared.RtrProtocolVersion.TheVariants.{V0, V1}
 use Rattle.rtr_models.specs.declared.RtrErrorCode.{RtrErrorCode}
-use Rattle.rtr_models.specs.declared.CodeFound.{CodeFound}
 use Rattle.rtr_models.proofs.Laws.{code-known, code-at-most-8}
 use Rattle.rtr_codec.specs.Read.{last_code, code_in}
 
@@ -25,7 +25,7 @@ last_code_lem : (v : RtrProtocolVersion) → 7 ≤ last_code v
 last_code_lem V0 = omega arith
 last_code_lem V1 = omega arith
 
-pub every-code : (v : RtrProtocolVersion) (n : ℕ) (c : RtrErrorCode) → code_found n ≡ CodeFound.Known c → code_in true v n ≡ true
+pub every-code : (v : RtrProtocolVersion) (n : ℕ) (c : RtrErrorCode) → code_found n ≡ Some c → code_in true v n ≡ true
 every-code v n c e = go (leb n (last_code v)) refl
   where
     go : (b : Bool) → leb n (last_code v) ≡ b → code_in true v n ≡ true

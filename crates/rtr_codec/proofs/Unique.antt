@@ -1,4 +1,5 @@
 -- What each public function promises leaves one result. `Post` is the contract as Rattle reads it off the source. Assumes nothing.
+use Rattle.std.specs.Prelude.{Result, Ok, Err}
 use Prim.Native.Nat.{ℕ}
 use mathlib.Core.Bool.{cond}
 use mathlib.Core.List.{List}
@@ -11,14 +12,13 @@ use Rattle.rtr_codec.specs.Read.Verdict.{accepted, refused}
 use Rattle.rtr_codec.specs.Answers.{refusal, verdict}
 use Rattle.rtr_codec.specs.declared.RtrError.{RtrError}
 use Rattle.rtr_codec.specs.declared.RtrError.TheVariants.{IncompletePdu, InvalidProtocolVersion, InvalidPduType, InvalidLength, RouterKeyInV0, InvalidPrefixLength, InvalidErrorCode, InvalidUtf8}
-use Rattle.rtr_codec.specs.declared.ReadAnswer.{ReadAnswer}
-use Rattle.rtr_codec.specs.declared.ReadAnswer.TheVariants.{Read, Refused}
 use Rattle.rtr_codec.specs.Run.{Step, run_said}
 use Rattle.rtr_codec.specs.declared.RunRead.{RunRead}
 use Rattle.rtr_codec.proofs.parse_rtr_pdu.Reads as reads
 use Rattle.rtr_codec.proofs.read_at.Reads as read-at-reads
 use Rattle.rtr_codec.proofs.RtrError.number.Reads as number-reads
 use Rattle.rtr_codec.proofs.bytes_needed.Reads as bytes-needed-reads
+use Rattle.rtr_models.specs.declared.RtrPdu.{RtrPdu}
 
 -- the error that has a number and values
 unfoldable pub error_of : ℕ → List ℕ → RtrError
@@ -31,12 +31,12 @@ error_of k x =
     (cond (eqb k 6) (InvalidPrefixLength (get_or x 0 0) (get_or x 1 0) (get_or x 2 0))
     (cond (eqb k 7) (InvalidErrorCode (get_or x 0 0)) InvalidUtf8))))))
 
-unfoldable pub answer_of : Verdict → ReadAnswer
-answer_of (accepted pdu n) = Read pdu n
-answer_of (refused k x) = Refused (error_of k x)
+unfoldable pub answer_of : Verdict → Result (RtrPdu × ℕ) RtrError
+answer_of (accepted pdu n) = Ok (pdu, n)
+answer_of (refused k x) = Err (error_of k x)
 
 -- number and values tell each error apart
-pub error-back : (e : RtrError) → answer_of (refusal e) ≡ Refused e
+pub error-back : (e : RtrError) → answer_of (refusal e) ≡ Err e
 unfolding answer_of error_of
 error-back (IncompletePdu a n) = refl
 error-back (InvalidPduType t) = refl
@@ -50,12 +50,12 @@ error-back RouterKeyInV0 = refl
 -- so a refusal's number and values give back the error
 pub refusal-back : (e : RtrError) (k : ℕ) (x : List ℕ) → refusal e ≡ refused k x → error_of k x ≡ e
 unfolding answer_of
-refusal-back e k x p = let q : Refused (error_of k x) ≡ Refused e = ap answer_of (sym p) ∙ error-back e in cc
+refusal-back e k x p = let q : Err (error_of k x) ≡ Err e = ap answer_of (sym p) ∙ error-back e in cc
 
-verdict-back : (a : ReadAnswer) → answer_of (verdict a) ≡ a
+verdict-back : (a : Result (RtrPdu × ℕ) RtrError) → answer_of (verdict a) ≡ a
 unfolding answer_of
-verdict-back (Read pdu n) = refl
-verdict-back (Refused e) = error-back e
+verdict-back (Ok (pdu, n)) = refl
+verdict-back (Err e) = error-back e
 
 pub parse-rtr-pdu-unique : (κs : _) (a : _) (r r' : _) (s s' : _) → reads.Post κs a r s → reads.Post κs a r' s' → r ≡ r'
 parse-rtr-pdu-unique κs a r r' s s' p q = only_one verdict answer_of verdict-back r r' _ p q

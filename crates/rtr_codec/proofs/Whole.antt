@@ -1,5 +1,6 @@
 -- What reading answers once the header's bytes are there: a PDU of exactly the header's length, which is 8 or more, or a refusal by 2
 -- to 8. `Whole` says so of a verdict; a check (`need`) keeps it, so each kind follows from its last line. Assumes nothing.
+use Rattle.std.specs.Prelude.{Option, Some, None}
 use Prim.Native.Nat.{ℕ, ◌≤◌, ◌+◌}
 use mathlib.Core.Bool.{Bool, true, false, ◌&&◌}
 use mathlib.Core.List.{List}
@@ -12,9 +13,6 @@ use Rattle.rtr_models.specs.declared.RtrPduType.{RtrPduType}
 use Rattle.rtr_models.specs.declared.RtrPduType.TheVariants.{SerialNotify, SerialQuery, ResetQuery, CacheResponse, IPv4Prefix, IPv6Prefix, EndOfData, CacheReset, RouterKey, ErrorReport}
 use Rattle.rtr_models.specs.declared.RtrErrorCode.{RtrErrorCode}
 use Rattle.rtr_models.specs.declared.RtrPdu.{RtrPdu}
-use Rattle.rtr_models.specs.declared.VersionFound.{VersionFound}
-use Rattle.rtr_models.specs.declared.TypeFound.{TypeFound}
-use Rattle.rtr_models.specs.declared.CodeFound.{CodeFound}
 use Rattle.rtr_codec.specs.Reading.{Reading}
 use Rattle.rtr_codec.specs.Layout.{Field, length_of}
 use Rattle.rtr_models.specs.Codes.{code_found, type_found}
@@ -61,10 +59,10 @@ unfolding read_encapsulated
 encapsulated-whole R v c e s h =
     checked (header_length s) (leb (16 + e) (header_length s)) 4 _ _ (omega arith, omega arith) (λ _. text-whole R v c e (number s (12 + e) 4) s h)
 
-code-whole : (R : Reading) (v : RtrProtocolVersion) (n : ℕ) (f : CodeFound) (s : List ℕ) → 16 ≤ header_length s → Whole (header_length s) (read_code R v n f s)
+code-whole : (R : Reading) (v : RtrProtocolVersion) (n : ℕ) (f : Option RtrErrorCode) (s : List ℕ) → 16 ≤ header_length s → Whole (header_length s) (read_code R v n f s)
 unfolding read_code
-code-whole R v n CodeFound.Unknown s h = (omega arith, omega arith)
-code-whole R v n (CodeFound.Known c) s h =
+code-whole R v n None s h = (omega arith, omega arith)
+code-whole R v n (Some c) s h =
     checked (header_length s) (code_in R.code_eight_in_v0 v n) 7 _ _ (omega arith, omega arith) (λ _. encapsulated-whole R v c (number s 8 4) s h)
 
 as-whole : (R : Reading) (v : RtrProtocolVersion) (t : RtrPduType) (s : List ℕ) → Whole (header_length s) (read_as R v t s)
@@ -88,12 +86,12 @@ as-whole R v ErrorReport s =
     checked (header_length s) (leb 16 (header_length s)) 4 _ _ (omega arith, omega arith)
     (λ e. code-whole R v (number s 2 2) (code_found (number s 2 2)) s (leb-true 16 (header_length s) e))
 
-typed-whole : (R : Reading) (v : RtrProtocolVersion) (n : ℕ) (f : TypeFound) (s : List ℕ) → Whole (header_length s) (read_typed R v n f s)
+typed-whole : (R : Reading) (v : RtrProtocolVersion) (n : ℕ) (f : Option RtrPduType) (s : List ℕ) → Whole (header_length s) (read_typed R v n f s)
 unfolding read_typed
-typed-whole R v n TypeFound.Unknown s = (omega arith, omega arith)
-typed-whole R v n (TypeFound.Known t) s = as-whole R v t s
+typed-whole R v n None s = (omega arith, omega arith)
+typed-whole R v n (Some t) s = as-whole R v t s
 
-pub versioned-whole : (R : Reading) (n : ℕ) (f : VersionFound) (s : List ℕ) → Whole (header_length s) (read_versioned R n f s)
+pub versioned-whole : (R : Reading) (n : ℕ) (f : Option RtrProtocolVersion) (s : List ℕ) → Whole (header_length s) (read_versioned R n f s)
 unfolding read_versioned
-versioned-whole R n VersionFound.Unknown s = (omega arith, omega arith)
-versioned-whole R n (VersionFound.Known v) s = typed-whole R v (number s 1 1) (type_found (number s 1 1)) s
+versioned-whole R n None s = (omega arith, omega arith)
+versioned-whole R n (Some v) s = typed-whole R v (number s 1 1) (type_found (number s 1 1)) s

@@ -1,6 +1,6 @@
 -- Reading one PDU from a slice: document 01, "Reading". The checks stand in its order, each with its refusal's number and values; what is
 -- read off the bytes is RFC 8210, sections 5.1 to 5.11, but for the switches of a `Reading`.
-use Rattle.std.specs.Prelude.{ℕ, ◌+◌, ◌-◌, min, Bool, true, false, cond, ◌&&◌, ◌||◌, List, [], ◌∷◌, length, take, drop, leb, eqb}
+use Rattle.std.specs.Prelude.{ℕ, ◌+◌, ◌-◌, min, Bool, true, false, cond, ◌&&◌, ◌||◌, List, [], ◌∷◌, length, take, drop, leb, eqb, Option, Some, None}
 use Rattle.rtr_text.specs.Utf8.{well_formed, well_formed_up_to}
 use Rattle.rtr_codec.specs.Bytes.{number}
 use Rattle.rtr_codec.specs.Layout.{Label, Field, serial_layout, bare_layout, response_layout, ipv4_layout, ipv6_layout, end_layout, key_layout, crate_key_layout, report_layout, text_layout, length_of, place, place_of, value_from, value_of, encapsulated_start, text_start}
@@ -9,13 +9,9 @@ use Rattle.rtr_codec.specs.Reading.{Reading}
 use Rattle.rtr_models.specs.Codes.{version_found, type_found, code_found, type_number}
 use Rattle.rtr_models.specs.declared.RtrProtocolVersion.{RtrProtocolVersion}
 use Rattle.rtr_models.specs.declared.RtrProtocolVersion.TheVariants.{V0, V1}
-use Rattle.rtr_models.specs.declared.VersionFound.{VersionFound}
 use Rattle.rtr_models.specs.declared.RtrPduType.{RtrPduType}
 use Rattle.rtr_models.specs.declared.RtrPduType.TheVariants.{SerialNotify, SerialQuery, ResetQuery, CacheResponse, IPv4Prefix, IPv6Prefix, EndOfData, CacheReset, RouterKey, ErrorReport}
-use Rattle.rtr_models.specs.declared.TypeFound.{TypeFound}
 use Rattle.rtr_models.specs.declared.RtrErrorCode.{RtrErrorCode}
-use Rattle.rtr_models.specs.declared.CodeFound.{CodeFound}
-use Rattle.rtr_models.specs.declared.Interval.{Interval}
 use Rattle.rtr_models.specs.declared.RtrPdu.{RtrPdu}
 
 -- what a reader may answer: a PDU and the bytes that it took, or a refusal's number and values (document 01, "Refusal numbers")
@@ -108,9 +104,9 @@ read_end_of_data V0 s =
       version = V0;
       session_id = x session_id;
       serial_number = x serial_number;
-      refresh_interval = Interval.Absent;
-      retry_interval = Interval.Absent;
-      expire_interval = Interval.Absent;
+      refresh_interval = None;
+      retry_interval = None;
+      expire_interval = None;
     }))
     (header_length s))
 read_end_of_data V1 s =
@@ -121,9 +117,9 @@ read_end_of_data V1 s =
       version = V1;
       session_id = x session_id;
       serial_number = x serial_number;
-      refresh_interval = Interval.Seconds (x refresh_interval);
-      retry_interval = Interval.Seconds (x retry_interval);
-      expire_interval = Interval.Seconds (x expire_interval);
+      refresh_interval = Some (x refresh_interval);
+      retry_interval = Some (x retry_interval);
+      expire_interval = Some (x expire_interval);
     }))
     (header_length s))
 
@@ -195,9 +191,9 @@ abbrev pub code_in : Bool → RtrProtocolVersion → ℕ → Bool
 code_in eight_in_v0 v n = leb n (last_code v) || (eight_in_v0 && eqb n 8)
 
 -- check 6, the error code
-unfoldable pub read_code : Reading → RtrProtocolVersion → ℕ → CodeFound → List ℕ → Verdict
-read_code R v n CodeFound.Unknown s = refused 7 (n ∷ [])
-read_code R v n (CodeFound.Known c) s =
+unfoldable pub read_code : Reading → RtrProtocolVersion → ℕ → Option RtrErrorCode → List ℕ → Verdict
+read_code R v n None s = refused 7 (n ∷ [])
+read_code R v n (Some c) s =
     need (code_in R.code_eight_in_v0 v n) 7 (n ∷ []) (read_encapsulated R v c (value_of report_layout s encapsulated_length) s)
 
 unfoldable pub read_error_report : Reading → RtrProtocolVersion → List ℕ → Verdict
@@ -219,14 +215,14 @@ read_as R v RouterKey s = read_router_key R v s
 read_as R v ErrorReport s = read_error_report R v s
 
 -- check 3
-unfoldable pub read_typed : Reading → RtrProtocolVersion → ℕ → TypeFound → List ℕ → Verdict
-read_typed R v n TypeFound.Unknown s = refused 3 (n ∷ [])
-read_typed R v n (TypeFound.Known t) s = read_as R v t s
+unfoldable pub read_typed : Reading → RtrProtocolVersion → ℕ → Option RtrPduType → List ℕ → Verdict
+read_typed R v n None s = refused 3 (n ∷ [])
+read_typed R v n (Some t) s = read_as R v t s
 
 -- check 2
-unfoldable pub read_versioned : Reading → ℕ → VersionFound → List ℕ → Verdict
-read_versioned R n VersionFound.Unknown s = refused 2 (n ∷ [])
-read_versioned R n (VersionFound.Known v) s = read_typed R v (number s 1 1) (type_found (number s 1 1)) s
+unfoldable pub read_versioned : Reading → ℕ → Option RtrProtocolVersion → List ℕ → Verdict
+read_versioned R n None s = refused 2 (n ∷ [])
+read_versioned R n (Some v) s = read_typed R v (number s 1 1) (type_found (number s 1 1)) s
 
 -- check 1, and all: what reading a slice gives
 unfoldable pub read : Reading → List ℕ → Verdict

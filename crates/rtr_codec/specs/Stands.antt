@@ -1,11 +1,10 @@
 -- Which slices are read, and as which PDU, said of the PDU: which of its numbers stands at which byte, and what holds of them. RFC 8210, sections 5.2 to 5.11, byte by byte (version 0: RFC 6810, 5.2 to 5.10); bytes that are not named are
 -- ignored. `read-exactly` (proofs/Exactly.antt): a slice is read as a PDU of n bytes exactly if the PDU stands so in it; `stands-once`: one PDU at most does. Of refusals this says nothing: their numbers, values and order are Read's.
 -- Read's too are `header_length` and an Error Report's `ends` and `code_in`, which, as a Router Key's arrangement, go by the switches of a `Reading`.
-use Rattle.std.specs.Prelude.{ℕ, ◌+◌, ◌-◌, ◌≤◌, Bool, true, false, List, ◌≡◌, length, take, drop}
+use Rattle.std.specs.Prelude.{ℕ, ◌+◌, ◌-◌, ◌≤◌, Bool, true, false, List, ◌≡◌, length, take, drop, Some, None}
 use Rattle.rtr_text.specs.Utf8.{well_formed}
 use Rattle.rtr_models.specs.Codes.{version_number, type_number, code_number}
 use Rattle.rtr_models.specs.Values.{type_of, version_of}
-use Rattle.rtr_models.specs.declared.Interval.TheVariants.{Absent, Seconds}
 use Rattle.rtr_models.specs.declared.RtrProtocolVersion.{RtrProtocolVersion}
 use Rattle.rtr_models.specs.declared.RtrProtocolVersion.TheVariants.{V0, V1}
 use Rattle.rtr_models.specs.declared.RtrEndOfData.{RtrEndOfData}
@@ -24,16 +23,16 @@ EndStands V0 p s =
     (header_length s ≡ 12)
     × (number s 2 2 ≡ p.session_id)
     × (number s 8 4 ≡ p.serial_number)
-    × (Absent ≡ p.refresh_interval)
-    × (Absent ≡ p.retry_interval)
-    × (Absent ≡ p.expire_interval)
+    × (None ≡ p.refresh_interval)
+    × (None ≡ p.retry_interval)
+    × (None ≡ p.expire_interval)
 EndStands V1 p s =
     (header_length s ≡ 24)
     × (number s 2 2 ≡ p.session_id)
     × (number s 8 4 ≡ p.serial_number)
-    × (Seconds (number s 12 4) ≡ p.refresh_interval)
-    × (Seconds (number s 16 4) ≡ p.retry_interval)
-    × (Seconds (number s 20 4) ≡ p.expire_interval)
+    × (Some (number s 12 4) ≡ p.refresh_interval)
+    × (Some (number s 16 4) ≡ p.retry_interval)
+    × (Some (number s 20 4) ≡ p.expire_interval)
 
 -- 5.10: flags at byte 2, identifier, AS number, and the key info to the end; in the crate's arrangement (document 01, "Reading") flags at byte 8, and all behind them two bytes later
 abbrev pub KeyStands : Bool → RtrRouterKey → List ℕ → Type 0

@@ -69,13 +69,6 @@ impl RtrError {
     }
 }
 
-// A PDU and the bytes that it took, or why there is none.
-#[derive(Clone, Copy)]
-pub enum ReadAnswer {
-    Read(RtrPdu, usize),
-    Refused(RtrError),
-}
-
 // ---- Lengths
 
 pub const RTR_HEADER_LEN: usize = 8;
@@ -138,10 +131,10 @@ fn be32(input: &[u8], at: usize) -> u32
 // ---- Reading, one function for each kind: `actual` is the header's length, and so many bytes are there
 
 // Refusal 4.
-fn invalid_length(expected: u32, actual: u32, pdu_type: u8) -> ReadAnswer
-    ensures { result ≡ ReadAnswer.Refused (RtrError.InvalidLength expected actual pdu_type) }
+fn invalid_length(expected: u32, actual: u32, pdu_type: u8) -> Result<(RtrPdu, usize), RtrError>
+    ensures { result ≡ Err (RtrError.InvalidLength expected actual pdu_type) }
 {
-    ReadAnswer::Refused(RtrError::InvalidLength {
+    Err(RtrError::InvalidLength {
         expected,
         actual,
         pdu_type,
@@ -149,10 +142,10 @@ fn invalid_length(expected: u32, actual: u32, pdu_type: u8) -> ReadAnswer
 }
 
 // Refusal 6.
-fn invalid_prefix_length(prefix_len: u8, max_len: u8, max_allowed: u8) -> ReadAnswer
-    ensures { result ≡ ReadAnswer.Refused (RtrError.InvalidPrefixLength prefix_len max_len max_allowed) }
+fn invalid_prefix_length(prefix_len: u8, max_len: u8, max_allowed: u8) -> Result<(RtrPdu, usize), RtrError>
+    ensures { result ≡ Err (RtrError.InvalidPrefixLength prefix_len max_len max_allowed) }
 {
-    ReadAnswer::Refused(RtrError::InvalidPrefixLength {
+    Err(RtrError::InvalidPrefixLength {
         prefix_len,
         max_len,
         max_allowed,
@@ -160,7 +153,7 @@ fn invalid_prefix_length(prefix_len: u8, max_len: u8, max_allowed: u8) -> ReadAn
 }
 
 // Type 0: session and serial.
-fn parse_serial_notify(input: &[u8], version: RtrProtocolVersion, actual: u32) -> ReadAnswer
+fn parse_serial_notify(input: &[u8], version: RtrProtocolVersion, actual: u32) -> Result<(RtrPdu, usize), RtrError>
     requires { Framed actual input.now }
     ensures { verdict result ≡ read_serial_notify version input.now }
 {
@@ -174,11 +167,11 @@ fn parse_serial_notify(input: &[u8], version: RtrProtocolVersion, actual: u32) -
         session_id,
         serial_number,
     });
-    ReadAnswer::Read(pdu, actual as usize)
+    Ok((pdu, actual as usize))
 }
 
 // Type 1: session and serial.
-fn parse_serial_query(input: &[u8], version: RtrProtocolVersion, actual: u32) -> ReadAnswer
+fn parse_serial_query(input: &[u8], version: RtrProtocolVersion, actual: u32) -> Result<(RtrPdu, usize), RtrError>
     requires { Framed actual input.now }
     ensures { verdict result ≡ read_serial_query version input.now }
 {
@@ -192,11 +185,11 @@ fn parse_serial_query(input: &[u8], version: RtrProtocolVersion, actual: u32) ->
         session_id,
         serial_number,
     });
-    ReadAnswer::Read(pdu, actual as usize)
+    Ok((pdu, actual as usize))
 }
 
 // Type 2: the header alone.
-fn parse_reset_query(input: &[u8], version: RtrProtocolVersion, actual: u32) -> ReadAnswer
+fn parse_reset_query(input: &[u8], version: RtrProtocolVersion, actual: u32) -> Result<(RtrPdu, usize), RtrError>
     requires { Framed actual input.now }
     ensures { verdict result ≡ read_reset_query version input.now }
 {
@@ -204,11 +197,11 @@ fn parse_reset_query(input: &[u8], version: RtrProtocolVersion, actual: u32) -> 
         return invalid_length(RTR_RESET_QUERY_LEN, actual, 2);
     }
     let pdu = RtrPdu::ResetQuery(RtrResetQuery { version });
-    ReadAnswer::Read(pdu, actual as usize)
+    Ok((pdu, actual as usize))
 }
 
 // Type 3: the session alone.
-fn parse_cache_response(input: &[u8], version: RtrProtocolVersion, actual: u32) -> ReadAnswer
+fn parse_cache_response(input: &[u8], version: RtrProtocolVersion, actual: u32) -> Result<(RtrPdu, usize), RtrError>
     requires { Framed actual input.now }
     ensures { verdict result ≡ read_cache_response version input.now }
 {
@@ -220,11 +213,11 @@ fn parse_cache_response(input: &[u8], version: RtrProtocolVersion, actual: u32) 
         version,
         session_id,
     });
-    ReadAnswer::Read(pdu, actual as usize)
+    Ok((pdu, actual as usize))
 }
 
 // Type 4's numbers, once its lengths are in rule.
-fn ipv4_fields(input: &[u8], version: RtrProtocolVersion) -> ReadAnswer
+fn ipv4_fields(input: &[u8], version: RtrProtocolVersion) -> Result<(RtrPdu, usize), RtrError>
     requires { Framed 20 input.now × ((number input.now 9 1 ≤ number input.now 10 1) × (number input.now 10 1 ≤ 32)) }
     ensures { verdict result ≡ read_ipv4_prefix version input.now }
 {
@@ -241,11 +234,11 @@ fn ipv4_fields(input: &[u8], version: RtrProtocolVersion) -> ReadAnswer
         prefix,
         asn,
     });
-    ReadAnswer::Read(pdu, 20)
+    Ok((pdu, 20))
 }
 
 // Type 4: byte 11 is not looked at.
-fn parse_ipv4_prefix(input: &[u8], version: RtrProtocolVersion, actual: u32) -> ReadAnswer
+fn parse_ipv4_prefix(input: &[u8], version: RtrProtocolVersion, actual: u32) -> Result<(RtrPdu, usize), RtrError>
     requires { Framed actual input.now }
     ensures { verdict result ≡ read_ipv4_prefix version input.now }
 {
@@ -264,7 +257,7 @@ fn parse_ipv4_prefix(input: &[u8], version: RtrProtocolVersion, actual: u32) -> 
 }
 
 // Type 6's numbers, once its lengths are in rule.
-fn ipv6_fields(input: &[u8], version: RtrProtocolVersion) -> ReadAnswer
+fn ipv6_fields(input: &[u8], version: RtrProtocolVersion) -> Result<(RtrPdu, usize), RtrError>
     requires { Framed 32 input.now × ((number input.now 9 1 ≤ number input.now 10 1) × (number input.now 10 1 ≤ 128)) }
     ensures { verdict result ≡ read_ipv6_prefix version input.now }
 {
@@ -285,11 +278,11 @@ fn ipv6_fields(input: &[u8], version: RtrProtocolVersion) -> ReadAnswer
         prefix,
         asn,
     });
-    ReadAnswer::Read(pdu, 32)
+    Ok((pdu, 32))
 }
 
 // Type 6: byte 11 is not looked at.
-fn parse_ipv6_prefix(input: &[u8], version: RtrProtocolVersion, actual: u32) -> ReadAnswer
+fn parse_ipv6_prefix(input: &[u8], version: RtrProtocolVersion, actual: u32) -> Result<(RtrPdu, usize), RtrError>
     requires { Framed actual input.now }
     ensures { verdict result ≡ read_ipv6_prefix version input.now }
 {
@@ -308,7 +301,7 @@ fn parse_ipv6_prefix(input: &[u8], version: RtrProtocolVersion, actual: u32) -> 
 }
 
 // Type 7 in version 0: session and serial.
-fn parse_end_of_data_v0(input: &[u8], actual: u32) -> ReadAnswer
+fn parse_end_of_data_v0(input: &[u8], actual: u32) -> Result<(RtrPdu, usize), RtrError>
     requires { Framed actual input.now }
     ensures { verdict result ≡ read_end_of_data RtrProtocolVersion.V0 input.now }
 {
@@ -321,15 +314,15 @@ fn parse_end_of_data_v0(input: &[u8], actual: u32) -> ReadAnswer
         version: RtrProtocolVersion::V0,
         session_id,
         serial_number,
-        refresh_interval: Interval::Absent,
-        retry_interval: Interval::Absent,
-        expire_interval: Interval::Absent,
+        refresh_interval: None,
+        retry_interval: None,
+        expire_interval: None,
     });
-    ReadAnswer::Read(pdu, actual as usize)
+    Ok((pdu, actual as usize))
 }
 
 // Type 7 in version 1: the three intervals besides.
-fn parse_end_of_data_v1(input: &[u8], actual: u32) -> ReadAnswer
+fn parse_end_of_data_v1(input: &[u8], actual: u32) -> Result<(RtrPdu, usize), RtrError>
     requires { Framed actual input.now }
     ensures { verdict result ≡ read_end_of_data RtrProtocolVersion.V1 input.now }
 {
@@ -345,15 +338,15 @@ fn parse_end_of_data_v1(input: &[u8], actual: u32) -> ReadAnswer
         version: RtrProtocolVersion::V1,
         session_id,
         serial_number,
-        refresh_interval: Interval::Seconds(refresh),
-        retry_interval: Interval::Seconds(retry),
-        expire_interval: Interval::Seconds(expire),
+        refresh_interval: Some(refresh),
+        retry_interval: Some(retry),
+        expire_interval: Some(expire),
     });
-    ReadAnswer::Read(pdu, actual as usize)
+    Ok((pdu, actual as usize))
 }
 
 // Type 7: its length goes by the version.
-fn parse_end_of_data(input: &[u8], version: RtrProtocolVersion, actual: u32) -> ReadAnswer
+fn parse_end_of_data(input: &[u8], version: RtrProtocolVersion, actual: u32) -> Result<(RtrPdu, usize), RtrError>
     requires { Framed actual input.now }
     ensures { verdict result ≡ read_end_of_data version input.now }
 {
@@ -364,7 +357,7 @@ fn parse_end_of_data(input: &[u8], version: RtrProtocolVersion, actual: u32) -> 
 }
 
 // Type 8: the header alone.
-fn parse_cache_reset(input: &[u8], version: RtrProtocolVersion, actual: u32) -> ReadAnswer
+fn parse_cache_reset(input: &[u8], version: RtrProtocolVersion, actual: u32) -> Result<(RtrPdu, usize), RtrError>
     requires { Framed actual input.now }
     ensures { verdict result ≡ read_cache_reset version input.now }
 {
@@ -372,11 +365,11 @@ fn parse_cache_reset(input: &[u8], version: RtrProtocolVersion, actual: u32) -> 
         return invalid_length(RTR_CACHE_RESET_LEN, actual, 8);
     }
     let pdu = RtrPdu::CacheReset(RtrCacheReset { version });
-    ReadAnswer::Read(pdu, actual as usize)
+    Ok((pdu, actual as usize))
 }
 
 // Type 9 in the crate's arrangement: byte 9 is not looked at, and the key info is the rest.
-fn parse_router_key_v1(input: &[u8], actual: u32) -> ReadAnswer
+fn parse_router_key_v1(input: &[u8], actual: u32) -> Result<(RtrPdu, usize), RtrError>
     requires { Framed actual input.now }
     ensures { verdict result ≡ read_router_key crate RtrProtocolVersion.V1 input.now }
 {
@@ -397,16 +390,16 @@ fn parse_router_key_v1(input: &[u8], actual: u32) -> ReadAnswer
         asn,
         subject_public_key_info,
     });
-    ReadAnswer::Read(pdu, actual as usize)
+    Ok((pdu, actual as usize))
 }
 
 // Type 9: version 1 only, and that is tested before the length.
-fn parse_router_key(input: &[u8], version: RtrProtocolVersion, actual: u32) -> ReadAnswer
+fn parse_router_key(input: &[u8], version: RtrProtocolVersion, actual: u32) -> Result<(RtrPdu, usize), RtrError>
     requires { Framed actual input.now }
     ensures { verdict result ≡ read_router_key in_use version input.now }
 {
     match version {
-        RtrProtocolVersion::V0 => ReadAnswer::Refused(RtrError::RouterKeyInV0),
+        RtrProtocolVersion::V0 => Err(RtrError::RouterKeyInV0),
         RtrProtocolVersion::V1 => parse_router_key_v1(input, actual),
     }
 }
@@ -425,7 +418,7 @@ fn parse_error_text(
     error_code: RtrErrorCode,
     encap_pdu_len: usize,
     actual: u32,
-) -> ReadAnswer
+) -> Result<(RtrPdu, usize), RtrError>
     requires { (actual ≡ header_length input.now) × ((actual ≤ length input.now) × (16 + encap_pdu_len ≤ actual)) }
     ensures { verdict result ≡ read_text in_use version error_code encap_pdu_len (number input.now (12 + encap_pdu_len) 4) input.now }
 {
@@ -450,9 +443,9 @@ fn parse_error_text(
             erroneous_pdu,
             error_text,
         });
-        return ReadAnswer::Read(pdu, actual as usize);
+        return Ok((pdu, actual as usize));
     }
-    ReadAnswer::Refused(RtrError::InvalidUtf8)
+    Err(RtrError::InvalidUtf8)
 }
 
 // Type 10, from the encapsulated length on: wire lengths are added in 64 bits, so no sum wraps.
@@ -461,7 +454,7 @@ fn parse_error_pdu(
     version: RtrProtocolVersion,
     error_code: RtrErrorCode,
     actual: u32,
-) -> ReadAnswer
+) -> Result<(RtrPdu, usize), RtrError>
     requires { (actual ≡ header_length input.now) × ((actual ≤ length input.now) × (16 ≤ actual)) }
     ensures { verdict result ≡ read_encapsulated in_use version error_code (number input.now 8 4) input.now }
 {
@@ -474,7 +467,7 @@ fn parse_error_pdu(
 }
 
 // Type 10: the error code stands where others have the session.
-fn parse_error_report(input: &[u8], version: RtrProtocolVersion, actual: u32) -> ReadAnswer
+fn parse_error_report(input: &[u8], version: RtrProtocolVersion, actual: u32) -> Result<(RtrPdu, usize), RtrError>
     requires { Framed actual input.now }
     ensures { verdict result ≡ read_error_report in_use version input.now }
 {
@@ -484,8 +477,8 @@ fn parse_error_report(input: &[u8], version: RtrProtocolVersion, actual: u32) ->
     let code = be16(input, 2);
     let found = RtrErrorCode::from_u16(code);
     match found {
-        CodeFound::Known(error_code) => parse_error_pdu(input, version, error_code, actual),
-        CodeFound::Unknown => ReadAnswer::Refused(RtrError::InvalidErrorCode(code)),
+        Some(error_code) => parse_error_pdu(input, version, error_code, actual),
+        None => Err(RtrError::InvalidErrorCode(code)),
     }
 }
 
@@ -497,7 +490,7 @@ fn parse_as(
     version: RtrProtocolVersion,
     pdu_type: RtrPduType,
     actual: u32,
-) -> ReadAnswer
+) -> Result<(RtrPdu, usize), RtrError>
     requires { Framed actual input.now }
     ensures { verdict result ≡ read_as in_use version pdu_type input.now }
 {
@@ -516,24 +509,24 @@ fn parse_as(
 }
 
 // The version is known: the type comes next.
-fn parse_typed(input: &[u8], version: RtrProtocolVersion, actual: u32) -> ReadAnswer
+fn parse_typed(input: &[u8], version: RtrProtocolVersion, actual: u32) -> Result<(RtrPdu, usize), RtrError>
     requires { Framed actual input.now }
     ensures { verdict result ≡ read_typed in_use version (number input.now 1 1) (type_found (number input.now 1 1)) input.now }
 {
     let pdu_type_byte = be8(input, 1);
     let found = RtrPduType::from_u8(pdu_type_byte);
     match found {
-        TypeFound::Known(pdu_type) => parse_as(input, version, pdu_type, actual),
-        TypeFound::Unknown => ReadAnswer::Refused(RtrError::InvalidPduType(pdu_type_byte)),
+        Some(pdu_type) => parse_as(input, version, pdu_type, actual),
+        None => Err(RtrError::InvalidPduType(pdu_type_byte)),
     }
 }
 
 // One PDU of any kind: completeness is tested before all else.
-fn parse_any(input: &[u8]) -> ReadAnswer
+fn parse_any(input: &[u8]) -> Result<(RtrPdu, usize), RtrError>
     ensures { verdict result ≡ read in_use input.now }
 {
     if input.len() < RTR_HEADER_LEN {
-        return ReadAnswer::Refused(RtrError::IncompletePdu {
+        return Err(RtrError::IncompletePdu {
             available: input.len(),
             needed: RTR_HEADER_LEN,
         });
@@ -541,7 +534,7 @@ fn parse_any(input: &[u8]) -> ReadAnswer
     let length = be32(input, 4);
     let length_usize = length as usize;
     if input.len() < length_usize {
-        return ReadAnswer::Refused(RtrError::IncompletePdu {
+        return Err(RtrError::IncompletePdu {
             available: input.len(),
             needed: length_usize,
         });
@@ -549,8 +542,8 @@ fn parse_any(input: &[u8]) -> ReadAnswer
     let version_byte = be8(input, 0);
     let found = RtrProtocolVersion::from_u8(version_byte);
     match found {
-        VersionFound::Known(version) => parse_typed(input, version, length),
-        VersionFound::Unknown => ReadAnswer::Refused(RtrError::InvalidProtocolVersion(
+        Some(version) => parse_typed(input, version, length),
+        None => Err(RtrError::InvalidProtocolVersion(
             version_byte,
         )),
     }
@@ -580,7 +573,7 @@ fn is_plain(input: &[u8], pdu_type: u8, n: u32, limit: u8) -> bool
 }
 
 // One PDU from the front of any bytes. Prefixes, nearly all that a cache sends, come first: the compiler then stores their answer where it goes.
-pub fn parse_rtr_pdu(input: &[u8]) -> ReadAnswer
+pub fn parse_rtr_pdu(input: &[u8]) -> Result<(RtrPdu, usize), RtrError>
     ensures { verdict result ≡ read in_use input.now }
 {
     if is_plain(input, 4, RTR_IPV4_PREFIX_LEN, 32) {
@@ -607,7 +600,7 @@ pub fn bytes_needed(input: &[u8]) -> u32
 // What stands at a place, and the place to go on from: past the PDU, or the same where it is refused.
 #[derive(Clone, Copy)]
 pub struct RunRead {
-    pub answer: ReadAnswer,
+    pub answer: Result<(RtrPdu, usize), RtrError>,
     pub next: usize,
 }
 
@@ -622,12 +615,12 @@ pub fn read_at(input: &[u8], at: usize) -> RunRead
     }
     let answer = parse_rtr_pdu(&input[at..]);
     match answer {
-        ReadAnswer::Read(pdu, consumed) => RunRead {
-            answer: ReadAnswer::Read(pdu, consumed),
+        Ok((pdu, consumed)) => RunRead {
+            answer: Ok((pdu, consumed)),
             next: at + consumed,
         },
-        ReadAnswer::Refused(error) => RunRead {
-            answer: ReadAnswer::Refused(error),
+        Err(error) => RunRead {
+            answer: Err(error),
             next: at,
         },
     }

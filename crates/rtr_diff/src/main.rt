@@ -11,7 +11,7 @@ ghost use Rattle.rtr_diff.specs.Printing.{IsPrefixLen, Shows, Sized};
 ghost use Rattle.rtr_diffs.specs.Diffs.{diff_text};
 
 use rtr_diffs::diff;
-use rtr_listing::ListAnswer;
+use Result<usize, ListError>;
 use rtr_receiver::RECORD_LIMIT;
 use std::io::Read;
 use std::rt::Files;
@@ -72,8 +72,8 @@ fn diff_text(
 {
     let answer = diff(old, new, old_room, new_room, out);
     match answer {
-        ListAnswer::Written(n) => n,
-        ListAnswer::Refused(_) => 0,
+        Ok(n) => n,
+        Err(_) => 0,
     }
 }
 

@@ -1,4 +1,5 @@
 -- What reading each file tells of the text and of the rooms. Assumes nothing.
+use Rattle.std.specs.Prelude.{Result, Err}
 use Prim.Native.Nat.{ℕ, ◌*◌, ◌≤◌}
 use mathlib.Core.Bool.{Bool, true, false, cond, ◌&&◌}
 use mathlib.Core.List.{List, []}
@@ -15,7 +16,6 @@ use Rattle.rtr_room.proofs.Laws.{rules-exactly, records-of-room}
 use Rattle.rtr_listing.specs.Listing.{text}
 use Rattle.rtr_listing.specs.Promises.{leaves, puts}
 use Rattle.rtr_listing.specs.declared.Head.{Head}
-use Rattle.rtr_listing.specs.declared.ListAnswer.{ListAnswer}
 use Rattle.rtr_listing.specs.declared.ListError.{ListError}
 use Rattle.rtr_listed.specs.Listed.{Listed, Read, read_listing}
 use Rattle.rtr_listed.specs.Listed.Read.{listed, misfit}
@@ -45,14 +45,14 @@ module _ (limit : ℕ) (s left : List ℕ) (head : Head) (was : WasListed limit 
   pub records-are : records head.count left ≡ was.value.records
   records-are = (λ i. records (count-is i) (was.room-is i)) ∙ records-of-room limit was.value.records
 
-  pub new-listed : (old : List Record) (out left' : List ℕ) (r : ListAnswer) → leaves r left' ≡ puts (changes_lines (changes old (records head.count left))) out → NewRead limit old s out left' left r
+  pub new-listed : (old : List Record) (out left' : List ℕ) (r : Result ℕ ListError) → leaves r left' ≡ puts (changes_lines (changes old (records head.count left))) out → NewRead limit old s out left' left r
   new-listed old out left' r e =
       record {
         writes = e ∙ ap (λ (t : List Record). puts (changes_lines (changes old t)) out) records-are ∙ ap (λ (x : Read). puts (after_old old x) out) (sym was.read);
         room-is = was.room-is ∙ ap (λ (x : Read). (read_leaves limit x).room) (sym was.read);
       }
 
-pub new-refused : (limit : ℕ) (old : List Record) (s out left left' : List ℕ) (n : ℕ) (r : ListAnswer) → read_listing limit s ≡ misfit n → left ≡ (read_leaves limit (read_listing limit s)).room → leaves r left' ≡ puts (refusal_lines (text "new") n) out → NewRead limit old s out left' left r
+pub new-refused : (limit : ℕ) (old : List Record) (s out left left' : List ℕ) (n : ℕ) (r : Result ℕ ListError) → read_listing limit s ≡ misfit n → left ≡ (read_leaves limit (read_listing limit s)).room → leaves r left' ≡ puts (refusal_lines (text "new") n) out → NewRead limit old s out left' left r
 new-refused limit old s out left left' n r e room-left w = record { writes = w ∙ ap (λ (x : Read). puts (after_old old x) out) (sym e); room-is = room-left }
 
 module _ (limit : ℕ) (old new old_room new_room out : List ℕ) where
@@ -63,14 +63,14 @@ module _ (limit : ℕ) (old new old_room new_room out : List ℕ) where
     unfolding diff_says diff_text
     sized = simp (eq-eqb (length old_room) (6 * limit) old_size, eq-eqb (length new_room) (6 * limit) new_size)
 
-    pub old-listed : (v : Listed) (old_left new_left out' : List ℕ) (r : ListAnswer) → read_listing limit old ≡ listed v → old_left ≡ room limit v.records → NewRead limit v.records new out out' new_left r
+    pub old-listed : (v : Listed) (old_left new_left out' : List ℕ) (r : Result ℕ ListError) → read_listing limit old ≡ listed v → old_left ≡ room limit v.records → NewRead limit v.records new out out' new_left r
         → diff_left r old_left new_left out' ≡ diff_says limit old new old_room new_room out
     old-listed v old_left new_left out' r e o n =
         (λ i. record { out = n.writes i; old_room = o i; new_room = n.room-is i })
         ∙ (λ i. record { out = puts (diff_read (sym e i) (read_listing limit new)) out; old_room = (read_leaves limit (sym e i)).room; new_room = new_room_by limit (sym e i) (read_listing limit new) })
         ∙ sym sized
 
-    pub old-refused : (n : ℕ) (old_left new_left out' : List ℕ) (r : ListAnswer) → read_listing limit old ≡ misfit n → old_left ≡ (read_leaves limit (read_listing limit old)).room → new_left ≡ replicate (length new_room) 0
+    pub old-refused : (n : ℕ) (old_left new_left out' : List ℕ) (r : Result ℕ ListError) → read_listing limit old ≡ misfit n → old_left ≡ (read_leaves limit (read_listing limit old)).room → new_left ≡ replicate (length new_room) 0
         → leaves r out' ≡ puts (refusal_lines (text "old") n) out → diff_left r old_left new_left out' ≡ diff_says limit old new old_room new_room out
     old-refused n old_left new_left out' r e o z w =
         (λ i. record { out = w i; old_room = (o ∙ ap (λ (x : Read). (read_leaves limit x).room) e) i; new_room = (z ∙ ap (λ (k : ℕ). replicate k 0) new_size) i })
@@ -78,14 +78,14 @@ module _ (limit : ℕ) (old new old_room new_room out : List ℕ) where
         ∙ sym sized
 
   off : (a b : Bool) → a && b ≡ false → cond (a && b) (record { out = puts (diff_text limit old new) out; old_room = (read_leaves limit (read_listing limit old)).room; new_room = new_room_by limit (read_listing limit old) (read_listing limit new) })
-      (record { out = record { says = refused 22 []; out = out }; old_room = old_room; new_room = new_room }) ≡ diff_left (ListAnswer.Refused ListError.NotAReceiver) old_room new_room out
+      (record { out = record { says = refused 22 []; out = out }; old_room = old_room; new_room = new_room }) ≡ diff_left (Err ListError.NotAReceiver) old_room new_room out
   off a b e = ap (λ (x : Bool). cond x (record { out = puts (diff_text limit old new) out; old_room = (read_leaves limit (read_listing limit old)).room; new_room = new_room_by limit (read_listing limit old) (read_listing limit new) })
       (record { out = record { says = refused 22 []; out = out }; old_room = old_room; new_room = new_room })) e
 
-  pub old-off-size : (length old_room ≡ 6 * limit → ⊥) → diff_left (ListAnswer.Refused ListError.NotAReceiver) old_room new_room out ≡ diff_says limit old new old_room new_room out
+  pub old-off-size : (length old_room ≡ 6 * limit → ⊥) → diff_left (Err ListError.NotAReceiver) old_room new_room out ≡ diff_says limit old new old_room new_room out
   unfolding diff_says
   old-off-size h = sym (off (eqb (length old_room) (6 * limit)) (eqb (length new_room) (6 * limit)) (simp (ne_eqb (length old_room) (6 * limit) h)))
 
-  pub new-off-size : length old_room ≡ 6 * limit → (length new_room ≡ 6 * limit → ⊥) → diff_left (ListAnswer.Refused ListError.NotAReceiver) old_room new_room out ≡ diff_says limit old new old_room new_room out
+  pub new-off-size : length old_room ≡ 6 * limit → (length new_room ≡ 6 * limit → ⊥) → diff_left (Err ListError.NotAReceiver) old_room new_room out ≡ diff_says limit old new old_room new_room out
   unfolding diff_says
   new-off-size e h = sym (off (eqb (length old_room) (6 * limit)) (eqb (length new_room) (6 * limit)) (simp (eq-eqb (length old_room) (6 * limit) e, ne_eqb (length new_room) (6 * limit) h)))

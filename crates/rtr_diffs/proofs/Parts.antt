@@ -1,4 +1,5 @@
 -- What a call of rtr_listing writes at the front of a part of the output is written there in the whole. Assumes nothing.
+use Rattle.std.specs.Prelude.{Result, Ok, Err}
 use Prim.Native.Nat.{ℕ, zero, suc, ◌+◌, ◌-◌, ◌≤◌}
 use mathlib.Core.List.{List, [], ◌∷◌, ◌++◌, append_assoc, append-nil}
 use mathlib.Core.Path.{◌≡◌, refl, sym, ap, ◌∙◌}
@@ -11,9 +12,9 @@ use Rattle.rtr_encode.specs.Encode.Writing.{written}
 use Rattle.rtr_listing.specs.Private.{Fits, Put}
 use Rattle.rtr_listing.specs.Promises.{list_said, leaves, puts}
 use Rattle.rtr_listing.specs.declared.ListError.TheVariants.{NotAReceiver, OutputShort}
-use Rattle.rtr_listing.specs.declared.ListAnswer.{ListAnswer}
 use Rattle.rtr_listing.proofs.Laws.{written_is}
 use Rattle.rtr_diffs.specs.Private.{behind_of}
+use Rattle.rtr_listing.specs.declared.ListError.{ListError}
 
 take_all : (k : ℕ) (s : List ℕ) → length s ≤ k → take k s ≡ s
 take_all zero [] h = refl
@@ -21,12 +22,12 @@ take_all (suc k) [] h = refl
 take_all zero (x ∷ s) h = absurd (omega arith)
 take_all (suc k) (x ∷ s) h = ap (λ (t : List ℕ). x ∷ t) (take_all k s (omega arith))
 
-said-written : (answer : ListAnswer) (n at : ℕ) → list_said answer ≡ written n → behind_of at answer ≡ at + n
-said-written (ListAnswer.Written k) n at e = let same : k ≡ n = cc in ap (λ (x : ℕ). at + x) same
-said-written (ListAnswer.Refused NotAReceiver) n at e = let z : ◌≡◌ {A = ℕ} 0 1 = cc in absurd (omega arith)
-said-written (ListAnswer.Refused (OutputShort k)) n at e = let z : ◌≡◌ {A = ℕ} 0 1 = cc in absurd (omega arith)
+said-written : (answer : Result ℕ ListError) (n at : ℕ) → list_said answer ≡ written n → behind_of at answer ≡ at + n
+said-written (Ok k) n at e = let same : k ≡ n = cc in ap (λ (x : ℕ). at + x) same
+said-written (Err NotAReceiver) n at e = let z : ◌≡◌ {A = ℕ} 0 1 = cc in absurd (omega arith)
+said-written (Err (OutputShort k)) n at e = let z : ◌≡◌ {A = ℕ} 0 1 = cc in absurd (omega arith)
 
-module _ (bytes out : List ℕ) (at : ℕ) (fits : Fits out at bytes) (answer : ListAnswer) (part : List ℕ) where
+module _ (bytes out : List ℕ) (at : ℕ) (fits : Fits out at bytes) (answer : Result ℕ ListError) (part : List ℕ) where
   abbrev span : ℕ
   span = length out - at
 

@@ -1,5 +1,6 @@
 -- What `diff` promises leaves one result, one content of the output and one of each room. `Post` is the contract as Rattle reads it off the source, and `s` the
 -- parameters as the function returns. Assumes nothing.
+use Rattle.std.specs.Prelude.{Result, Ok, Err}
 use mathlib.Core.Bool.{cond}
 use mathlib.Core.Path.{◌≡◌, refl, sym, ap, ◌∙◌}
 use lib.Dec.{eqb}
@@ -9,20 +10,20 @@ use Rattle.rtr_encode.specs.Encode.{Writing}
 use Rattle.rtr_encode.specs.Encode.Writing.{written, refused}
 use Rattle.rtr_listing.specs.Promises.{list_said}
 use Rattle.rtr_listing.specs.declared.ListError.TheVariants.{NotAReceiver, OutputShort}
-use Rattle.rtr_listing.specs.declared.ListAnswer.{ListAnswer}
 use Rattle.rtr_diffs.specs.Diffs.{DiffLeft, diff_left}
 use Rattle.rtr_diffs.proofs.diff.Reads as diff
+use Rattle.rtr_listing.specs.declared.ListError.{ListError}
 
 -- the answer that has a number and values
-answer_of : Writing → ListAnswer
-answer_of (written n) = ListAnswer.Written n
-answer_of (refused k x) = cond (eqb k 22) (ListAnswer.Refused NotAReceiver) (ListAnswer.Refused (OutputShort (get_or x 0 0)))
+answer_of : Writing → Result ℕ ListError
+answer_of (written n) = Ok n
+answer_of (refused k x) = cond (eqb k 22) (Err NotAReceiver) (Err (OutputShort (get_or x 0 0)))
 
-said-back : (a : ListAnswer) → answer_of (list_said a) ≡ a
+said-back : (a : Result ℕ ListError) → answer_of (list_said a) ≡ a
 unfolding answer_of
-said-back (ListAnswer.Written n) = refl
-said-back (ListAnswer.Refused NotAReceiver) = refl
-said-back (ListAnswer.Refused (OutputShort n)) = refl
+said-back (Ok n) = refl
+said-back (Err NotAReceiver) = refl
+said-back (Err (OutputShort n)) = refl
 
 pub diff-unique : (κs : _) (a : _) (r r' : _) (s s' : _) → diff.Post κs a r s → diff.Post κs a r' s'
     → (r ≡ r') × (s.1.1.0.now ≡ s'.1.1.0.now) × (s.1.1.1.0.now ≡ s'.1.1.1.0.now) × (s.1.1.1.1.0.now ≡ s'.1.1.1.1.0.now)

@@ -1,16 +1,16 @@
 -- What changed between two listings, as a text: document 02, request Four. One definition from two texts to one text: the refusal's three lines, old file first, or the lines of every change.
-use Rattle.std.specs.Prelude.{ℕ, ◌*◌, Bool, cond, ◌&&◌, List, [], ◌∷◌, ◌++◌, eqb, length, replicate}
+use Rattle.std.specs.Prelude.{ℕ, ◌*◌, Bool, cond, ◌&&◌, List, [], ◌∷◌, ◌++◌, eqb, length, replicate, Result}
 use Rattle.rtr_encode.specs.Encode.{Encoded}
 use Rattle.rtr_encode.specs.Encode.Writing.{refused}
 use Rattle.rtr_room.specs.declared.Record.{Record}
 use Rattle.rtr_receiver.specs.History.{Changed}
 use Rattle.rtr_listing.specs.Listing.{text, decimal, line_of, line, record_lines}
 use Rattle.rtr_listing.specs.Promises.{puts, list_said}
-use Rattle.rtr_listing.specs.declared.ListAnswer.{ListAnswer}
 use Rattle.rtr_listed.specs.Listed.{Read, read_listing}
 use Rattle.rtr_listed.specs.Listed.Read.{listed, misfit}
 use Rattle.rtr_listed.specs.Promises.{read_leaves}
 use Rattle.rtr_changes.specs.Changes.{changes}
+use Rattle.rtr_listing.specs.declared.ListError.{ListError}
 
 -- ---- the text
 
@@ -71,5 +71,5 @@ diff_says limit old new old_room new_room out =
     (record { out = record { says = refused 22 []; out = out }; old_room = old_room; new_room = new_room })
 
 -- what an answer says, of the memory that it leaves
-abbrev pub diff_left : ListAnswer → List ℕ → List ℕ → List ℕ → DiffLeft
+abbrev pub diff_left : Result ℕ ListError → List ℕ → List ℕ → List ℕ → DiffLeft
 diff_left answer old_room new_room out = record { out = record { says = list_said answer; out = out }; old_room = old_room; new_room = new_room }

@@ -12,11 +12,11 @@ ghost use Rattle.rtr_changes.specs.Changes.{changes};
 ghost use Rattle.rtr_diffs.specs.Diffs.{change_word, change_lines, changes_lines, refusal_lines, diff_says, diff_left};
 ghost use Rattle.rtr_diffs.specs.Private.{side_lines, IsRoom, behind_of, NewRead};
 
-use rtr_changes::{Only, next_only};
-use rtr_listed::{ListedAnswer, ListedError, read_listing};
-use rtr_listing::{ListAnswer, ListError, number_line, record_lines, text_line};
+use rtr_changes::{next_only};
+use rtr_listed::{ListedError, read_listing};
+use rtr_listing::{ListError, number_line, record_lines, text_line};
 use rtr_receiver::RECORD_LIMIT;
-use rtr_room::{Record, RecordFound, empty, get};
+use rtr_room::{Record, empty, get};
 
 // No change has more bytes: 16 for its first line, 128 for the record's.
 const CHANGE: usize = 144;
@@ -24,13 +24,13 @@ const CHANGE: usize = 144;
 // ---- Lines: each writes from a place on and gives the next place
 
 // Behind what was written.
-fn behind(at: usize, answer: ListAnswer) -> usize
+fn behind(at: usize, answer: Result<usize, ListError>) -> usize
     requires { behind_of at answer < 18446744073709551616 }
     ensures { result ≡ behind_of at answer }
 {
     match answer {
-        ListAnswer::Written(n) => at + n,
-        ListAnswer::Refused(_) => at,
+        Ok(n) => at + n,
+        Err(_) => at,
     }
 }
 
@@ -93,8 +93,8 @@ fn record_of(room: &[u32], i: usize) -> Record
     ensures { result ≡ record_at room.now i }
 {
     match get(room, i) {
-        RecordFound::Found(r) => r,
-        RecordFound::Outside => Record::ipv4(0, 0, 0, 0),
+        Some(r) => r,
+        None => Record::ipv4(0, 0, 0, 0),
     }
 }
 
@@ -106,14 +106,14 @@ fn side_length(announced: bool, a: &[u32], a_count: usize, b: &[u32], b_count: u
     let mut i = 0;
     while i < a_count {
         match next_only(a, a_count, b, b_count, i) {
-            Only::At(p) => {
+            Ok(Some(p)) => {
                 sum += change_length(announced, record_of(a, p));
                 i = p + 1;
             }
-            Only::Nothing => {
+            Ok(None) => {
                 return sum;
             }
-            Only::NotARoom => {
+            Err(_) => {
                 return sum;
             }
         }
@@ -137,14 +137,14 @@ fn put_side(
     let mut i = 0;
     while i < a_count {
         match next_only(a, a_count, b, b_count, i) {
-            Only::At(p) => {
+            Ok(Some(p)) => {
                 next = put_change(out, next, announced, record_of(a, p));
                 i = p + 1;
             }
-            Only::Nothing => {
+            Ok(None) => {
                 return next;
             }
-            Only::NotARoom => {
+            Err(_) => {
                 return next;
             }
         }
@@ -155,10 +155,10 @@ fn put_side(
 // ---- The text
 
 // Refusal 9.
-fn short(needed: usize) -> ListAnswer
-    ensures { result ≡ ListAnswer.Refused (ListError.OutputShort needed) }
+fn short(needed: usize) -> Result<usize, ListError>
+    ensures { result ≡ Err (ListError.OutputShort needed) }
 {
-    ListAnswer::Refused(ListError::OutputShort { needed })
+    Err(ListError::OutputShort { needed })
 }
 
 // Withdrawals, then announcements: lengths first, so that nothing is written where it does not fit.
@@ -168,7 +168,7 @@ fn write_changes(
     new: &[u32],
     new_count: usize,
     out: &mut [u8],
-) -> ListAnswer
+) -> Result<usize, ListError>
     requires { (IsRoom old.now old_count × IsRoom new.now new_count) × ((old_count ≤ record_limit) × (new_count ≤ record_limit)) }
     ensures { leaves result out.new ≡ puts (changes_lines (changes (records old_count old.now) (records new_count new.now))) out.old }
 {
@@ -180,7 +180,7 @@ fn write_changes(
     }
     let next = put_side(out, 0, false, old, old_count, new, new_count);
     put_side(out, next, true, new, new_count, old, old_count);
-    ListAnswer::Written(needed)
+    Ok(needed)
 }
 
 // The three lines of a refused file.
@@ -193,7 +193,7 @@ fn put_refusal(out: &mut [u8], file: &[u8], line: usize) -> usize
     put_number(out, at_line, b"line=", line)
 }
 
-fn write_refusal(file: &[u8], line: usize, out: &mut [u8]) -> ListAnswer
+fn write_refusal(file: &[u8], line: usize, out: &mut [u8]) -> Result<usize, ListError>
     requires { length file.now ≡ 3 }
     ensures { leaves result out.new ≡ puts (refusal_lines file.now line) out.old }
 {
@@ -203,7 +203,7 @@ fn write_refusal(file: &[u8], line: usize, out: &mut [u8]) -> ListAnswer
         return short(needed);
     }
     put_refusal(out, file, line);
-    ListAnswer::Written(needed)
+    Ok(needed)
 }
 
 // The room's size was tested before, so the other refusal does not come.
@@ -223,13 +223,13 @@ fn diff_new(
     old_count: usize,
     new_room: &mut [u32],
     out: &mut [u8],
-) -> ListAnswer
+) -> Result<usize, ListError>
     requires { IsRoom old_room.now old_count × ((old_count ≤ record_limit) × (length new_room.old ≡ 6 * record_limit)) }
     ensures { NewRead record_limit (records old_count old_room.now) new.now out.old out.new new_room.new result }
 {
     match read_listing(new, new_room) {
-        ListedAnswer::Listed(head) => write_changes(old_room, old_count, new_room, head.count, out),
-        ListedAnswer::Refused(error) => write_refusal(b"new", line_of(error), out),
+        Ok(head) => write_changes(old_room, old_count, new_room, head.count, out),
+        Err(error) => write_refusal(b"new", line_of(error), out),
     }
 }
 
@@ -240,18 +240,18 @@ pub fn diff(
     old_room: &mut [u32],
     new_room: &mut [u32],
     out: &mut [u8],
-) -> ListAnswer
+) -> Result<usize, ListError>
     ensures { diff_left result old_room.new new_room.new out.new ≡ diff_says record_limit old.now new.now old_room.old new_room.old out.old }
 {
     if old_room.len() != 6 * RECORD_LIMIT {
-        return ListAnswer::Refused(ListError::NotAReceiver);
+        return Err(ListError::NotAReceiver);
     }
     if new_room.len() != 6 * RECORD_LIMIT {
-        return ListAnswer::Refused(ListError::NotAReceiver);
+        return Err(ListError::NotAReceiver);
     }
     match read_listing(old, old_room) {
-        ListedAnswer::Listed(head) => diff_new(new, old_room, head.count, new_room, out),
-        ListedAnswer::Refused(error) => {
+        Ok(head) => diff_new(new, old_room, head.count, new_room, out),
+        Err(error) => {
             empty(new_room);
             write_refusal(b"old", line_of(error), out)
         }

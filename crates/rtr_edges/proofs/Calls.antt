@@ -1,5 +1,6 @@
 -- The lines of the table, of the calls: at each line's input the contract of `parse_rtr_pdu`, `encode`, `walk` or `notify`, as Rattle reads it off the source (`Post`), leaves that answer alone. Each follows from
 -- the line's own statement (`edges-hold`), whatever the line, so a line that is added is proved of the calls too. Assumes nothing.
+use Rattle.std.specs.Prelude.{Some, ⊤, Ok}
 use Prim.Native.Nat.{ℕ}
 use mathlib.Core.Bool.{true}
 use mathlib.Core.List.{List, [], ◌∷◌}
@@ -10,7 +11,6 @@ use Rattle.rtr_codec.specs.Reading.{in_use}
 use Rattle.rtr_codec.specs.Read.{read}
 use Rattle.rtr_codec.specs.Read.Verdict.{accepted}
 use Rattle.rtr_codec.specs.Answers.{verdict}
-use Rattle.rtr_codec.specs.declared.ReadAnswer.TheVariants.{Read}
 use Rattle.rtr_codec.proofs.parse_rtr_pdu.Reads as parse
 use Rattle.rtr_encode.specs.Encode.{Encoded}
 use Rattle.rtr_encode.specs.Encode as paper
@@ -22,8 +22,6 @@ use Rattle.rtr_walk.proofs.walk.Reads as walk
 use Rattle.rtr_receiver.specs.Receiver.{notified, compared}
 use Rattle.rtr_receiver.specs.Promises.{is_receiver, notify_said}
 use Rattle.rtr_receiver.specs.Promises.NotifySays.{compares}
-use Rattle.rtr_receiver.specs.declared.LiveTable.{LiveTable}
-use Rattle.rtr_receiver.specs.declared.Note.{Note}
 use Rattle.rtr_receiver.specs.declared.Table.{Table}
 use Rattle.rtr_receiver.proofs.Shaped.{shaped-notify}
 use Rattle.rtr_receiver.proofs.notify.Reads as notify
@@ -35,14 +33,14 @@ use Rattle.rtr_edges.proofs.Edges.{edges-hold}
 abbrev Called : Edge → Type 0
 Called (reads s v) = (κs : _) (a : _) (r : _) (st : _) → parse.Post κs a r st → a.0.now ≡ s → verdict r ≡ v
 Called (recodes s out left) =
-    (κs : _) (a : _) (pdu : RtrPdu) (n : ℕ) (st : _) → parse.Post κs a (Read pdu n) st → a.0.now ≡ s
+    (κs : _) (a : _) (pdu : RtrPdu) (n : ℕ) (st : _) → parse.Post κs a (Ok (pdu, n)) st → a.0.now ≡ s
     → (κs' : _) (a' : _) (r : _) (st' : _) → encode.Post κs' a' r st' → a'.0 ≡ pdu → a'.1.0.now ≡ s → a'.1.1.0.now ≡ out
     → leaves r st'.1.1.0.now ≡ left
 Called (walks s v) = (κs : _) (a : _) (r : _) (st : _) → walk.Post κs a r st → a.0.now ≡ s → walk_said r ≡ v
 Called (notifies table serial v) =
     (κs : _) (a : _) (r : _) (st : _) → notify.Post κs a r st
     → is_receiver a.0.life.limit a.0 a.1.0.now a.1.1.0.now a.1.1.1.0.now ≡ true
-    → (t : Table) → a.0.table ≡ LiveTable.Known t → t.serial ≡ table → a.0.note ≡ Note.Noted t.session serial
+    → (t : Table) → a.0.table ≡ Some t → t.serial ≡ table → a.0.note ≡ Some (t.session, serial)
     → notify_said r ≡ compares v
 
 abbrev AllCalled : List Edge → Type 0
@@ -54,7 +52,7 @@ recoded : (s out : List ℕ) (left : Encoded) (pdu : RtrPdu) (n : ℕ) → Recod
 recoded s out left pdu n h e = subst (Recodes s out left) (sym e) h
 
 -- under one session the serials are compared
-one-session : (t : Table) (serial : ℕ) → notified (LiveTable.Known t) (Note.Noted t.session serial) ≡ compared serial t.serial
+one-session : (t : Table) (serial : ℕ) → notified (Some t) (Some (t.session, serial)) ≡ compared serial t.serial
 one-session t serial = simp (eq-eqb t.session t.session refl)
 
 called : (e : Edge) → Holds e → Called e

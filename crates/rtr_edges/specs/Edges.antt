@@ -1,5 +1,5 @@
 -- Document 01, "Either side of each edge": the lines marked P, as one table.
-use Rattle.std.specs.Prelude.{ℕ, List, [], ◌∷◌, ◌++◌, ◌≡◌, replicate}
+use Rattle.std.specs.Prelude.{ℕ, List, [], ◌∷◌, ◌++◌, ◌≡◌, replicate, Some}
 use Rattle.rtr_models.specs.declared.RtrProtocolVersion.TheVariants.{V1}
 use Rattle.rtr_models.specs.declared.RtrErrorCode.TheVariants.{CorruptData}
 use Rattle.rtr_models.specs.declared.RtrPduType.{RtrPduType}
@@ -11,8 +11,6 @@ use Rattle.rtr_encode.specs.Encode.{Encoded, encode}
 use Rattle.rtr_encode.specs.Encode.Writing.{written}
 use Rattle.rtr_receiver.specs.Receiver.{Notified, notified}
 use Rattle.rtr_receiver.specs.Receiver.Notified.{newer, undefined}
-use Rattle.rtr_receiver.specs.declared.LiveTable.{LiveTable}
-use Rattle.rtr_receiver.specs.declared.Note.{Note}
 use Rattle.rtr_walk.specs.Walk.{WalkVerdict, walk}
 use Rattle.rtr_walk.specs.Walk.End.{plain}
 use Rattle.rtr_walk.specs.Walk.WalkVerdict.{walked}
@@ -35,7 +33,7 @@ abbrev pub Holds : Edge → Type 0
 Holds (reads s v) = read in_use s ≡ v
 Holds (recodes s out left) = Recodes s out left (read in_use s)
 Holds (walks s v) = walk in_use s ≡ v
-Holds (notifies table serial v) = notified (LiveTable.Known (record { session = 0; serial = table; refresh = 0; retry = 0; expire = 0 })) (Note.Noted 0 serial) ≡ v
+Holds (notifies table serial v) = notified (Some (record { session = 0; serial = table; refresh = 0; retry = 0; expire = 0 })) (Some (0, serial)) ≡ v
 
 abbrev pub AllHold : List Edge → Type 0
 AllHold [] = Unit {0}

@@ -2,13 +2,13 @@
 // encoded, and payloads out of place. The file `stdout` has what must be printed.
 #![tactic(auto)]
 
-use rtr_codec::{ReadAnswer, RtrError, parse_rtr_pdu};
-use rtr_encode::{EncodeAnswer, EncodeError};
+use rtr_codec::{RtrError, parse_rtr_pdu};
+use rtr_encode::{EncodeError};
 use rtr_models::{
-    Interval, PartAnswer, Place, RtrEndOfData, RtrErrorCode, RtrErrorReport, RtrIPv4Prefix, RtrPdu,
+    Place, RtrEndOfData, RtrErrorCode, RtrErrorReport, RtrIPv4Prefix, RtrPdu,
     RtrProtocolVersion, RtrRouterKey,
 };
-use rtr_walk::{WalkAnswer, WalkEnd};
+use rtr_walk::{WalkEnd};
 use std::io;
 
 // ---- Printing
@@ -104,11 +104,11 @@ fn show_read(out: &impl Print, label: &[u8], input: &[u8]) -> io::Result<()> {
     say(out, label)?;
     say(out, b": ")?;
     match parse_rtr_pdu(input) {
-        ReadAnswer::Read(pdu, consumed) => {
+        Ok((pdu, consumed)) => {
             say_number(out, b"ok consumed=", consumed as u64)?;
             say_pdu(out, pdu, input)?;
         }
-        ReadAnswer::Refused(error) => say_refusal(out, error)?,
+        Err(error) => say_refusal(out, error)?,
     }
     say(out, b"\n")
 }
@@ -127,11 +127,11 @@ fn show_walk(out: &impl Print, label: &[u8], input: &[u8]) -> io::Result<()> {
     say(out, label)?;
     say(out, b": ")?;
     match rtr_walk::walk(input) {
-        WalkAnswer::Walked(level, end) => {
+        Ok((level, end)) => {
             say_number(out, b"level=", level as u64)?;
             say_end(out, end)?;
         }
-        WalkAnswer::Refused(error) => say_refusal(out, error)?,
+        Err(error) => say_refusal(out, error)?,
     }
     say(out, b"\n")
 }
@@ -150,8 +150,8 @@ fn report_of(input: &[u8], out: &mut [u8]) -> usize {
         none,
     );
     match rtr_encode::encode_error_report(report, input, out) {
-        EncodeAnswer::Written(n) => n,
-        EncodeAnswer::Refused(_) => 0,
+        Ok(n) => n,
+        Err(_) => 0,
     }
 }
 
@@ -208,10 +208,10 @@ fn say_needed(out: &impl Print, error: EncodeError) -> io::Result<()> {
     }
 }
 
-fn say_encoded(out: &impl Print, answer: EncodeAnswer) -> io::Result<()> {
+fn say_encoded(out: &impl Print, answer: Result<usize, EncodeError>) -> io::Result<()> {
     match answer {
-        EncodeAnswer::Written(n) => say_number(out, b"written=", n as u64),
-        EncodeAnswer::Refused(error) => {
+        Ok(n) => say_number(out, b"written=", n as u64),
+        Err(error) => {
             say_number(out, b"refused ", error.number() as u64)?;
             say_needed(out, error)
         }
@@ -269,8 +269,8 @@ fn show_place(out: &impl Print, label: &[u8], start: usize, len: usize) -> io::R
     let bytes = [1u8, 2, 3, 4, 5];
     say(out, label)?;
     match place.answer(&bytes) {
-        PartAnswer::Part => say(out, b": part ")?,
-        PartAnswer::Refused => say(out, b": refused 11 ")?,
+        Ok(()) => say(out, b": part ")?,
+        Err(_) => say(out, b": refused 11 ")?,
     }
     say_hex(out, place.part(&bytes))?;
     say(out, b"\n")
@@ -436,21 +436,21 @@ fn encodings(out: &impl Print) -> io::Result<()> {
     )
 }
 
-fn end_of_data(version: RtrProtocolVersion, refresh: Interval, expire: Interval) -> RtrPdu {
+fn end_of_data(version: RtrProtocolVersion, refresh: Option<u32>, expire: Option<u32>) -> RtrPdu {
     RtrPdu::EndOfData(RtrEndOfData {
         version,
         session_id: 4660,
         serial_number: 7,
         refresh_interval: refresh,
-        retry_interval: Interval::Absent,
+        retry_interval: None,
         expire_interval: expire,
     })
 }
 
 fn ends_of_data(out: &impl Print) -> io::Result<()> {
     let none = b"";
-    let absent = Interval::Absent;
-    let one = Interval::Seconds(1);
+    let absent = None;
+    let one = Some(1);
     show_encode(
         out,
         b"end of data, defaults",
@@ -493,13 +493,13 @@ fn prefix(flags: u8, prefix_length: u8, max_length: u8) -> RtrPdu {
     })
 }
 
-fn say_run(out: &impl Print, answer: ReadAnswer) -> io::Result<()> {
+fn say_run(out: &impl Print, answer: Result<(RtrPdu, usize), RtrError>) -> io::Result<()> {
     match answer {
-        ReadAnswer::Read(pdu, _) => {
+        Ok((pdu, _)) => {
             let version = pdu.version();
             say_number(out, b"version=", version.to_u8() as u64)
         }
-        ReadAnswer::Refused(error) => say_refusal(out, error),
+        Err(error) => say_refusal(out, error),
     }
 }
 

@@ -1,5 +1,6 @@
 -- PDUs with payloads: the stores one behind the other are all of the PDU's bytes, whatever the payloads' lengths; and what the tests of
 -- places say of the parts. Assumes nothing.
+use Rattle.std.specs.Prelude.{Result, Ok, Err, ⊤}
 use Prim.Native.Nat.{ℕ, zero, suc, ◌+◌, ◌<◌, ◌/◌, ◌%◌}
 use native.Mathlib.Numerals.{add-one}
 use mathlib.Core.Bool.{Bool, true, false}
@@ -13,11 +14,11 @@ use Rattle.rtr_models.specs.Codes.{version_number}
 use Rattle.rtr_models.specs.Parts.{inside, part_number, number_if}
 use Rattle.rtr_models.specs.declared.RtrProtocolVersion.{RtrProtocolVersion}
 use Rattle.rtr_models.specs.declared.Place.{Place}
-use Rattle.rtr_models.specs.declared.PartAnswer.{PartAnswer}
 use Rattle.rtr_base.specs.Over.{over}
 use Rattle.rtr_encode.specs.Encode.{bytes_of, at}
 use Rattle.rtr_encode.specs.Private.{key_bytes, report_bytes}
 use Rattle.rtr_base.proofs.Overs.{next}
+use Rattle.rtr_models.specs.declared.PlaceOutside.{PlaceOutside}
 
 pub flags-and-zero : (a : ℕ) → a < 256 → a ∷ 0 ∷ [] ≡ bytes_of 1 a ++ (0 ∷ [])
 unfolding bytes_of
@@ -55,11 +56,11 @@ report-stored v code whole copy text o o₁ o₂ o₃ o₄ o₅ e₁ e₂ e₃ e
     next o o₄ o₅ _ _ (16 + length copy) (next o o₃ o₄ _ _ (12 + length copy) (next o o₂ o₃ _ _ 12 (next o o₁ o₂ _ _ 8 e₁ l₁ e₂) l₂ e₃) l₃ e₄) l₄ e₅
 
 -- what a test of a place tells
-pub part-is-true : (b : Bool) (r : PartAnswer) → part_number r ≡ number_if b → r ≡ PartAnswer.Part → b ≡ true
+pub part-is-true : (b : Bool) (r : Result ⊤ PlaceOutside) → part_number r ≡ number_if b → r ≡ Ok tt → b ≡ true
 part-is-true true r p q = refl
 part-is-true false r p q = let z : ◌≡◌ {A = ℕ} 0 11 = sym (ap part_number q) ∙ p in absurd (omega arith)
 
-pub refused-is-false : (b : Bool) (r : PartAnswer) → part_number r ≡ number_if b → r ≡ PartAnswer.Refused → b ≡ false
+pub refused-is-false : (b : Bool) (r : Result ⊤ PlaceOutside) → part_number r ≡ number_if b → r ≡ Err (record {}) → b ≡ false
 refused-is-false true r p q = let z : ◌≡◌ {A = ℕ} 11 0 = sym (ap part_number q) ∙ p in absurd (omega arith)
 refused-is-false false r p q = refl
 

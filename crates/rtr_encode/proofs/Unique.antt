@@ -1,5 +1,6 @@
 -- What each public function promises leaves one result and one content of the lent output. `Post` is the contract as Rattle reads it off the
 -- source, and `s` the parameters as the function returns. Assumes nothing.
+use Rattle.std.specs.Prelude.{Result, Ok, Err}
 use Prim.Native.Nat.{ℕ}
 use mathlib.Core.Bool.{cond}
 use mathlib.Core.List.{List}
@@ -11,8 +12,6 @@ use Rattle.rtr_encode.specs.Encode.{Writing, Encoded}
 use Rattle.rtr_encode.specs.Encode.Writing.{written, refused}
 use Rattle.rtr_encode.specs.Answers.{writing, leaves}
 use Rattle.rtr_encode.specs.declared.EncodeError.TheVariants.{PlaceOutside, InvalidUtf8, TooLong, OutputShort}
-use Rattle.rtr_encode.specs.declared.EncodeAnswer.{EncodeAnswer}
-use Rattle.rtr_encode.specs.declared.EncodeAnswer.TheVariants.{Written, Refused}
 use Rattle.rtr_encode.proofs.EncodeError.number.Reads as encode-error-number
 use Rattle.rtr_encode.proofs.encode_serial_notify.Reads as encode-serial-notify
 use Rattle.rtr_encode.proofs.encode_serial_query.Reads as encode-serial-query
@@ -25,23 +24,24 @@ use Rattle.rtr_encode.proofs.encode_cache_reset.Reads as encode-cache-reset
 use Rattle.rtr_encode.proofs.encode_router_key.Reads as encode-router-key
 use Rattle.rtr_encode.proofs.encode_error_report.Reads as encode-error-report
 use Rattle.rtr_encode.proofs.encode.Reads as encode
+use Rattle.rtr_encode.specs.declared.EncodeError.{EncodeError}
 
 -- the answer that has a number and values
-answer_of : Writing → EncodeAnswer
-answer_of (written n) = Written n
+answer_of : Writing → Result ℕ EncodeError
+answer_of (written n) = Ok n
 answer_of (refused k x) =
-    cond (eqb k 11) (Refused PlaceOutside)
-    (cond (eqb k 8) (Refused InvalidUtf8) (cond (eqb k 10) (Refused TooLong) (Refused (OutputShort (get_or x 0 0)))))
+    cond (eqb k 11) (Err PlaceOutside)
+    (cond (eqb k 8) (Err InvalidUtf8) (cond (eqb k 10) (Err TooLong) (Err (OutputShort (get_or x 0 0)))))
 
-writing-back : (a : EncodeAnswer) → answer_of (writing a) ≡ a
+writing-back : (a : Result ℕ EncodeError) → answer_of (writing a) ≡ a
 unfolding answer_of
-writing-back (Written n) = refl
-writing-back (Refused PlaceOutside) = refl
-writing-back (Refused InvalidUtf8) = refl
-writing-back (Refused TooLong) = refl
-writing-back (Refused (OutputShort n)) = refl
+writing-back (Ok n) = refl
+writing-back (Err PlaceOutside) = refl
+writing-back (Err InvalidUtf8) = refl
+writing-back (Err TooLong) = refl
+writing-back (Err (OutputShort n)) = refl
 
-one-leaving : (r r' : EncodeAnswer) (o o' : List ℕ) (given : Encoded) → leaves r o ≡ given → leaves r' o' ≡ given → (r ≡ r') × (o ≡ o')
+one-leaving : (r r' : Result ℕ EncodeError) (o o' : List ℕ) (given : Encoded) → leaves r o ≡ given → leaves r' o' ≡ given → (r ≡ r') × (o ≡ o')
 one-leaving r r' o o' given p q = (
   only_one writing answer_of writing-back r r' given.says (ap (λ (e : Encoded). e.says) p) (ap (λ (e : Encoded). e.says) q),
   only-this o o' given.out (ap (λ (e : Encoded). e.out) p) (ap (λ (e : Encoded). e.out) q),

@@ -1,12 +1,10 @@
 -- Document 01's number and values of each answer of encoding: "Encoding" and "Refusal numbers".
-use Rattle.std.specs.Prelude.{List, [], ◌∷◌, ℕ}
+use Rattle.std.specs.Prelude.{List, [], ◌∷◌, ℕ, Result, Ok, Err}
 use Rattle.rtr_codec.specs.Read.{text_refusal}
 use Rattle.rtr_encode.specs.Encode.{Writing, Encoded}
 use Rattle.rtr_encode.specs.Encode.Writing.{written, refused}
 use Rattle.rtr_encode.specs.declared.EncodeError.{EncodeError}
 use Rattle.rtr_encode.specs.declared.EncodeError.TheVariants.{PlaceOutside, InvalidUtf8, TooLong, OutputShort}
-use Rattle.rtr_encode.specs.declared.EncodeAnswer.{EncodeAnswer}
-use Rattle.rtr_encode.specs.declared.EncodeAnswer.TheVariants.{Written, Refused}
 
 -- a refusal's number and values
 abbrev pub encode_refusal : EncodeError → Writing
@@ -16,12 +14,12 @@ encode_refusal TooLong = refused 10 []
 encode_refusal (OutputShort needed) = refused 9 (needed ∷ [])
 
 -- the bytes written, or the refusal
-abbrev pub writing : EncodeAnswer → Writing
-writing (Written n) = written n
-writing (Refused error) = encode_refusal error
+abbrev pub writing : Result ℕ EncodeError → Writing
+writing (Ok n) = written n
+writing (Err error) = encode_refusal error
 
 -- an answer and the output that it leaves
-abbrev pub leaves : EncodeAnswer → List ℕ → Encoded
+abbrev pub leaves : Result ℕ EncodeError → List ℕ → Encoded
 leaves answer out = record { says = writing answer; out = out }
 
 -- the number alone; 0 is no refusal

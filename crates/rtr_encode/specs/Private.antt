@@ -1,10 +1,9 @@
 -- What the contracts of private functions say: an End of Data of one version, the bytes that the code puts together, the last two checks. No promise of a public function speaks of it.
-use Rattle.std.specs.Prelude.{ℕ, List, [], ◌∷◌, ◌++◌, length, leb}
+use Rattle.std.specs.Prelude.{ℕ, List, [], ◌∷◌, ◌++◌, length, leb, Some}
 use Rattle.rtr_models.specs.Codes.{version_number}
 use Rattle.rtr_models.specs.declared.RtrProtocolVersion.{RtrProtocolVersion}
 use Rattle.rtr_models.specs.declared.RtrProtocolVersion.TheVariants.{V1}
 use Rattle.rtr_models.specs.declared.RtrEndOfData.{RtrEndOfData}
-use Rattle.rtr_models.specs.declared.Interval.{Interval}
 use Rattle.rtr_encode.specs.Encode.{Writing, bytes_of, unless, out_after, Encoded}
 use Rattle.rtr_encode.specs.Encode.Writing.{written}
 
@@ -27,9 +26,9 @@ end_of_data session serial refresh retry expire =
       version = V1;
       session_id = session;
       serial_number = serial;
-      refresh_interval = Interval.Seconds refresh;
-      retry_interval = Interval.Seconds retry;
-      expire_interval = Interval.Seconds expire;
+      refresh_interval = Some refresh;
+      retry_interval = Some retry;
+      expire_interval = Some expire;
     }
 
 -- a Router Key's bytes in the crate's arrangement, with its payloads at hand

@@ -35,13 +35,6 @@ impl EncodeError {
     }
 }
 
-// How many bytes were written, or why none were.
-#[derive(Clone, Copy)]
-pub enum EncodeAnswer {
-    Written(usize),
-    Refused(EncodeError),
-}
-
 // ---- Bytes of numbers
 
 fn put8(out: &mut [u8], at: usize, n: u8)
@@ -87,13 +80,13 @@ fn put_header(out: &mut [u8], version: RtrProtocolVersion, pdu_type: u8, session
 // ---- Encoding, one function for each kind
 
 // Refusal 9.
-fn short(needed: usize) -> EncodeAnswer
-    ensures { result ≡ EncodeAnswer.Refused (EncodeError.OutputShort needed) }
+fn short(needed: usize) -> Result<usize, EncodeError>
+    ensures { result ≡ Err (EncodeError.OutputShort needed) }
 {
-    EncodeAnswer::Refused(EncodeError::OutputShort { needed })
+    Err(EncodeError::OutputShort { needed })
 }
 
-pub fn encode_serial_notify(pdu: RtrSerialNotify, out: &mut [u8]) -> EncodeAnswer
+pub fn encode_serial_notify(pdu: RtrSerialNotify, out: &mut [u8]) -> Result<usize, EncodeError>
     ensures { leaves result out.new ≡ encode in_use (RtrPdu.SerialNotify pdu) [] out.old }
 {
     if out.len() < 12 {
@@ -102,10 +95,10 @@ pub fn encode_serial_notify(pdu: RtrSerialNotify, out: &mut [u8]) -> EncodeAnswe
     let version = pdu.version;
     put_header(out, version, 0, pdu.session_id, 12);
     put32(out, 8, pdu.serial_number);
-    EncodeAnswer::Written(12)
+    Ok(12)
 }
 
-pub fn encode_serial_query(pdu: RtrSerialQuery, out: &mut [u8]) -> EncodeAnswer
+pub fn encode_serial_query(pdu: RtrSerialQuery, out: &mut [u8]) -> Result<usize, EncodeError>
     ensures { leaves result out.new ≡ encode in_use (RtrPdu.SerialQuery pdu) [] out.old }
 {
     if out.len() < 12 {
@@ -114,10 +107,10 @@ pub fn encode_serial_query(pdu: RtrSerialQuery, out: &mut [u8]) -> EncodeAnswer
     let version = pdu.version;
     put_header(out, version, 1, pdu.session_id, 12);
     put32(out, 8, pdu.serial_number);
-    EncodeAnswer::Written(12)
+    Ok(12)
 }
 
-pub fn encode_reset_query(pdu: RtrResetQuery, out: &mut [u8]) -> EncodeAnswer
+pub fn encode_reset_query(pdu: RtrResetQuery, out: &mut [u8]) -> Result<usize, EncodeError>
     ensures { leaves result out.new ≡ encode in_use (RtrPdu.ResetQuery pdu) [] out.old }
 {
     if out.len() < 8 {
@@ -125,10 +118,10 @@ pub fn encode_reset_query(pdu: RtrResetQuery, out: &mut [u8]) -> EncodeAnswer
     }
     let version = pdu.version;
     put_header(out, version, 2, 0, 8);
-    EncodeAnswer::Written(8)
+    Ok(8)
 }
 
-pub fn encode_cache_response(pdu: RtrCacheResponse, out: &mut [u8]) -> EncodeAnswer
+pub fn encode_cache_response(pdu: RtrCacheResponse, out: &mut [u8]) -> Result<usize, EncodeError>
     ensures { leaves result out.new ≡ encode in_use (RtrPdu.CacheResponse pdu) [] out.old }
 {
     if out.len() < 8 {
@@ -136,7 +129,7 @@ pub fn encode_cache_response(pdu: RtrCacheResponse, out: &mut [u8]) -> EncodeAns
     }
     let version = pdu.version;
     put_header(out, version, 3, pdu.session_id, 8);
-    EncodeAnswer::Written(8)
+    Ok(8)
 }
 
 // Bytes 8 to 11 of a prefix: prefix lengths are not tested, as in the Rust.
@@ -150,7 +143,7 @@ fn put_lengths(out: &mut [u8], flags: u8, prefix_length: u8, max_length: u8)
     out[11] = 0;
 }
 
-pub fn encode_ipv4_prefix(pdu: RtrIPv4Prefix, out: &mut [u8]) -> EncodeAnswer
+pub fn encode_ipv4_prefix(pdu: RtrIPv4Prefix, out: &mut [u8]) -> Result<usize, EncodeError>
     ensures { leaves result out.new ≡ encode in_use (RtrPdu.IPv4Prefix pdu) [] out.old }
 {
     if out.len() < 20 {
@@ -161,10 +154,10 @@ pub fn encode_ipv4_prefix(pdu: RtrIPv4Prefix, out: &mut [u8]) -> EncodeAnswer
     put_lengths(out, pdu.flags, pdu.prefix_length, pdu.max_length);
     put32(out, 12, pdu.prefix);
     put32(out, 16, pdu.asn);
-    EncodeAnswer::Written(20)
+    Ok(20)
 }
 
-pub fn encode_ipv6_prefix(pdu: RtrIPv6Prefix, out: &mut [u8]) -> EncodeAnswer
+pub fn encode_ipv6_prefix(pdu: RtrIPv6Prefix, out: &mut [u8]) -> Result<usize, EncodeError>
     ensures { leaves result out.new ≡ encode in_use (RtrPdu.IPv6Prefix pdu) [] out.old }
 {
     if out.len() < 32 {
@@ -179,11 +172,11 @@ pub fn encode_ipv6_prefix(pdu: RtrIPv6Prefix, out: &mut [u8]) -> EncodeAnswer
     put32(out, 20, prefix.w2);
     put32(out, 24, prefix.w3);
     put32(out, 28, pdu.asn);
-    EncodeAnswer::Written(32)
+    Ok(32)
 }
 
 // Version 0 drops the intervals.
-fn encode_end_of_data_v0(pdu: RtrEndOfData, out: &mut [u8]) -> EncodeAnswer
+fn encode_end_of_data_v0(pdu: RtrEndOfData, out: &mut [u8]) -> Result<usize, EncodeError>
     ensures { leaves result out.new ≡ encode in_use (RtrPdu.EndOfData (with_version RtrProtocolVersion.V0 pdu)) [] out.old }
 {
     if out.len() < 12 {
@@ -191,7 +184,7 @@ fn encode_end_of_data_v0(pdu: RtrEndOfData, out: &mut [u8]) -> EncodeAnswer
     }
     put_header(out, RtrProtocolVersion::V0, 7, pdu.session_id, 12);
     put32(out, 8, pdu.serial_number);
-    EncodeAnswer::Written(12)
+    Ok(12)
 }
 
 fn encode_end_of_data_v1(
@@ -201,7 +194,7 @@ fn encode_end_of_data_v1(
     retry: u32,
     expire: u32,
     out: &mut [u8],
-) -> EncodeAnswer
+) -> Result<usize, EncodeError>
     ensures { leaves result out.new ≡ encode in_use (RtrPdu.EndOfData (end_of_data session_id serial_number refresh retry expire)) [] out.old }
 {
     if out.len() < 24 {
@@ -212,11 +205,11 @@ fn encode_end_of_data_v1(
     put32(out, 12, refresh);
     put32(out, 16, retry);
     put32(out, 20, expire);
-    EncodeAnswer::Written(24)
+    Ok(24)
 }
 
 // In version 1 an absent interval is written as its default.
-pub fn encode_end_of_data(pdu: RtrEndOfData, out: &mut [u8]) -> EncodeAnswer
+pub fn encode_end_of_data(pdu: RtrEndOfData, out: &mut [u8]) -> Result<usize, EncodeError>
     ensures { leaves result out.new ≡ encode in_use (RtrPdu.EndOfData pdu) [] out.old }
 {
     let version = pdu.version;
@@ -238,7 +231,7 @@ pub fn encode_end_of_data(pdu: RtrEndOfData, out: &mut [u8]) -> EncodeAnswer
     }
 }
 
-pub fn encode_cache_reset(pdu: RtrCacheReset, out: &mut [u8]) -> EncodeAnswer
+pub fn encode_cache_reset(pdu: RtrCacheReset, out: &mut [u8]) -> Result<usize, EncodeError>
     ensures { leaves result out.new ≡ encode in_use (RtrPdu.CacheReset pdu) [] out.old }
 {
     if out.len() < 8 {
@@ -246,7 +239,7 @@ pub fn encode_cache_reset(pdu: RtrCacheReset, out: &mut [u8]) -> EncodeAnswer
     }
     let version = pdu.version;
     put_header(out, version, 8, 0, 8);
-    EncodeAnswer::Written(8)
+    Ok(8)
 }
 
 // ---- Payloads
@@ -434,10 +427,10 @@ fn put_error_report(
 // ---- Encoding, the kinds with payloads: 11, 8, 10, 9, in this order
 
 // Refusal 11.
-fn outside() -> EncodeAnswer
-    ensures { result ≡ EncodeAnswer.Refused EncodeError.PlaceOutside }
+fn outside() -> Result<usize, EncodeError>
+    ensures { result ≡ Err EncodeError.PlaceOutside }
 {
-    EncodeAnswer::Refused(EncodeError::PlaceOutside)
+    Err(EncodeError::PlaceOutside)
 }
 
 // The places lie in the slice: lengths are next.
@@ -448,30 +441,30 @@ fn encode_key_parts(
     asn: u32,
     info: &[u8],
     out: &mut [u8],
-) -> EncodeAnswer
+) -> Result<usize, EncodeError>
     requires { length identifier.now ≡ 20 }
     ensures { leaves result out.new ≡ last_checks (34 + length info.now) (key_bytes version flags identifier.now asn info.now (34 + length info.now)) out.old }
 {
     let whole = 34 + info.len();
     if whole > 4294967295 {
-        return EncodeAnswer::Refused(EncodeError::TooLong);
+        return Err(EncodeError::TooLong);
     }
     if out.len() < whole {
         return short(whole);
     }
     put_router_key(version, flags, identifier, asn, info, whole as u32, out);
-    EncodeAnswer::Written(whole)
+    Ok(whole)
 }
 
-pub fn encode_router_key(pdu: RtrRouterKey, input: &[u8], out: &mut [u8]) -> EncodeAnswer
+pub fn encode_router_key(pdu: RtrRouterKey, input: &[u8], out: &mut [u8]) -> Result<usize, EncodeError>
     ensures { leaves result out.new ≡ encode in_use (RtrPdu.RouterKey pdu) input.now out.old }
 {
     let identifier = pdu.subject_key_identifier_answer(input);
-    if let PartAnswer::Refused = identifier {
+    if let Err(_) = identifier {
         return outside();
     }
     let info = pdu.subject_public_key_info_answer(input);
-    if let PartAnswer::Refused = info {
+    if let Err(_) = info {
         return outside();
     }
     let version = pdu.version;
@@ -492,37 +485,37 @@ fn encode_report_parts(
     copy: &[u8],
     text: &[u8],
     out: &mut [u8],
-) -> EncodeAnswer
+) -> Result<usize, EncodeError>
     ensures { leaves result out.new ≡ last_checks (16 + length copy.now + length text.now) (report_bytes version code copy.now text.now (16 + length copy.now + length text.now)) out.old }
 {
     let copy_len = copy.len();
     let text_len = text.len();
     if copy_len > 4294967295 {
-        return EncodeAnswer::Refused(EncodeError::TooLong);
+        return Err(EncodeError::TooLong);
     }
     if text_len > 4294967295 {
-        return EncodeAnswer::Refused(EncodeError::TooLong);
+        return Err(EncodeError::TooLong);
     }
     let whole = 16 + copy_len + text_len;
     if whole > 4294967295 {
-        return EncodeAnswer::Refused(EncodeError::TooLong);
+        return Err(EncodeError::TooLong);
     }
     if out.len() < whole {
         return short(whole);
     }
     put_error_report(version, code, copy, text, whole as u32, out);
-    EncodeAnswer::Written(whole)
+    Ok(whole)
 }
 
-pub fn encode_error_report(pdu: RtrErrorReport, input: &[u8], out: &mut [u8]) -> EncodeAnswer
+pub fn encode_error_report(pdu: RtrErrorReport, input: &[u8], out: &mut [u8]) -> Result<usize, EncodeError>
     ensures { leaves result out.new ≡ encode in_use (RtrPdu.ErrorReport pdu) input.now out.old }
 {
     let copy = pdu.erroneous_pdu_answer(input);
-    if let PartAnswer::Refused = copy {
+    if let Err(_) = copy {
         return outside();
     }
     let text = pdu.error_text_answer(input);
-    if let PartAnswer::Refused = text {
+    if let Err(_) = text {
         return outside();
     }
     if rtr_text::is_well_formed(pdu.error_text_part(input)) {
@@ -536,13 +529,13 @@ pub fn encode_error_report(pdu: RtrErrorReport, input: &[u8], out: &mut [u8]) ->
             out,
         );
     }
-    EncodeAnswer::Refused(EncodeError::InvalidUtf8)
+    Err(EncodeError::InvalidUtf8)
 }
 
 // ---- Encoding any kind
 
 // Any PDU; the slice is looked at only for payloads.
-pub fn encode(pdu: RtrPdu, input: &[u8], out: &mut [u8]) -> EncodeAnswer
+pub fn encode(pdu: RtrPdu, input: &[u8], out: &mut [u8]) -> Result<usize, EncodeError>
     ensures { leaves result out.new ≡ encode in_use pdu input.now out.old }
 {
     match pdu {

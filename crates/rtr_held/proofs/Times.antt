@@ -1,5 +1,6 @@
 -- What `FedTimes` (specs/Times.antt) comes to: the feeds are part of a run, so the live table is what the history's updates make (`times-run`, `times-table`); and they fix one session record, one content of both rooms and one of the hold up to the held count
 -- (`times-unique`), and leave all of memory under 22, the whole hold too (`times-refused`). They keep receiver shape (`times-shape`), and so many and so many more are as many together (`times-join`). A feed reads the hold up to the held count, and its length: memories that are alike up to there (`Alike`) lead to such memories. Assumes nothing.
+use Rattle.std.specs.Prelude.{Err, ⊤}
 use Prim.Native.Nat.{ℕ, zero, suc, ◌+◌}
 use native.Mathlib.Nat.{add-zero, add-suc}
 use mathlib.Core.Bool.{Bool, true, false}
@@ -14,12 +15,12 @@ use Rattle.rtr_receiver.specs.Promises.{FedAs, is_receiver, feed_says}
 use Rattle.rtr_receiver.specs.Runs.{Memory, Call, Step, Run, live_in, history_of}
 use Rattle.rtr_receiver.specs.declared.Session.{Session}
 use Rattle.rtr_receiver.specs.declared.Fed.{Fed}
-use Rattle.rtr_receiver.specs.declared.FeedAnswer.{FeedAnswer}
 use Rattle.rtr_receiver.proofs.Laws.{refused-keeps-feed, limit-of-shape, keeps-shape, next-step}
 use Rattle.rtr_receiver.proofs.Shaped.{shape-alike, feed-alike}
 use Rattle.rtr_receiver.proofs.Runs.{history}
 use Rattle.rtr_receiver.proofs.Unique.{feed-unique, feed-unique-refused}
 use Rattle.rtr_held.specs.Times.{FedTimes}
+use Rattle.rtr_receiver.specs.declared.FeedError.{FeedError}
 
 -- ---- A run goes on with the feeds
 
@@ -66,7 +67,7 @@ one-feed s live working hold piece r r' live1 working1 hold1 live2 working2 hold
 
 -- a refused feed
 abbrev still : Session → Fed
-still s = record { session = s; done = record { taken = 0; updates = 0; answer = FeedAnswer.NotAReceiver } }
+still s = record { session = s; done = record { taken = 0; updates = 0; answer = Err FeedError.NotAReceiver } }
 
 -- 22 leaves everything, the whole hold too
 refused-feed : (s : Session) (live working hold piece : List ℕ) (r : Fed) (live1 working1 hold1 : List ℕ) → is_receiver s.life.limit s live working hold ≡ false → FedAs s.life.limit s live working hold piece r live1 working1 hold1

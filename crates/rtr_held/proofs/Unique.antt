@@ -1,6 +1,7 @@
 -- Each contract of this crate, as Rattle reads it off the source, is the by-value call's (`.._says`, by computation): of the record's exit content and the answer where the record is lent, of what is returned where it is lent on. So the
 -- by-value call's uniqueness is this crate's too: one answer, one content of the record and one of lent memory (of the hold up to the held count, and all of it under 22). Many feeds are as unique as one, and leave all of memory under 22 (Times.antt: `times-unique`, `times-refused`). A promise that is weakened
 -- breaks this file. Assumes nothing.
+use Rattle.std.specs.Prelude.{Result, ⊤, Err}
 use mathlib.Core.Bool.{Bool}
 use mathlib.Core.List.{List}
 use mathlib.Core.Path.{◌≡◌, refl, sym, ap, ◌∙◌}
@@ -9,19 +10,14 @@ use contract.Lifetimes.{Lfts}
 use denote.Bor.{Bor}
 use denote.MutBor.{MutBor}
 use lib.ListN.{take}
-use Rattle.rtr_codec.specs.declared.ReadAnswer.{ReadAnswer}
 use Rattle.rtr_codec.specs.declared.RunRead.{RunRead}
 use Rattle.rtr_codec.proofs.Unique.{read-at-unique}
 use Rattle.rtr_codec.proofs.read_at.Reads as read_at
 use Rattle.rtr_receiver.specs.declared.Session.{Session}
 use Rattle.rtr_receiver.specs.declared.Done.{Done}
 use Rattle.rtr_receiver.specs.declared.Fed.{Fed}
-use Rattle.rtr_receiver.specs.declared.FeedAnswer.{FeedAnswer}
-use Rattle.rtr_receiver.specs.declared.AskAnswer.{AskAnswer}
 use Rattle.rtr_receiver.specs.declared.AskedSession.{AskedSession}
-use Rattle.rtr_receiver.specs.declared.ReconnectAnswer.{ReconnectAnswer}
 use Rattle.rtr_receiver.specs.declared.Reconnected.{Reconnected}
-use Rattle.rtr_receiver.specs.declared.NotifyAnswer.{NotifyAnswer}
 use Rattle.rtr_receiver.specs.Runs.{Memory as Lent}
 use Rattle.rtr_receiver.proofs.Unique.{feed-unique, feed-unique-refused, full-ask-unique, change-ask-unique, reconnect-unique, notify-unique}
 use Rattle.rtr_receiver.proofs.feed.Reads as feed
@@ -52,6 +48,12 @@ use Rattle.rtr_held.proofs.rest_of.Reads as rest_of
 use Rattle.rtr_held.proofs.is_done.Reads as is-done
 use Rattle.rtr_held.proofs.next_pdu.Reads as next-pdu
 use Rattle.rtr_held.proofs.read_run.Reads as read-run
+use Rattle.rtr_models.specs.declared.RtrPdu.{RtrPdu}
+use Rattle.rtr_codec.specs.declared.RtrError.{RtrError}
+use Rattle.rtr_receiver.specs.declared.FeedError.{FeedError}
+use Rattle.rtr_receiver.specs.declared.NotAReceiver.{NotAReceiver}
+use Rattle.rtr_receiver.specs.declared.Comparison.{Comparison}
+use Rattle.rtr_receiver.specs.declared.AskError.{AskError}
 
 -- a slice that is lent to be read, and one that is lent to be written
 abbrev Slice : Type 0
@@ -81,7 +83,7 @@ feed-in-place-unique κs x x1 x2 x3 x4 y y' y1 y2 y3 y1' y2' y3' r r' p p' =
 
 -- under 22 the whole hold is fixed
 pub feed-in-place-unique-refused : (κs : Lfts 4) (x : MutBor Session) (x1 x2 x3 : MutSlice) (x4 : Slice) (y y' : MutBor Session) (y1 y2 y3 y1' y2' y3' : MutSlice) (r r' : Done) → FeedHeld κs x x1 x2 x3 x4 y y1 y2 y3 r → FeedHeld κs x x1 x2 x3 x4 y' y1' y2' y3' r'
-    → r.answer ≡ FeedAnswer.NotAReceiver → y3.now ≡ y3'.now
+    → r.answer ≡ Err FeedError.NotAReceiver → y3.now ≡ y3'.now
 feed-in-place-unique-refused κs x x1 x2 x3 x4 y y' y1 y2 y3 y1' y2' y3' r r' p p' e = feed-unique-refused κs (x.now, (x1, (x2, (x3, (x4, tt))))) (record { session = y.now; done = r }) (record { session = y'.now; done = r' }) (x.now, (y1, (y2, (y3, (x4, tt))))) (x.now, (y1', (y2', (y3', (x4, tt))))) p p' e
 
 -- ---- feed, so many times
@@ -105,10 +107,10 @@ feed-times-unique x x1 x2 x3 x4 n y y' y1 y2 y3 y1' y2' y3' p p' =
 
 -- ---- full_ask
 
-abbrev pub FullAskHeld : Lfts 4 → MutBor Session → Slice → Slice → Slice → MutSlice → MutBor Session → MutSlice → AskAnswer → Type 0
+abbrev pub FullAskHeld : Lfts 4 → MutBor Session → Slice → Slice → Slice → MutSlice → MutBor Session → MutSlice → Result ℕ AskError → Type 0
 FullAskHeld κs x x1 x2 x3 x4 y y4 r = full-ask.Post κs (x.now, (x1, (x2, (x3, (x4, tt))))) (record { session = y.now; answer = r }) (x.now, (x1, (x2, (x3, (y4, tt)))))
 
-pub full-ask-in-place-says : (κ : _) (κs : Lfts 4) (x y : MutBor Session) (x1 x2 x3 : Slice) (x4 y4 : MutSlice) (r : AskAnswer) →
+pub full-ask-in-place-says : (κ : _) (κs : Lfts 4) (x y : MutBor Session) (x1 x2 x3 : Slice) (x4 y4 : MutSlice) (r : Result ℕ AskError) →
     full-ask-in-place.Post (κ, κs) (x, (x1, (x2, (x3, (x4, tt))))) r (y, (x1, (x2, (x3, (y4, tt))))) ≡ FullAskHeld κs x x1 x2 x3 x4 y y4 r
 full-ask-in-place-says κ κs x y x1 x2 x3 x4 y4 r = refl
 
@@ -116,7 +118,7 @@ pub full-ask-through-says : (κs : Lfts 4) (x : Session) (x1 x2 x3 : Slice) (x4 
     full-ask-through.Post κs (x, (x1, (x2, (x3, (x4, tt))))) r (x, (x1, (x2, (x3, (y4, tt))))) ≡ full-ask.Post κs (x, (x1, (x2, (x3, (x4, tt))))) r (x, (x1, (x2, (x3, (y4, tt)))))
 full-ask-through-says κs x x1 x2 x3 x4 y4 r = refl
 
-pub full-ask-in-place-unique : (κs : Lfts 4) (x : MutBor Session) (x1 x2 x3 : Slice) (x4 : MutSlice) (y y' : MutBor Session) (y4 y4' : MutSlice) (r r' : AskAnswer) → FullAskHeld κs x x1 x2 x3 x4 y y4 r → FullAskHeld κs x x1 x2 x3 x4 y' y4' r'
+pub full-ask-in-place-unique : (κs : Lfts 4) (x : MutBor Session) (x1 x2 x3 : Slice) (x4 : MutSlice) (y y' : MutBor Session) (y4 y4' : MutSlice) (r r' : Result ℕ AskError) → FullAskHeld κs x x1 x2 x3 x4 y y4 r → FullAskHeld κs x x1 x2 x3 x4 y' y4' r'
     → (y.now ≡ y'.now) × (r ≡ r') × (y4.now ≡ y4'.now)
 full-ask-in-place-unique κs x x1 x2 x3 x4 y y' y4 y4' r r' p p' =
     let one = full-ask-unique κs (x.now, (x1, (x2, (x3, (x4, tt))))) (record { session = y.now; answer = r }) (record { session = y'.now; answer = r' }) (x.now, (x1, (x2, (x3, (y4, tt))))) (x.now, (x1, (x2, (x3, (y4', tt))))) p p' in
@@ -124,10 +126,10 @@ full-ask-in-place-unique κs x x1 x2 x3 x4 y y' y4 y4' r r' p p' =
 
 -- ---- change_ask
 
-abbrev pub ChangeAskHeld : Lfts 4 → MutBor Session → Slice → Slice → Slice → MutSlice → MutBor Session → MutSlice → AskAnswer → Type 0
+abbrev pub ChangeAskHeld : Lfts 4 → MutBor Session → Slice → Slice → Slice → MutSlice → MutBor Session → MutSlice → Result ℕ AskError → Type 0
 ChangeAskHeld κs x x1 x2 x3 x4 y y4 r = change-ask.Post κs (x.now, (x1, (x2, (x3, (x4, tt))))) (record { session = y.now; answer = r }) (x.now, (x1, (x2, (x3, (y4, tt)))))
 
-pub change-ask-in-place-says : (κ : _) (κs : Lfts 4) (x y : MutBor Session) (x1 x2 x3 : Slice) (x4 y4 : MutSlice) (r : AskAnswer) →
+pub change-ask-in-place-says : (κ : _) (κs : Lfts 4) (x y : MutBor Session) (x1 x2 x3 : Slice) (x4 y4 : MutSlice) (r : Result ℕ AskError) →
     change-ask-in-place.Post (κ, κs) (x, (x1, (x2, (x3, (x4, tt))))) r (y, (x1, (x2, (x3, (y4, tt))))) ≡ ChangeAskHeld κs x x1 x2 x3 x4 y y4 r
 change-ask-in-place-says κ κs x y x1 x2 x3 x4 y4 r = refl
 
@@ -135,7 +137,7 @@ pub change-ask-through-says : (κs : Lfts 4) (x : Session) (x1 x2 x3 : Slice) (x
     change-ask-through.Post κs (x, (x1, (x2, (x3, (x4, tt))))) r (x, (x1, (x2, (x3, (y4, tt))))) ≡ change-ask.Post κs (x, (x1, (x2, (x3, (x4, tt))))) r (x, (x1, (x2, (x3, (y4, tt)))))
 change-ask-through-says κs x x1 x2 x3 x4 y4 r = refl
 
-pub change-ask-in-place-unique : (κs : Lfts 4) (x : MutBor Session) (x1 x2 x3 : Slice) (x4 : MutSlice) (y y' : MutBor Session) (y4 y4' : MutSlice) (r r' : AskAnswer) → ChangeAskHeld κs x x1 x2 x3 x4 y y4 r → ChangeAskHeld κs x x1 x2 x3 x4 y' y4' r'
+pub change-ask-in-place-unique : (κs : Lfts 4) (x : MutBor Session) (x1 x2 x3 : Slice) (x4 : MutSlice) (y y' : MutBor Session) (y4 y4' : MutSlice) (r r' : Result ℕ AskError) → ChangeAskHeld κs x x1 x2 x3 x4 y y4 r → ChangeAskHeld κs x x1 x2 x3 x4 y' y4' r'
     → (y.now ≡ y'.now) × (r ≡ r') × (y4.now ≡ y4'.now)
 change-ask-in-place-unique κs x x1 x2 x3 x4 y y' y4 y4' r r' p p' =
     let one = change-ask-unique κs (x.now, (x1, (x2, (x3, (x4, tt))))) (record { session = y.now; answer = r }) (record { session = y'.now; answer = r' }) (x.now, (x1, (x2, (x3, (y4, tt))))) (x.now, (x1, (x2, (x3, (y4', tt))))) p p' in
@@ -143,10 +145,10 @@ change-ask-in-place-unique κs x x1 x2 x3 x4 y y' y4 y4' r r' p p' =
 
 -- ---- reconnect
 
-abbrev pub ReconnectHeld : Lfts 3 → MutBor Session → Slice → MutSlice → Slice → MutBor Session → MutSlice → ReconnectAnswer → Type 0
+abbrev pub ReconnectHeld : Lfts 3 → MutBor Session → Slice → MutSlice → Slice → MutBor Session → MutSlice → Result ⊤ NotAReceiver → Type 0
 ReconnectHeld κs x x1 x2 x3 y y2 r = reconnect.Post κs (x.now, (x1, (x2, (x3, tt)))) (record { session = y.now; answer = r }) (x.now, (x1, (y2, (x3, tt))))
 
-pub reconnect-in-place-says : (κ : _) (κs : Lfts 3) (x y : MutBor Session) (x1 : Slice) (x2 : MutSlice) (x3 : Slice) (y2 : MutSlice) (r : ReconnectAnswer) →
+pub reconnect-in-place-says : (κ : _) (κs : Lfts 3) (x y : MutBor Session) (x1 : Slice) (x2 : MutSlice) (x3 : Slice) (y2 : MutSlice) (r : Result ⊤ NotAReceiver) →
     reconnect-in-place.Post (κ, κs) (x, (x1, (x2, (x3, tt)))) r (y, (x1, (y2, (x3, tt)))) ≡ ReconnectHeld κs x x1 x2 x3 y y2 r
 reconnect-in-place-says κ κs x y x1 x2 x3 y2 r = refl
 
@@ -154,7 +156,7 @@ pub reconnect-through-says : (κs : Lfts 3) (x : Session) (x1 : Slice) (x2 : Mut
     reconnect-through.Post κs (x, (x1, (x2, (x3, tt)))) r (x, (x1, (y2, (x3, tt)))) ≡ reconnect.Post κs (x, (x1, (x2, (x3, tt)))) r (x, (x1, (y2, (x3, tt))))
 reconnect-through-says κs x x1 x2 x3 y2 r = refl
 
-pub reconnect-in-place-unique : (κs : Lfts 3) (x : MutBor Session) (x1 : Slice) (x2 : MutSlice) (x3 : Slice) (y y' : MutBor Session) (y2 y2' : MutSlice) (r r' : ReconnectAnswer) → ReconnectHeld κs x x1 x2 x3 y y2 r → ReconnectHeld κs x x1 x2 x3 y' y2' r'
+pub reconnect-in-place-unique : (κs : Lfts 3) (x : MutBor Session) (x1 : Slice) (x2 : MutSlice) (x3 : Slice) (y y' : MutBor Session) (y2 y2' : MutSlice) (r r' : Result ⊤ NotAReceiver) → ReconnectHeld κs x x1 x2 x3 y y2 r → ReconnectHeld κs x x1 x2 x3 y' y2' r'
     → (y.now ≡ y'.now) × (r ≡ r') × (y2.now ≡ y2'.now)
 reconnect-in-place-unique κs x x1 x2 x3 y y' y2 y2' r r' p p' =
     let one = reconnect-unique κs (x.now, (x1, (x2, (x3, tt)))) (record { session = y.now; answer = r }) (record { session = y'.now; answer = r' }) (x.now, (x1, (y2, (x3, tt)))) (x.now, (x1, (y2', (x3, tt)))) p p' in
@@ -162,30 +164,30 @@ reconnect-in-place-unique κs x x1 x2 x3 y y' y2 y2' r r' p p' =
 
 -- ---- notify
 
-abbrev pub NotifyHeld : Lfts 3 → Bor Session → Slice → Slice → Slice → NotifyAnswer → Type 0
+abbrev pub NotifyHeld : Lfts 3 → Bor Session → Slice → Slice → Slice → Result Comparison NotAReceiver → Type 0
 NotifyHeld κs x x1 x2 x3 r = notify.Post κs (x.now, (x1, (x2, (x3, tt)))) r (x.now, (x1, (x2, (x3, tt))))
 
-pub notify-of-says : (κ : _) (κs : Lfts 3) (x : Bor Session) (x1 x2 x3 : Slice) (r : NotifyAnswer) →
+pub notify-of-says : (κ : _) (κs : Lfts 3) (x : Bor Session) (x1 x2 x3 : Slice) (r : Result Comparison NotAReceiver) →
     notify-of.Post (κ, κs) (x, (x1, (x2, (x3, tt)))) r (x, (x1, (x2, (x3, tt)))) ≡ NotifyHeld κs x x1 x2 x3 r
 notify-of-says κ κs x x1 x2 x3 r = refl
 
-pub notify-through-says : (κs : Lfts 3) (x : Session) (x1 x2 x3 : Slice) (r : NotifyAnswer) →
+pub notify-through-says : (κs : Lfts 3) (x : Session) (x1 x2 x3 : Slice) (r : Result Comparison NotAReceiver) →
     notify-through.Post κs (x, (x1, (x2, (x3, tt)))) r (x, (x1, (x2, (x3, tt)))) ≡ notify.Post κs (x, (x1, (x2, (x3, tt)))) r (x, (x1, (x2, (x3, tt))))
 notify-through-says κs x x1 x2 x3 r = refl
 
-pub notify-of-unique : (κs : Lfts 3) (x : Bor Session) (x1 x2 x3 : Slice) (r r' : NotifyAnswer) → NotifyHeld κs x x1 x2 x3 r → NotifyHeld κs x x1 x2 x3 r' → r ≡ r'
+pub notify-of-unique : (κs : Lfts 3) (x : Bor Session) (x1 x2 x3 : Slice) (r r' : Result Comparison NotAReceiver) → NotifyHeld κs x x1 x2 x3 r → NotifyHeld κs x x1 x2 x3 r' → r ≡ r'
 notify-of-unique κs x x1 x2 x3 r r' p p' = notify-unique κs (x.now, (x1, (x2, (x3, tt)))) r r' (x.now, (x1, (x2, (x3, tt)))) (x.now, (x1, (x2, (x3, tt)))) p p'
 
 -- ---- the run reader: `next_pdu` is `read_at` at the run's bytes and place, its next place being the run's at exit; the bytes stay
 
-abbrev pub NextHeld : Lfts 1 → MutBor RtrRun → MutBor RtrRun → ReadAnswer → Type 0
+abbrev pub NextHeld : Lfts 1 → MutBor RtrRun → MutBor RtrRun → Result (RtrPdu × ℕ) RtrError → Type 0
 NextHeld κs x y r = read_at.Post κs (x.now.bytes, (x.now.at, tt)) (record { answer = r; next = y.now.at }) (x.now.bytes, (x.now.at, tt)) × (y.now.bytes ≡ x.now.bytes)
 
-pub next-pdu-says : (κ : _) (κs : Lfts 1) (x y : MutBor RtrRun) (r : ReadAnswer) →
+pub next-pdu-says : (κ : _) (κs : Lfts 1) (x y : MutBor RtrRun) (r : Result (RtrPdu × ℕ) RtrError) →
     next-pdu.Post (κ, κs) (x, tt) r (y, tt) ≡ NextHeld κs x y r
 next-pdu-says κ κs x y r = refl
 
-pub next-pdu-unique : (κs : Lfts 1) (x y y' : MutBor RtrRun) (r r' : ReadAnswer) → NextHeld κs x y r → NextHeld κs x y' r' → (y.now ≡ y'.now) × (r ≡ r')
+pub next-pdu-unique : (κs : Lfts 1) (x y y' : MutBor RtrRun) (r r' : Result (RtrPdu × ℕ) RtrError) → NextHeld κs x y r → NextHeld κs x y' r' → (y.now ≡ y'.now) × (r ≡ r')
 next-pdu-unique κs x y y' r r' p p' =
     let one = read-at-unique κs (x.now.bytes, (x.now.at, tt)) (record { answer = r; next = y.now.at }) (record { answer = r'; next = y'.now.at }) (x.now.bytes, (x.now.at, tt)) (x.now.bytes, (x.now.at, tt)) p.0 p'.0 in
     let bytes : y.now.bytes ≡ y'.now.bytes = p.1 ∙ sym p'.1 in

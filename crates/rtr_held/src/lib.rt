@@ -11,9 +11,9 @@ ghost use Rattle.rtr_codec.specs.Run.{read_at, run_said};
 ghost use Rattle.rtr_held.specs.Times.{FedTimes};
 ghost use Rattle.rtr_receiver.specs.Promises.{FedAs, full_ask_says, change_ask_says, ask_said, reconnect_says, reconnect_said, notify_says, notify_said};
 
-use rtr_codec::{ReadAnswer, RunRead, read_at};
+use rtr_codec::{RunRead, read_at};
 use rtr_receiver::{
-    AskAnswer, AskedSession, Done, Fed, NotifyAnswer, ReconnectAnswer, Reconnected, Session,
+    AskedSession, Done, Fed, Reconnected, Session,
     change_ask, feed, full_ask, notify, reconnect,
 };
 
@@ -59,7 +59,7 @@ pub fn full_ask_in_place(
     working: &[u32],
     hold: &[u8],
     out: &mut [u8],
-) -> AskAnswer
+) -> Result<usize, AskError>
     ensures { ask_said (record { session = session.new; answer = result }) live.now working.now hold.now out.new ≡ full_ask_says session.old.life.limit session.old live.now working.now hold.now out.old }
 {
     let asked = full_ask(*session, live, working, hold, out);
@@ -74,7 +74,7 @@ pub fn change_ask_in_place(
     working: &[u32],
     hold: &[u8],
     out: &mut [u8],
-) -> AskAnswer
+) -> Result<usize, AskError>
     ensures { ask_said (record { session = session.new; answer = result }) live.now working.now hold.now out.new ≡ change_ask_says session.old.life.limit session.old live.now working.now hold.now out.old }
 {
     let asked = change_ask(*session, live, working, hold, out);
@@ -88,7 +88,7 @@ pub fn reconnect_in_place(
     live: &[u32],
     working: &mut [u32],
     hold: &[u8],
-) -> ReconnectAnswer
+) -> Result<(), NotAReceiver>
     ensures { reconnect_said (record { session = session.new; answer = result }) live.now working.new hold.now ≡ reconnect_says session.old.life.limit session.old live.now working.old hold.now }
 {
     let connected = reconnect(*session, live, working, hold);
@@ -97,7 +97,7 @@ pub fn reconnect_in_place(
 }
 
 // Whether the last Serial Notify tells of something newer: the record is only read.
-pub fn notify_of(session: &Session, live: &[u32], working: &[u32], hold: &[u8]) -> NotifyAnswer
+pub fn notify_of(session: &Session, live: &[u32], working: &[u32], hold: &[u8]) -> Result<Comparison, NotAReceiver>
     ensures { notify_said result ≡ notify_says session.now.life.limit session.now live.now working.now hold.now }
 {
     notify(*session, live, working, hold)
@@ -188,7 +188,7 @@ pub fn reconnect_through(
     }
 }
 
-pub fn notify_through(session: Session, live: &[u32], working: &[u32], hold: &[u8]) -> NotifyAnswer
+pub fn notify_through(session: Session, live: &[u32], working: &[u32], hold: &[u8]) -> Result<Comparison, NotAReceiver>
     ensures { notify_said result ≡ notify_says session.life.limit session live.now working.now hold.now }
 {
     notify_of(&session, live, working, hold)
@@ -251,7 +251,7 @@ pub fn is_done<'a>(run: RtrRun<'a>) -> bool
 
 // The next PDU, and the place behind it; or the refusal, with the place unmoved: at or past the end 1 (0, 8).
 // The PDU's own places count from its first byte, which is the place before this call: ask its parts of the bytes from there on.
-pub fn next_pdu<'s, 'a>(run: &'s mut RtrRun<'a>) -> ReadAnswer
+pub fn next_pdu<'s, 'a>(run: &'s mut RtrRun<'a>) -> Result<(RtrPdu, usize), RtrError>
     ensures { (run_said (record { answer = result; next = run.new.at }) ≡ read_at in_use run.old.bytes.now run.old.at)
         × (run.new.bytes ≡ run.old.bytes) }
 {

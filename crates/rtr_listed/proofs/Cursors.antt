@@ -1,4 +1,5 @@
 -- A line taken or missed at a cursor, and what reading comes to from there. Assumes nothing.
+use Rattle.std.specs.Prelude.{Option, Some, None}
 use Prim.Native.Nat.{ℕ, suc, ◌-◌, ◌≤◌, ◌<◌}
 use mathlib.Core.Bool.{Bool, true, false, cond, false≢true}
 use mathlib.Core.List.{List, [], ◌∷◌, ◌++◌}
@@ -14,7 +15,6 @@ use Rattle.rtr_listed.specs.Listed.Read.{misfit}
 use Rattle.rtr_listed.specs.Private.{number_said, line_gives, behind, lines_at, read_on, refused_at, past_end, Near, Took, NumberTook, number_took, narrowed, between, ValueAt, ValueIs}
 use Rattle.rtr_listed.specs.Private.Took.{took, missed}
 use Rattle.rtr_listed.specs.declared.Cursor.{Cursor}
-use Rattle.rtr_listed.specs.declared.Number.{Number}
 use Rattle.rtr_listed.specs.declared.NumberRead.{NumberRead}
 use Rattle.rtr_listed.specs.declared.Value.{Value}
 use Rattle.rtr_listed.proofs.Texts.{same_refl, length-other, named_value, whole-line}
@@ -80,12 +80,12 @@ module _ (s : List ℕ) (c : Cursor) (name : List ℕ) where
 -- ---- numbers
 
 module _ (reads : List ℕ → Fit ℕ) (s : List ℕ) (c : Cursor) (name : List ℕ) (most : ℕ) where
-  pub number-took : (from end : ℕ) (r : Number) → ValueAt s c name from end → number_said r ≡ reads (between s from end) → ((n : ℕ) → reads (between s from end) ≡ fits n → n ≤ most) → c.at ≤ length s
+  pub number-took : (from end : ℕ) (r : Option ℕ) → ValueAt s c name from end → number_said r ≡ reads (between s from end) → ((n : ℕ) → reads (between s from end) ≡ fits n → n ≤ most) → c.at ≤ length s
       → NumberTook (named name reads) s c most (number_took c end r)
-  number-took from end (Number.Is n) v e low h = (value-took reads s c name from end n v (sym e), (low n (sym e), past_near s c end v.inside))
-  number-took from end Number.Not v e low h = (value-missed reads s c name from end 0 v (sym e), (omega arith, refused-near s c h))
+  number-took from end (Some n) v e low h = (value-took reads s c name from end n v (sym e), (low n (sym e), past_near s c end v.inside))
+  number-took from end None v e low h = (value-missed reads s c name from end 0 v (sym e), (omega arith, refused-near s c h))
 
-  pub number-nowhere : (end : ℕ) → ValueIs s c name Value.Nowhere → c.at ≤ length s → NumberTook (named name reads) s c most (number_took c end Number.Not)
+  pub number-nowhere : (end : ℕ) → ValueIs s c name Value.Nowhere → c.at ≤ length s → NumberTook (named name reads) s c most (number_took c end None)
   number-nowhere end none h = (nowhere-missed reads s c name 0 none, (omega arith, refused-near s c h))
 
 -- one test more

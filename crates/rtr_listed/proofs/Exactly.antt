@@ -1,5 +1,6 @@
 -- When the call says what, and the room that it leaves: 22 exactly where the room has not the size of the limit, a head exactly where the text is the
 -- listing of values that fit and have that head, 24 exactly where the reader by lines names that line. Assumes nothing.
+use Rattle.std.specs.Prelude.{Result, Ok, Err}
 use Prim.Native.Nat.{ℕ, ◌*◌}
 use mathlib.Core.Bool.{Bool, true, false}
 use mathlib.Core.List.{List, [], ◌∷◌}
@@ -19,7 +20,6 @@ use Rattle.rtr_listed.specs.Fits.{ListingFits}
 use Rattle.rtr_listed.specs.Promises.{ListedSays, ListedLeft, listed_said, listed_head, read_leaves, listed_says}
 use Rattle.rtr_listed.specs.Promises.ListedSays.{says, refused}
 use Rattle.rtr_listed.specs.declared.ListedError.{ListedError}
-use Rattle.rtr_listed.specs.declared.ListedAnswer.{ListedAnswer}
 use Rattle.rtr_listed.proofs.Whole.{of_size, off-size}
 use Rattle.rtr_listed.proofs.Laws.{reads-exactly}
 use Rattle.rtr_listed.proofs.Unique.{answer_of, said-back}
@@ -142,7 +142,7 @@ module _ (limit : ℕ) (s lent : List ℕ) (said : ListedSays) (left : List ℕ)
 -- ---- of the call, by its promise
 
 -- an answer is what it says
-said-is : (r : ListedAnswer) (x : ListedSays) → listed_said r ≡ x → r ≡ answer_of x
+said-is : (r : Result Head ListedError) (x : ListedSays) → listed_said r ≡ x → r ≡ answer_of x
 said-is r x e = sym (said-back r) ∙ ap answer_of e
 
 module _ (κs : _) (a : _) (r : _) (st : _) (p : reads.Post κs a r st) where
@@ -156,31 +156,31 @@ module _ (κs : _) (a : _) (r : _) (st : _) (p : reads.Post κs a r st) where
   abbrev left : List ℕ
   left = st.1.0.now
 
-  pub read-listing-22-exactly : r ≡ ListedAnswer.Refused ListedError.NotARoom ↔ (length lent ≡ 6 * record_limit → ⊥)
+  pub read-listing-22-exactly : r ≡ Err ListedError.NotARoom ↔ (length lent ≡ 6 * record_limit → ⊥)
   read-listing-22-exactly =
       let k = off-exactly record_limit listing lent (listed_said r) left p in
       (λ e. k.0 (ap listed_said e), λ h. said-is r (refused 22 []) (k.1 h))
 
-  pub read-listing-22-keeps : r ≡ ListedAnswer.Refused ListedError.NotARoom → left ≡ lent
+  pub read-listing-22-keeps : r ≡ Err ListedError.NotARoom → left ≡ lent
   read-listing-22-keeps e = off-keeps record_limit listing lent (listed_said r) left p (ap listed_said e)
 
   pub read-listing-24-exactly : (n : ℕ)
-      → r ≡ ListedAnswer.Refused (ListedError.Line n) ↔ ((length lent ≡ 6 * record_limit) × (read_listing record_limit listing ≡ misfit n))
+      → r ≡ Err (ListedError.Line n) ↔ ((length lent ≡ 6 * record_limit) × (read_listing record_limit listing ≡ misfit n))
   read-listing-24-exactly n =
       let k = misread-exactly record_limit listing lent (listed_said r) left p n in
       (λ e. k.0 (ap listed_said e), λ h. said-is r (refused 24 (n ∷ [])) (k.1 h))
 
-  pub read-listing-24-zeros : (n : ℕ) → r ≡ ListedAnswer.Refused (ListedError.Line n) → left ≡ replicate (6 * record_limit) 0
+  pub read-listing-24-zeros : (n : ℕ) → r ≡ Err (ListedError.Line n) → left ≡ replicate (6 * record_limit) 0
   read-listing-24-zeros n e = misread-zeros record_limit listing lent (listed_said r) left p n (ap listed_said e)
 
   -- the answer is a head exactly if the text is the listing of some fitting values with that head; then the room is theirs
-  pub read-listing-exactly : (v : Listed) → ((r ≡ ListedAnswer.Listed (listed_head v)) × (left ≡ room record_limit v.records))
+  pub read-listing-exactly : (v : Listed) → ((r ≡ Ok (listed_head v)) × (left ≡ room record_limit v.records))
       ↔ ((length lent ≡ 6 * record_limit) × (listing ≡ listing_text v) × ListingFits record_limit v)
   read-listing-exactly v =
       let k = listed-exactly record_limit listing lent (listed_said r) left p v in
       (λ e. k.0 (ap listed_said e.0, e.1), λ h. let x = k.1 h in (said-is r (says (listed_head v)) x.0, x.1))
 
-  pub read-listing-head : (h : Head) → r ≡ ListedAnswer.Listed h
+  pub read-listing-head : (h : Head) → r ≡ Ok h
       → (v : Listed) × (listed_head v ≡ h) × (left ≡ room record_limit v.records)
       × ((length lent ≡ 6 * record_limit) × (listing ≡ listing_text v) × ListingFits record_limit v)
   read-listing-head h e = listed-is record_limit listing lent (listed_said r) left p h (ap listed_said e)

@@ -1,11 +1,11 @@
 -- The lines before the records, one behind another: the stop, then either the line of no table or five numbers and the count. Assumes nothing.
+use Rattle.std.specs.Prelude.{Some}
 use Prim.Native.Nat.{ℕ, suc}
 use mathlib.Core.Bool.{Bool, true, false, cond, true≢false, false≢true}
 use mathlib.Core.List.{List, [], ◌∷◌}
 use mathlib.Core.Path.{◌≡◌, refl, sym, ap, ◌∙◌}
 use native.Mathlib.Omega.{arith}
 use Rattle.rtr_listing.specs.Listing.{text, table_fields, table_numbers}
-use Rattle.rtr_receiver.specs.declared.LiveTable.{LiveTable}
 use Rattle.rtr_receiver.specs.declared.Table.{Table}
 use Rattle.rtr_listed.specs.Listed.{Line, Fit, Due, fitting, same_text, named, number_in, count_widths, count_in, may_stop, without_table, next_record, on_line, or_misfit, read_from, read_listing}
 use Rattle.rtr_listed.specs.Listed.Fit.{fits, misfits}
@@ -28,9 +28,9 @@ pub stop-stands : (limit : ℕ) (s : List ℕ) (c : Cursor) (n : ℕ) (c' : Curs
 stop-stands limit s = took-stands (named (text "stopped=") (number_in may_stop)) Due.second_due limit Due.stop_due (λ b. refl) (λ n. refl) s
 
 pub count-stands : (limit stopped : ℕ) (t : Table) (s : List ℕ) (c : Cursor) (n : ℕ) (c' : Cursor) → Took (named (text "count=") (count_in count_widths limit)) s c n c'
-    → read_on limit s (Due.numbers_due stopped (table_numbers t) []) c ≡ read_on limit s (next_record (record { stopped = stopped; table = LiveTable.Known t; count = n }) []) c'
+    → read_on limit s (Due.numbers_due stopped (table_numbers t) []) c ≡ read_on limit s (next_record (record { stopped = stopped; table = Some t; count = n }) []) c'
 count-stands limit stopped t s =
-    took-stands (named (text "count=") (count_in count_widths limit)) (λ n. next_record (record { stopped = stopped; table = LiveTable.Known t; count = n }) []) limit (Due.numbers_due stopped (table_numbers t) []) (λ b. refl) (λ n. refl) s
+    took-stands (named (text "count=") (count_in count_widths limit)) (λ n. next_record (record { stopped = stopped; table = Some t; count = n }) []) limit (Due.numbers_due stopped (table_numbers t) []) (λ b. refl) (λ n. refl) s
 
 module _ (limit stopped : ℕ) where
   second-on : (ls : List Line) (n : ℕ) → line_gives none_reads ls ≡ fits 0 → read_from count_widths limit (Due.second_due stopped) n ls ≡ read_from count_widths limit (Due.end_due (without_table stopped) []) (suc n) (behind ls)

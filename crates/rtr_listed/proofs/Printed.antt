@@ -1,4 +1,5 @@
 -- What is listed after any run is read back as its stop, its table and its records. Assumes nothing.
+use Rattle.std.specs.Prelude.{Option, Some, None}
 use Prim.Native.Nat.{ℕ, ◌≤◌}
 use mathlib.Core.Bool.{Bool, true, false, ◌||◌}
 use mathlib.Core.List.{List, ◌++◌}
@@ -21,7 +22,6 @@ use Rattle.rtr_receiver.specs.History.{has_table}
 use Rattle.rtr_receiver.specs.Promises.{stopped_by, stop_said, stage_of, has_limit}
 use Rattle.rtr_receiver.specs.Receiver.{is_stop}
 use Rattle.rtr_receiver.specs.Runs.{Call, Memory, Run}
-use Rattle.rtr_receiver.specs.declared.LiveTable.{LiveTable}
 use Rattle.rtr_receiver.specs.declared.Phase.{Phase}
 use Rattle.rtr_receiver.specs.declared.Session.{Session}
 use Rattle.rtr_receiver.specs.declared.Table.{Table}
@@ -60,14 +60,14 @@ phase-may (Phase.Stopped why) h = go (stop_said why) h
     go (Verdict.refused n x) k = either (eqb n 0) (is_stop n) k
 
 -- no record stands without a table
-info-of : (x : LiveTable) (n : ℕ) (live : List ℕ) → ((t : Table) → x ≡ LiveTable.Known t → TableNumbersFit t) → has_table x || eqb n 0 ≡ true
+info-of : (x : Option Table) (n : ℕ) (live : List ℕ) → ((t : Table) → x ≡ Some t → TableNumbersFit t) → has_table x || eqb n 0 ≡ true
     → InfoFits x (records n live)
-info-of (LiveTable.Known t) n live fit e = fit t refl
-info-of LiveTable.NoTable n live fit e = ap (λ (k : ℕ). records k live) (eqb-true n 0 e) ∙ records-none live
+info-of (Some t) n live fit e = fit t refl
+info-of None n live fit e = ap (λ (k : ℕ). records k live) (eqb-true n 0 e) ∙ records-none live
 
 -- what can be listed fits, where the stop may be and the numbers are of their types
 session-fits : (limit : ℕ) (s : Session) (live : List ℕ) → limit ≤ 1024 → is_listed limit s live ≡ true → stops_rightly (stage_of s.phase) ≡ true
-    → ((t : Table) → s.table ≡ LiveTable.Known t → TableNumbersFit t) → AllFit (records s.live.records live)
+    → ((t : Table) → s.table ≡ Some t → TableNumbersFit t) → AllFit (records s.live.records live)
     → ListingFits limit (listed_by s (records s.live.records live))
 session-fits limit s live low can stops fit words =
     let rest = second-of (has_limit limit s) _ can in

@@ -1,4 +1,5 @@
 -- What is read is a listing: the text before a place and the lines from there on are the listing of what is read in the end, and that fits. Assumes nothing.
+use Rattle.std.specs.Prelude.{Option, Some, None}
 use Prim.Native.Nat.{ℕ, suc}
 use mathlib.Core.Bool.{Bool, true, false, cond}
 use mathlib.Core.List.{List, [], ◌∷◌, ◌++◌, append_assoc, append-nil}
@@ -7,7 +8,6 @@ use mathlib.Core.Path.{◌≡◌, refl, sym, ap, ◌∙◌, subst}
 use native.Mathlib.Omega.{arith}
 use lib.ListN.{length}
 use Rattle.rtr_room.specs.declared.Record.{Record}
-use Rattle.rtr_receiver.specs.declared.LiveTable.{LiveTable}
 use Rattle.rtr_listing.specs.Listing.{head_lines, all_lines}
 use Rattle.rtr_listing.specs.declared.Head.{Head}
 use Rattle.rtr_listed.specs.Listed.{Line, Fit, Due, Listed, lines_of, count_widths, on_line, at_end, or_misfit, read_from, read_listing, listing_text}
@@ -19,15 +19,16 @@ use Rattle.rtr_listed.proofs.Whole.{ending}
 use Rattle.rtr_listed.proofs.Feeds.{joined, joined-lines}
 use Rattle.rtr_listed.proofs.Written.{ended, front, written, CountFits, Good, leads}
 use Rattle.rtr_listed.proofs.Shown.{text-is}
+use Rattle.rtr_receiver.specs.declared.Table.{Table}
 
 -- a text is the listing of a value that fits
 abbrev pub IsListing : ℕ → List ℕ → Listed → Type 0
 IsListing limit s v = (s ≡ listing_text v) × ListingFits limit v
 
-info-fits : (x : LiveTable) (count : ℕ) (t : List Record) → CountFits x count → length t ≡ count → InfoFits x t
-info-fits LiveTable.NoTable count [] none e = refl
-info-fits LiveTable.NoTable count (r ∷ t) none e = absurd (omega arith)
-info-fits (LiveTable.Known x) count t fit e = fit
+info-fits : (x : Option Table) (count : ℕ) (t : List Record) → CountFits x count → length t ≡ count → InfoFits x t
+info-fits None count [] none e = refl
+info-fits None count (r ∷ t) none e = absurd (omega arith)
+info-fits (Some x) count t fit e = fit
 
 end-listed : (limit : ℕ) (h : Head) (t : List Record) → Good limit (end_due h t)
     → IsListing limit (front h t) (record { stopped = h.stopped; table = h.table; records = t })

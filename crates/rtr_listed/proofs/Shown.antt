@@ -1,4 +1,5 @@
 -- What a listing writes is read: its lines, one behind another, lead from the first place to the end, where the values fit. Assumes nothing.
+use Rattle.std.specs.Prelude.{Option, Some, None}
 use Prim.Native.Nat.{ℕ, suc, ◌≤◌}
 use mathlib.Core.Bool.{Bool, true, false, cond, ◌&&◌, ◌||◌}
 use mathlib.Core.List.{List, [], ◌∷◌, ◌++◌, append_assoc, append-nil}
@@ -14,7 +15,6 @@ use Rattle.rtr_room.specs.Table.AllFit.{one}
 use Rattle.rtr_room.specs.declared.Record.{Record}
 use Rattle.rtr_room.proofs.Laws.{kind-is, in-rule-four, in-rule-family, in-rule-lengths, ipv4-in-rule, ordered-front, all-in-rule-append, all-in-rule-one}
 use Rattle.rtr_room.proofs.Laws.Tests.{first_of, second-of, both}
-use Rattle.rtr_receiver.specs.declared.LiveTable.{LiveTable}
 use Rattle.rtr_listing.specs.Listing.{Field, text, digits, decimal, count_digits, line_of, line, table_fields, table_numbers, field_lines, table_lines, head_lines, address_of, record_lines, all_lines}
 use Rattle.rtr_listing.specs.Digits.{value_of, hex_of}
 use Rattle.rtr_listing.specs.declared.Head.{Head}
@@ -32,6 +32,7 @@ use Rattle.rtr_listed.proofs.Addresses.{four-yes, six-yes}
 use Rattle.rtr_listed.proofs.Heads.{none_reads, second-off}
 use Rattle.rtr_listed.proofs.Feeds.{no_feed, no-feed-append, decimal-no-feed, hex-no-feed, line_first}
 use Rattle.rtr_listed.proofs.Written.{Within, ended}
+use Rattle.rtr_receiver.specs.declared.Table.{Table}
 
 -- a text is read from a place on, whatever the number of its first line
 abbrev pub Reads : ℕ → Due → List ℕ → Listed → Type 0
@@ -258,22 +259,22 @@ count-shown limit n within low =
     count_yes limit (digits 10 count_digits n) (count-length n) (digits-are-decimal count_digits n) (omega (arith, is)) (omega (arith, is))
     ∙ ap (λ (x : ℕ). fits x) is
 
-table-reads : (limit stopped : ℕ) (x : LiveTable) (t : List Record) (rest : List ℕ) (v : Listed) → InfoFits x t → length t ≤ limit → length t ≤ 1024
+table-reads : (limit stopped : ℕ) (x : Option Table) (t : List Record) (rest : List ℕ) (v : Listed) → InfoFits x t → length t ≤ limit → length t ≤ 1024
     → Reads limit (next_record (record { stopped = stopped; table = x; count = length t }) []) rest v
     → Reads limit (second_due stopped) (table_lines x (length t) ++ rest) v
 unfolding same_text no_feed
-table-reads limit stopped LiveTable.NoTable t rest v info within low r =
+table-reads limit stopped None t rest v info within low r =
     subst (λ (x : List ℕ). Reads limit (second_due stopped) (x ++ rest) v) (sym (no-table-line (length t) ∙ line-is (text "count=") (text "none")))
     (line_reads limit (second_due stopped) (end_due (without_table stopped) []) (text "count=none") rest v refl refl
-    (subst (λ (n : ℕ). Reads limit (next_record (record { stopped = stopped; table = LiveTable.NoTable; count = n }) []) rest v) (ap length info) r))
-table-reads limit stopped (LiveTable.Known t) u rest v info within low r =
+    (subst (λ (n : ℕ). Reads limit (next_record (record { stopped = stopped; table = None; count = n }) []) rest v) (ap length info) r))
+table-reads limit stopped (Some t) u rest v info within low r =
     let w : Within table_fields (table_numbers t) = (info.session, (info.serial, (info.refresh, (info.retry, (info.expire, refl))))) in
     let count : List ℕ = line "count=" (digits 10 count_digits (length u)) in
-    let lines : table_lines (LiveTable.Known t) (length u) ++ rest ≡ field_lines [] table_fields (table_numbers t) ++ (count ++ rest) =
+    let lines : table_lines (Some t) (length u) ++ rest ≡ field_lines [] table_fields (table_numbers t) ++ (count ++ rest) =
     ap (λ (x : List ℕ). x ++ rest) (table-lines-are t (length u)) ∙ append_assoc (field_lines [] table_fields (table_numbers t)) count rest in
     let at_count : Reads limit (numbers_due stopped (table_numbers t) []) (count ++ rest) v =
     value-reads limit (numbers_due stopped (table_numbers t) []) (text "count=") (count_in count_widths limit)
-    (λ n. next_record (record { stopped = stopped; table = LiveTable.Known t; count = n }) [])
+    (λ n. next_record (record { stopped = stopped; table = Some t; count = n }) [])
     (λ b. refl) refl (digits 10 count_digits (length u)) (length u) rest v (decimal-no-feed _ (digits-are-decimal count_digits (length u)))
     (count-shown limit (length u) within low) r in
     subst (λ (x : List ℕ). Reads limit (second_due stopped) x v) (sym lines)

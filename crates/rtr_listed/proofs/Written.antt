@@ -1,4 +1,5 @@
 -- The text that was read before a place, and what is known there: a line that fits makes the text that line longer, and keeps what is known. Assumes nothing.
+use Rattle.std.specs.Prelude.{Option, Some, None}
 use Prim.Native.Nat.{ℕ, ◌+◌, ◌≤◌, ◌<◌}
 use mathlib.Core.Bool.{Bool, true, false, cond, ◌&&◌, ◌||◌}
 use mathlib.Core.List.{List, [], ◌∷◌, ◌++◌, append_assoc, append-nil}
@@ -14,7 +15,6 @@ use Rattle.rtr_room.specs.declared.Record.{Record}
 use Rattle.rtr_room.proofs.Laws.{empty-table, table-last}
 use Rattle.rtr_room.proofs.Laws.Tests.{first_of, second-of}
 use Rattle.rtr_receiver.specs.Fits.{TableNumbersFit}
-use Rattle.rtr_receiver.specs.declared.LiveTable.{LiveTable}
 use Rattle.rtr_listing.specs.Listing.{Field, text, digits, decimal, count_digits, line_of, line, table_fields, field_lines, table_lines, head_lines, address_of, record_lines, all_lines}
 use Rattle.rtr_listing.specs.Digits.{are_hex}
 use Rattle.rtr_listing.specs.declared.Head.{Head}
@@ -27,6 +27,7 @@ use Rattle.rtr_listed.proofs.Texts.{same-equal, named-fits}
 use Rattle.rtr_listed.proofs.Numbers.{fitting-fits, number_fits, count_fits}
 use Rattle.rtr_listed.proofs.Addresses.{hex-take, hex-drop, family-is, address-words}
 use Rattle.rtr_listed.proofs.Records.{ruled}
+use Rattle.rtr_receiver.specs.declared.Table.{Table}
 
 -- ---- the text before a place
 
@@ -72,9 +73,9 @@ Within (f ∷ fs) [] = ⊥
 Within (f ∷ fs) (n ∷ ns) = (n ≤ f.most) × Within fs ns
 
 -- without a table the count is 0
-abbrev pub CountFits : LiveTable → ℕ → Type 0
-CountFits LiveTable.NoTable count = count ≡ 0
-CountFits (LiveTable.Known t) count = TableNumbersFit t
+abbrev pub CountFits : Option Table → ℕ → Type 0
+CountFits None count = count ≡ 0
+CountFits (Some t) count = TableNumbersFit t
 
 pub record HeadFits (limit : ℕ) (h : Head) : Type 0 where
   pub stopped : may_stop h.stopped ≡ true

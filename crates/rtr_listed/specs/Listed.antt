@@ -1,16 +1,16 @@
 -- A listing read back, line by line: document 02, request Four, of document 01's "The listing". `lines_of` cuts a text into lines; a `Due` says what is due next, with what was read before
 -- it; `on_line` says, place by place, what a line has to be there; `read_from` takes the lines in order and counts them. A number's line has to be the very text that a listing writes for that
 -- number, so signs, blanks and leading zeros need no rule. What is read is a listing, and every listing of values that fit is read: proofs/Laws.antt, `reads-exactly`.
-use Rattle.std.specs.Prelude.{ℕ, suc, Bool, true, false, cond, ◌&&◌, ◌||◌, List, [], ◌∷◌, ◌++◌, eqb, leb, ltb, length, get_or, take, drop}
+use Rattle.std.specs.Prelude.{ℕ, suc, Bool, true, false, cond, ◌&&◌, ◌||◌, List, [], ◌∷◌, ◌++◌, eqb, leb, ltb, length, get_or, take, drop, Option, Some, None}
 use Rattle.rtr_room.specs.Table.{packed, ordered}
 use Rattle.rtr_room.specs.declared.Record.{Record}
 use Rattle.rtr_receiver.specs.Receiver.{is_stop}
-use Rattle.rtr_receiver.specs.declared.LiveTable.{LiveTable}
 use Rattle.rtr_receiver.specs.declared.Session.{Session}
 use Rattle.rtr_listing.specs.Listing.{Field, text, digits, decimal, count_digits, stopped_as, table_fields, head_lines, address_of, all_lines}
 use Rattle.rtr_listing.specs.Digits.{value_of, hex_of}
 use Rattle.rtr_listing.specs.declared.Head.{Head}
 use Rattle.rtr_listed.specs.declared.Words.{Words}
+use Rattle.rtr_receiver.specs.declared.Table.{Table}
 
 -- ---- lines
 
@@ -127,13 +127,13 @@ abbrev pub may_stop : ℕ → Bool
 may_stop n = eqb n 0 || is_stop n
 
 -- the table that its five numbers make
-abbrev pub table_from : List ℕ → LiveTable
+abbrev pub table_from : List ℕ → Option Table
 table_from ns =
-    LiveTable.Known (record { session = get_or ns 0 0; serial = get_or ns 1 0; refresh = get_or ns 2 0; retry = get_or ns 3 0; expire = get_or ns 4 0 })
+    Some (record { session = get_or ns 0 0; serial = get_or ns 1 0; refresh = get_or ns 2 0; retry = get_or ns 3 0; expire = get_or ns 4 0 })
 
 -- "`count=none` meaning no records"
 abbrev pub without_table : ℕ → Head
-without_table stopped = record { stopped = stopped; table = LiveTable.NoTable; count = 0 }
+without_table stopped = record { stopped = stopped; table = None; count = 0 }
 
 -- one of the table's numbers, or behind the last the count
 abbrev pub on_numbers : List Width → ℕ → ℕ → List ℕ → List Field → List ℕ → Fit Due
@@ -166,7 +166,7 @@ on_line widths limit (end_due head t) s = misfits
 -- what a listing says: the stop's number, 0 without one; the table's numbers, if there is one; and its records
 pub record Listed : Type 0 where
   pub stopped : ℕ
-  pub table : LiveTable
+  pub table : Option Table
   pub records : List Record
 
 -- what a text is read as, or the number of the first line that does not fit or is missing (refusal 24)

@@ -1,5 +1,5 @@
 -- What the functions inside this crate ask and leave. A cursor is a place in the text, the number of the line there, and whether all lines before it fitted; where one did not, it stays at that line.
-use Rattle.std.specs.Prelude.{ℕ, suc, ◌+◌, ◌-◌, ◌≤◌, ◌<◌, Bool, true, false, cond, List, [], ◌∷◌, ◌++◌, ◌≡◌, eqb, length, take, drop}
+use Rattle.std.specs.Prelude.{ℕ, suc, ◌+◌, ◌-◌, ◌≤◌, ◌<◌, Bool, true, false, cond, List, [], ◌∷◌, ◌++◌, ◌≡◌, eqb, length, take, drop, Option, Some, None}
 use Rattle.rtr_room.specs.Room.{room}
 use Rattle.rtr_room.specs.Table.{is_table, in_rule, ordered}
 use Rattle.rtr_room.specs.declared.Record.{Record}
@@ -9,9 +9,7 @@ use Rattle.rtr_listed.specs.Listed.{Line, Fit, Due, Read, lines_of, fitting, sam
 use Rattle.rtr_listed.specs.Listed.Fit.{fits, misfits}
 use Rattle.rtr_listed.specs.Listed.Read.{misfit}
 use Rattle.rtr_listed.specs.declared.Cursor.{Cursor}
-use Rattle.rtr_listed.specs.declared.Address.{Address}
 use Rattle.rtr_listed.specs.declared.Words.{Words}
-use Rattle.rtr_listed.specs.declared.Number.{Number}
 use Rattle.rtr_listed.specs.declared.NumberRead.{NumberRead}
 use Rattle.rtr_listed.specs.declared.WordsRead.{WordsRead}
 use Rattle.rtr_listed.specs.declared.TableRead.{TableRead}
@@ -27,14 +25,14 @@ line_length [] = 0
 line_length (b ∷ s) = cond (eqb b 10) 0 (suc (line_length s))
 
 -- a number as the code says it
-abbrev pub number_said : Number → Fit ℕ
-number_said (Number.Is n) = fits n
-number_said Number.Not = misfits
+abbrev pub number_said : Option ℕ → Fit ℕ
+number_said (Some n) = fits n
+number_said None = misfits
 
 -- an address likewise
-abbrev pub address_said : Address → Fit Words
-address_said (Address.Is w) = fits w
-address_said Address.Not = misfits
+abbrev pub address_said : Option Words → Fit Words
+address_said (Some w) = fits w
+address_said None = misfits
 
 -- ---- cursors
 
@@ -79,9 +77,9 @@ abbrev pub NumberTook : (List ℕ → Fit ℕ) → List ℕ → Cursor → ℕ �
 NumberTook reads s c most r = Took reads s c r.value r.next × ((r.value ≤ most) × Near s 1 c r.next)
 
 -- the same of a line that ends there, by its value
-abbrev pub number_took : Cursor → ℕ → Number → NumberRead
-number_took c end (Number.Is n) = record { value = n; next = past_end c end }
-number_took c end Number.Not = record { value = 0; next = refused_at c }
+abbrev pub number_took : Cursor → ℕ → Option ℕ → NumberRead
+number_took c end (Some n) = record { value = n; next = past_end c end }
+number_took c end None = record { value = 0; next = refused_at c }
 
 -- an address's line
 abbrev pub WordsTook : (List ℕ → Fit Words) → List ℕ → Cursor → WordsRead → Type 0

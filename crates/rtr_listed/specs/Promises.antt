@@ -1,12 +1,11 @@
 -- What reading a listing says and leaves, with document 01's and 02's numbers: 22 where the room has not the size of the limit, and then it stays; 24 with the number of the first line that does
 -- not fit or is missing, and then the room is all zeros; else what the listing says, and the room of its table.
-use Rattle.std.specs.Prelude.{ℕ, ◌*◌, cond, List, [], ◌∷◌, eqb, length, replicate}
+use Rattle.std.specs.Prelude.{ℕ, ◌*◌, cond, List, [], ◌∷◌, eqb, length, replicate, Result, Ok, Err}
 use Rattle.rtr_room.specs.Room.{room}
 use Rattle.rtr_listing.specs.declared.Head.{Head}
 use Rattle.rtr_listed.specs.Listed.{Listed, Read, read_listing}
 use Rattle.rtr_listed.specs.Listed.Read.{listed, misfit}
 use Rattle.rtr_listed.specs.declared.ListedError.{ListedError}
-use Rattle.rtr_listed.specs.declared.ListedAnswer.{ListedAnswer}
 
 -- what a reading says: the head, or a refusal's number and values
 pub data ListedSays : Type 0 where
@@ -34,9 +33,9 @@ refusal_number (says head) = 0
 refusal_number (refused number values) = number
 
 -- what an answer says
-abbrev pub listed_said : ListedAnswer → ListedSays
-listed_said (ListedAnswer.Listed head) = says head
-listed_said (ListedAnswer.Refused error) = listed_refusal error
+abbrev pub listed_said : Result Head ListedError → ListedSays
+listed_said (Ok head) = says head
+listed_said (Err error) = listed_refusal error
 
 -- the head of what was read
 abbrev pub listed_head : Listed → Head

@@ -13,8 +13,8 @@ ghost use Rattle.rtr_listed.specs.Promises.{listed_refusal, refusal_number, list
 ghost use Rattle.rtr_listed.specs.Private.{line_length, number_said, address_said, refused_at, past_end, number_took, NumberTook, WordsTook, NoneTook, TableTook, HeadTook, RecordTook, narrowed, ValueIs, RecordsTook};
 
 use rtr_listing::Head;
-use rtr_receiver::{LiveTable, RECORD_LIMIT, Table};
-use rtr_room::{LookUp, Record, empty, enter, look_up};
+use rtr_receiver::{RECORD_LIMIT, Table};
+use rtr_room::{Record, empty, enter, look_up};
 
 // Why no listing was read.
 #[derive(Clone, Copy)]
@@ -34,13 +34,6 @@ impl ListedError {
             ListedError::Line(_) => 24,
         }
     }
-}
-
-// What a listing says before its records, which then stand in the room; or why none was read.
-#[derive(Clone, Copy)]
-pub enum ListedAnswer {
-    Listed(Head),
-    Refused(ListedError),
 }
 
 // A place in the text, the number of the line there, and whether all lines before it fitted: where one did not, the cursor stays at it.
@@ -65,20 +58,6 @@ struct Words {
 enum Value {
     At { from: usize, end: usize },
     Nowhere,
-}
-
-// A number that was read, or none.
-#[derive(Clone, Copy)]
-enum Number {
-    Is(usize),
-    Not,
-}
-
-// So for an address.
-#[derive(Clone, Copy)]
-enum Address {
-    Is(Words),
-    Not,
 }
 
 // Each has what was read of a line and the cursor behind it.
@@ -200,7 +179,7 @@ fn value_of(listing: &[u8], c: Cursor, name: &[u8]) -> Value
 // ---- Values
 
 // The number that digits stand for: ten at the most, so that no sum wraps.
-fn sum_of(value: &[u8]) -> Number
+fn sum_of(value: &[u8]) -> Option<usize>
     requires { length value.now ≤ 10 }
     ensures { number_said result ≡ fitting (are_decimal value.now) (value_of value.now 0) }
 {
@@ -209,15 +188,15 @@ fn sum_of(value: &[u8]) -> Number
     while i < value.len() {
         let c = value[i];
         if c < 48 {
-            return Number::Not;
+            return None;
         }
         if c > 57 {
-            return Number::Not;
+            return None;
         }
         sum = sum * 10 + (c - 48) as usize;
         i += 1;
     }
-    Number::Is(sum)
+    Some(sum)
 }
 
 // There is a digit, and no zero stands before others.
@@ -234,45 +213,45 @@ fn has_no_lead(value: &[u8]) -> bool
 }
 
 // A number up to a highest one, without leading zeros.
-fn number_in(value: &[u8], most: usize) -> Number
+fn number_in(value: &[u8], most: usize) -> Option<usize>
     requires { most ≤ 4294967295 }
     ensures { number_said result ≡ number_in (λ n. leb n most) value.now }
 {
     if value.len() > 10 {
-        return Number::Not;
+        return None;
     }
     if !has_no_lead(value) {
-        return Number::Not;
+        return None;
     }
     match sum_of(value) {
-        Number::Is(n) => {
+        Some(n) => {
             if n > most {
-                return Number::Not;
+                return None;
             }
-            Number::Is(n)
+            Some(n)
         }
-        Number::Not => Number::Not,
+        None => None,
     }
 }
 
 // A count of records in four digits, within the limit.
-fn count_in(value: &[u8], limit: usize) -> Number
+fn count_in(value: &[u8], limit: usize) -> Option<usize>
     ensures { number_said result ≡ count_in count_widths limit value.now }
 {
     if value.len() != COUNT_DIGITS {
-        return Number::Not;
+        return None;
     }
     match sum_of(value) {
-        Number::Is(n) => {
+        Some(n) => {
             if n > RECORD_LIMIT {
-                return Number::Not;
+                return None;
             }
             if n > limit {
-                return Number::Not;
+                return None;
             }
-            Number::Is(n)
+            Some(n)
         }
-        Number::Not => Number::Not,
+        None => None,
     }
 }
 
@@ -329,17 +308,17 @@ fn word_at(value: &[u8], at: usize) -> u32
 }
 
 // An address: 8 digits in family 4, else 32.
-fn address_in(value: &[u8], family: usize) -> Address
+fn address_in(value: &[u8], family: usize) -> Option<Words>
     ensures { address_said result ≡ address_in family value.now }
 {
     if family == 4 {
         if value.len() != 8 {
-            return Address::Not;
+            return None;
         }
         if !are_hex(value) {
-            return Address::Not;
+            return None;
         }
-        return Address::Is(Words {
+        return Some(Words {
             w0: word_at(value, 0),
             w1: 0,
             w2: 0,
@@ -347,12 +326,12 @@ fn address_in(value: &[u8], family: usize) -> Address
         });
     }
     if value.len() != 32 {
-        return Address::Not;
+        return None;
     }
     if !are_hex(value) {
-        return Address::Not;
+        return None;
     }
-    Address::Is(Words {
+    Some(Words {
         w0: word_at(value, 0),
         w1: word_at(value, 8),
         w2: word_at(value, 16),
@@ -363,16 +342,16 @@ fn address_in(value: &[u8], family: usize) -> Address
 // ---- One line
 
 // The number of a line that ends there, and the cursor behind it; or the line does not fit.
-fn took(c: Cursor, end: usize, number: Number) -> NumberRead
+fn took(c: Cursor, end: usize, number: Option<usize>) -> NumberRead
     requires { (end < 18446744073709551615) × (c.line < 4294967295) }
     ensures { result ≡ number_took c end number }
 {
     match number {
-        Number::Is(value) => NumberRead {
+        Some(value) => NumberRead {
             value,
             next: past(c, end),
         },
-        Number::Not => NumberRead {
+        None => NumberRead {
             value: 0,
             next: refused(c),
         },
@@ -386,7 +365,7 @@ fn number_line(listing: &[u8], c: Cursor, name: &[u8], most: usize) -> NumberRea
 {
     match value_of(listing, c, name) {
         Value::At { from, end } => took(c, end, number_in(&listing[from..end], most)),
-        Value::Nowhere => took(c, 0, Number::Not),
+        Value::Nowhere => took(c, 0, None),
     }
 }
 
@@ -397,7 +376,7 @@ fn count_line(listing: &[u8], c: Cursor, limit: usize) -> NumberRead
 {
     match value_of(listing, c, b"count=") {
         Value::At { from, end } => took(c, end, count_in(&listing[from..end], limit)),
-        Value::Nowhere => took(c, 0, Number::Not),
+        Value::Nowhere => took(c, 0, None),
     }
 }
 
@@ -408,11 +387,11 @@ fn address_line(listing: &[u8], c: Cursor, family: usize) -> WordsRead
 {
     match value_of(listing, c, b"address=") {
         Value::At { from, end } => match address_in(&listing[from..end], family) {
-            Address::Is(words) => WordsRead {
+            Some(words) => WordsRead {
                 words,
                 next: past(c, end),
             },
-            Address::Not => no_words(c),
+            None => no_words(c),
         },
         Value::Nowhere => no_words(c),
     }
@@ -535,7 +514,7 @@ fn read_head(listing: &[u8], limit: usize) -> HeadRead
         return HeadRead {
             head: Head {
                 stopped: stop.value,
-                table: LiveTable::NoTable,
+                table: None,
                 count: 0,
             },
             next: none,
@@ -549,7 +528,7 @@ fn read_head(listing: &[u8], limit: usize) -> HeadRead
     HeadRead {
         head: Head {
             stopped: stop.value,
-            table: LiveTable::Known(table),
+            table: Some(table),
             count: count.value,
         },
         next,
@@ -602,9 +581,9 @@ fn is_above(room: &[u32], count: usize, r: Record) -> bool
     ensures { result ≡ ordered (records count room.now ++ r ∷ []) }
 {
     match look_up(room, count, r) {
-        LookUp::Missing(at) => at == count,
-        LookUp::At(_) => false,
-        LookUp::NotARoom => false,
+        Ok(Position::Missing(at)) => at == count,
+        Ok(Position::At(_)) => false,
+        Err(_) => false,
     }
 }
 
@@ -682,11 +661,11 @@ fn is_done(c: Cursor, end: usize) -> bool
 }
 
 // A whole listing: its records stand in the room, or the room is all zeros.
-pub fn read_listing(listing: &[u8], room: &mut [u32]) -> ListedAnswer
+pub fn read_listing(listing: &[u8], room: &mut [u32]) -> Result<Head, ListedError>
     ensures { record { answer = listed_said result; room = room.new } ≡ listed_says record_limit listing.now room.old }
 {
     if room.len() != 6 * RECORD_LIMIT {
-        return ListedAnswer::Refused(ListedError::NotARoom);
+        return Err(ListedError::NotARoom);
     }
     empty(room);
     let read = read_head(listing, RECORD_LIMIT);
@@ -694,8 +673,8 @@ pub fn read_listing(listing: &[u8], room: &mut [u32]) -> ListedAnswer
     let first = read.next;
     let end = read_records(listing, first, head.count, room);
     if is_done(end, listing.len()) {
-        return ListedAnswer::Listed(head);
+        return Ok(head);
     }
     empty(room);
-    ListedAnswer::Refused(ListedError::Line(end.line))
+    Err(ListedError::Line(end.line))
 }

@@ -1,4 +1,5 @@
 -- What a call comes to: refused by 22, refused by 9, or written. Assumes nothing.
+use Rattle.std.specs.Prelude.{Some, None, ⊤}
 use Prim.Native.Nat.{ℕ, ◌*◌, ◌≤◌, ◌<◌}
 use mathlib.Core.Bool.{Bool, true, false, not, ◌&&◌, and-true, and-false, or-true, true≢false}
 use mathlib.Core.List.{List, [], ◌∷◌, ◌++◌}
@@ -13,7 +14,6 @@ use Rattle.rtr_encode.specs.Encode.Writing.{written, refused}
 use Rattle.rtr_room.specs.Room.{records, is_room}
 use Rattle.rtr_room.proofs.Laws.{rules-size}
 use Rattle.rtr_receiver.specs.Promises.{record_limit, is_limit, has_limit}
-use Rattle.rtr_receiver.specs.declared.LiveTable.TheVariants.{NoTable, Known}
 use Rattle.rtr_receiver.specs.declared.Table.{Table}
 use Rattle.rtr_receiver.specs.declared.Session.{Session}
 use Rattle.rtr_receiver.specs.declared.Phase.{Phase}
@@ -62,13 +62,13 @@ module _ (limit : ℕ) (s : Session) (live : List ℕ) where
   other-limit h = simp h
 
   -- with a table, or without a record, the rules decide
-  pub by-rules : has_limit limit s ≡ true → (t : Table) → s.table ≡ Known t → is_listed limit s live ≡ is_room limit s.live.records live
+  pub by-rules : has_limit limit s ≡ true → (t : Table) → s.table ≡ Some t → is_listed limit s live ≡ is_room limit s.live.records live
   by-rules h t e = simp (h, e, and-true)
 
   pub by-rules-empty : has_limit limit s ≡ true → s.live.records ≡ 0 → is_listed limit s live ≡ is_room limit s.live.records live
   by-rules-empty h e = simp (h, eq-eqb s.live.records 0 e, or-true, and-true)
 
-  pub without-table : s.table ≡ NoTable → (s.live.records ≡ 0 → ⊥) → is_listed limit s live ≡ false
+  pub without-table : s.table ≡ None → (s.live.records ≡ 0 → ⊥) → is_listed limit s live ≡ false
   without-table e h = simp (e, ne_eqb s.live.records 0 h, and-false)
 
   pub listed-size : is_listed limit s live ≡ true → (length live ≡ 6 * limit) × (s.live.records ≤ limit) × (limit ≡ record_limit)

@@ -1,6 +1,7 @@
 -- A listing is refused by 22 exactly where one of the reasons of specs/Promises.antt holds, by 9 exactly where it is not and the output is shorter
 -- than the text, and else written whole: of the definition, and of the call as Rattle reads its contract off the source. A test that fails names its
 -- reason, and each reason makes its test fail. Assumes nothing.
+use Rattle.std.specs.Prelude.{Option, Some, None, Result, Ok, Err}
 use Prim.Native.Nat.{ℕ, ◌≤◌, ◌<◌}
 use mathlib.Core.Bool.{Bool, true, false, ◌&&◌, ◌||◌, true≢false}
 use mathlib.Core.List.{List, [], ◌∷◌}
@@ -17,20 +18,18 @@ use Rattle.rtr_room.proofs.Laws.{rules-exactly, rules-size}
 use Rattle.rtr_receiver.specs.Contents.{Rooms, contents}
 use Rattle.rtr_receiver.specs.History.{has_table}
 use Rattle.rtr_receiver.specs.Promises.{has_limit}
-use Rattle.rtr_receiver.specs.declared.LiveTable.{LiveTable}
-use Rattle.rtr_receiver.specs.declared.LiveTable.TheVariants.{NoTable, Known}
 use Rattle.rtr_receiver.specs.declared.Session.{Session}
 use Rattle.rtr_listing.specs.Listing.{digits, count_digits, listing}
 use Rattle.rtr_listing.specs.Digits.{value_of}
 use Rattle.rtr_listing.specs.Promises.{ListReason, is_listed, list_said, listing_says}
 use Rattle.rtr_listing.specs.Promises.ListReason.{other_limit, live_size, live_over, live_rules, records_without_table}
 use Rattle.rtr_listing.specs.declared.ListError.TheVariants.{NotAReceiver, OutputShort}
-use Rattle.rtr_listing.specs.declared.ListAnswer.{ListAnswer}
-use Rattle.rtr_listing.specs.declared.ListAnswer.TheVariants.{Written, Refused}
 use Rattle.rtr_listing.proofs.Calls.{first_of, second-of, listed-size, written_is, short-is, refused-by-22, listed-says}
 use Rattle.rtr_listing.proofs.Numbers.{count-is-number}
 use Rattle.rtr_listing.proofs.Shape.{above_zero}
 use Rattle.rtr_listing.proofs.listing.Reads as listing-reads
+use Rattle.rtr_receiver.specs.declared.Table.{Table}
+use Rattle.rtr_listing.specs.declared.ListError.{ListError}
 
 module _ (limit : ℕ) (s : Session) (live : Rooms) where
   -- ---- A test that fails names its reason
@@ -42,9 +41,9 @@ module _ (limit : ℕ) (s : Session) (live : Rooms) where
       go true q = live_rules (λ t table count same. true≢false (sym ((rules-exactly limit s.live.records live).1 (t, table, count, leb-true s.live.records limit q, same)) ∙ e))
       go false q = live_over (leb-false s.live.records limit q)
 
-  by-table : (t : LiveTable) → s.table ≡ t → (has_table t || eqb s.live.records 0) ≡ false → ListReason limit s live
-  by-table (Known t) q e = absurd (true≢false e)
-  by-table NoTable q e = records_without_table q (above_zero s.live.records e)
+  by-table : (t : Option Table) → s.table ≡ t → (has_table t || eqb s.live.records 0) ≡ false → ListReason limit s live
+  by-table (Some t) q e = absurd (true≢false e)
+  by-table None q e = records_without_table q (above_zero s.live.records e)
 
   reason-of : is_listed limit s live ≡ false → ListReason limit s live
   reason-of e = by-limit (has_limit limit s) refl e
@@ -66,10 +65,10 @@ module _ (limit : ℕ) (s : Session) (live : Rooms) where
     keeps : is_room limit s.live.records live ≡ true
     keeps = first_of (is_room limit s.live.records live) _ (second-of (has_limit limit s) _ e)
 
-    table-or-none : (t : LiveTable) → s.table ≡ t → t ≡ NoTable → eqb s.live.records 0 ≡ true
-    table-or-none (Known t) q none = absurd (let z : ◌≡◌ {A = ℕ} 0 1 = cc in omega arith)
-    table-or-none NoTable q none =
-        ap (λ (t : LiveTable). has_table t || eqb s.live.records 0) (sym q) ∙ second-of (is_room limit s.live.records live) _ (second-of (has_limit limit s) _ e)
+    table-or-none : (t : Option Table) → s.table ≡ t → t ≡ None → eqb s.live.records 0 ≡ true
+    table-or-none (Some t) q none = absurd (let z : ◌≡◌ {A = ℕ} 0 1 = cc in omega arith)
+    table-or-none None q none =
+        ap (λ (t : Option Table). has_table t || eqb s.live.records 0) (sym q) ∙ second-of (is_room limit s.live.records live) _ (second-of (has_limit limit s) _ e)
 
     no-reason : ListReason limit s live → ⊥
     no-reason (other_limit h) = true≢false (sym limited ∙ h)
@@ -96,20 +95,20 @@ count-shown limit s live e = let size = listed-size limit s live e in count-is-n
 -- ---- The call
 
 -- the answer of a refusal by 22
-by-22 : (r : ListAnswer) → list_said r ≡ refused 22 [] → r ≡ Refused NotAReceiver
-by-22 (Written n) e = absurd (let z : ◌≡◌ {A = ℕ} 0 1 = cc in omega arith)
-by-22 (Refused NotAReceiver) e = refl
-by-22 (Refused (OutputShort n)) e = absurd (let z : ◌≡◌ {A = ℕ} 9 22 = cc in omega arith)
+by-22 : (r : Result ℕ ListError) → list_said r ≡ refused 22 [] → r ≡ Err NotAReceiver
+by-22 (Ok n) e = absurd (let z : ◌≡◌ {A = ℕ} 0 1 = cc in omega arith)
+by-22 (Err NotAReceiver) e = refl
+by-22 (Err (OutputShort n)) e = absurd (let z : ◌≡◌ {A = ℕ} 9 22 = cc in omega arith)
 
-by-9 : (r : ListAnswer) (n : ℕ) → list_said r ≡ refused 9 (n ∷ []) → r ≡ Refused (OutputShort n)
-by-9 (Written m) n e = absurd (let z : ◌≡◌ {A = ℕ} 0 1 = cc in omega arith)
-by-9 (Refused NotAReceiver) n e = absurd (let z : ◌≡◌ {A = ℕ} 22 9 = cc in omega arith)
-by-9 (Refused (OutputShort m)) n e = let same : m ≡ n = cc in ap (λ (k : ℕ). Refused (OutputShort k)) same
+by-9 : (r : Result ℕ ListError) (n : ℕ) → list_said r ≡ refused 9 (n ∷ []) → r ≡ Err (OutputShort n)
+by-9 (Ok m) n e = absurd (let z : ◌≡◌ {A = ℕ} 0 1 = cc in omega arith)
+by-9 (Err NotAReceiver) n e = absurd (let z : ◌≡◌ {A = ℕ} 22 9 = cc in omega arith)
+by-9 (Err (OutputShort m)) n e = let same : m ≡ n = cc in ap (λ (k : ℕ). Err (OutputShort k)) same
 
-by_written : (r : ListAnswer) (n : ℕ) → list_said r ≡ written n → r ≡ Written n
-by_written (Written m) n e = let same : m ≡ n = cc in ap Written same
-by_written (Refused NotAReceiver) n e = absurd (let z : ◌≡◌ {A = ℕ} 0 1 = cc in omega arith)
-by_written (Refused (OutputShort m)) n e = absurd (let z : ◌≡◌ {A = ℕ} 0 1 = cc in omega arith)
+by_written : (r : Result ℕ ListError) (n : ℕ) → list_said r ≡ written n → r ≡ Ok n
+by_written (Ok m) n e = let same : m ≡ n = cc in ap Ok same
+by_written (Err NotAReceiver) n e = absurd (let z : ◌≡◌ {A = ℕ} 0 1 = cc in omega arith)
+by_written (Err (OutputShort m)) n e = absurd (let z : ◌≡◌ {A = ℕ} 0 1 = cc in omega arith)
 
 -- what is said where there is a reason, where the text does not fit, and where it does
 module _ (limit : ℕ) (s : Session) (live : Rooms) (out : List ℕ) where
@@ -144,7 +143,7 @@ module _ (limit : ℕ) (s : Session) (live : Rooms) (out : List ℕ) where
       by_shape true e = by-room e (leb (length text) (length out)) refl
       by_shape false e = rw (says-22 e) (unlisted e)
 
-  module _ (r : ListAnswer) (promise : list_said r ≡ (listing_says limit s live out).says) where
+  module _ (r : Result ℕ ListError) (promise : list_said r ≡ (listing_says limit s live out).says) where
     saying : Says (list_said r)
     saying = rw promise says
 
@@ -153,7 +152,7 @@ module _ (limit : ℕ) (s : Session) (live : Rooms) (out : List ℕ) where
     reason-22 w (short e h) q = absurd (let z : ◌≡◌ {A = ℕ} 9 22 = cc in omega arith)
     reason-22 w (whole e h) q = absurd (let z : ◌≡◌ {A = ℕ} 0 1 = cc in omega arith)
 
-    answers-22 : (r ≡ Refused NotAReceiver) ↔ ListReason limit s live
+    answers-22 : (r ≡ Err NotAReceiver) ↔ ListReason limit s live
     answers-22 = (
       λ e. reason-22 (list_said r) saying (ap list_said e),
       λ reason. by-22 r (promise ∙ says-22 ((listed-exactly limit s live).1 reason)),
@@ -173,7 +172,7 @@ module _ (limit : ℕ) (s : Session) (live : Rooms) (out : List ℕ) where
         go true e = e
         go false e = absurd (none ((listed-exactly limit s live).0 e))
 
-    answers-9 : (n : ℕ) → (r ≡ Refused (OutputShort n)) ↔ ((ListReason limit s live → ⊥) × (n ≡ length text) × (length out < n))
+    answers-9 : (n : ℕ) → (r ≡ Err (OutputShort n)) ↔ ((ListReason limit s live → ⊥) × (n ≡ length text) × (length out < n))
     answers-9 n = (
       λ e. reason-9 n (list_said r) saying (ap list_said e),
       λ h. by-9 r n (promise ∙ says-9 (is-listed h.0) (omega (arith, h.1, h.2)) ∙ ap (λ (k : ℕ). refused 9 (k ∷ [])) (sym h.1)),
@@ -186,26 +185,26 @@ module _ (limit : ℕ) (s : Session) (live : Rooms) (out : List ℕ) where
         let same : length text ≡ n = cc in
         (λ reason. true≢false (sym e ∙ (listed-exactly limit s live).1 reason), sym same, omega arith)
 
-    answers-written : (n : ℕ) → (r ≡ Written n) ↔ ((ListReason limit s live → ⊥) × (n ≡ length text) × (n ≤ length out))
+    answers-written : (n : ℕ) → (r ≡ Ok n) ↔ ((ListReason limit s live → ⊥) × (n ≡ length text) × (n ≤ length out))
     answers-written n = (
       λ e. reason-written n (list_said r) saying (ap list_said e),
       λ h. by_written r n (promise ∙ says-written (is-listed h.0) (omega (arith, h.1, h.2)) ∙ ap written (sym h.1)),
     )
 
 -- a call that meets its promise, by its answer: 22 exactly where there is a reason
-pub listing-22-exactly : (κs : _) (a : _) (r : _) (st : _) → listing-reads.Post κs a r st → (r ≡ Refused NotAReceiver) ↔ ListReason a.0.life.limit a.0 a.1.0.now
+pub listing-22-exactly : (κs : _) (a : _) (r : _) (st : _) → listing-reads.Post κs a r st → (r ≡ Err NotAReceiver) ↔ ListReason a.0.life.limit a.0 a.1.0.now
 listing-22-exactly κs a r st p = answers-22 a.0.life.limit a.0 a.1.0.now a.1.1.0.now r (ap (λ (x : Encoded). x.says) p)
 
 -- 9 exactly where there is none and the output is shorter than the listing, whose length it says
 pub listing-9-exactly : (κs : _) (a : _) (r : _) (st : _) (n : ℕ) → listing-reads.Post κs a r st
-    → (r ≡ Refused (OutputShort n))
+    → (r ≡ Err (OutputShort n))
     ↔ ((ListReason a.0.life.limit a.0 a.1.0.now → ⊥) × (n ≡ length (listing a.0 (contents a.0.live a.1.0.now))) × (length a.1.1.0.now < n))
 unfolding text
 listing-9-exactly κs a r st n p = answers-9 a.0.life.limit a.0 a.1.0.now a.1.1.0.now r (ap (λ (x : Encoded). x.says) p) n
 
 -- and written, by that many bytes, exactly where there is none and it fits
 pub listing-written-exactly : (κs : _) (a : _) (r : _) (st : _) (n : ℕ) → listing-reads.Post κs a r st
-    → (r ≡ Written n)
+    → (r ≡ Ok n)
     ↔ ((ListReason a.0.life.limit a.0 a.1.0.now → ⊥) × (n ≡ length (listing a.0 (contents a.0.live a.1.0.now))) × (n ≤ length a.1.1.0.now))
 unfolding text
 listing-written-exactly κs a r st n p = answers-written a.0.life.limit a.0 a.1.0.now a.1.1.0.now r (ap (λ (x : Encoded). x.says) p) n

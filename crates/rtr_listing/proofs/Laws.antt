@@ -1,4 +1,5 @@
 -- What the listing is, for readers and for programs that print it in parts. Assumes nothing.
+use Rattle.std.specs.Prelude.{Some, None}
 use Prim.Native.Nat.{ℕ, ◌+◌, ◌*◌, ◌^◌, ◌≤◌, ◌<◌, ◌-◌}
 use mathlib.Core.Bool.{true, false, ◌&&◌}
 use mathlib.Core.List.{List, [], ◌∷◌, ◌++◌}
@@ -12,7 +13,6 @@ use Rattle.rtr_room.specs.Room.{records}
 use Rattle.rtr_room.specs.declared.Record.{Record}
 use Rattle.rtr_receiver.specs.Promises.{is_receiver}
 use Rattle.rtr_receiver.specs.Runs.{Call, Memory, Run}
-use Rattle.rtr_receiver.specs.declared.LiveTable.{LiveTable}
 use Rattle.rtr_receiver.specs.declared.Session.{Session}
 use Rattle.rtr_receiver.specs.declared.Table.{Table}
 use Rattle.rtr_receiver.proofs.Laws.{shape-kept}
@@ -160,12 +160,12 @@ unfolding head_lines
 head-lines-are h = refl
 
 -- without a table
-pub no-table-line : (count : ℕ) → table_lines LiveTable.NoTable count ≡ line "count=" (text "none")
+pub no-table-line : (count : ℕ) → table_lines None count ≡ line "count=" (text "none")
 unfolding table_lines
 no-table-line count = refl
 
 -- the table's numbers, and the count
-pub table-lines-are : (t : Table) (count : ℕ) → table_lines (LiveTable.Known t) count ≡ field_lines [] table_fields (table_numbers t) ++ line "count=" (digits 10 count_digits count)
+pub table-lines-are : (t : Table) (count : ℕ) → table_lines (Some t) count ≡ field_lines [] table_fields (table_numbers t) ++ line "count=" (digits 10 count_digits count)
 unfolding table_lines
 table-lines-are t count = refl
 

@@ -1,4 +1,5 @@
 -- Lines, and how long they are: no head and no record is longer than 128 bytes, and the lines of more records are no shorter. Assumes nothing.
+use Rattle.std.specs.Prelude.{Option, Some, None}
 use Prim.Native.Nat.{ℕ, zero, suc, ◌+◌, ◌-◌, ◌*◌, ◌≤◌, ◌<◌}
 use mathlib.Core.Bool.{Bool, true, false}
 use mathlib.Core.List.{List, [], ◌∷◌, ◌++◌, append_assoc, append-nil}
@@ -11,10 +12,7 @@ use lib.ListN.{length, length-append}
 use Rattle.rtr_room.specs.Table.{family_of, prefix_of, max_of}
 use Rattle.rtr_room.specs.Room.{record_at, record_found, records}
 use Rattle.rtr_room.specs.declared.Record.{Record}
-use Rattle.rtr_room.specs.declared.RecordFound.{RecordFound}
-use Rattle.rtr_room.specs.declared.RecordFound.TheVariants.{Found, Outside}
 use Rattle.rtr_room.proofs.Laws.{records-none, records-next, found_inside}
-use Rattle.rtr_receiver.specs.declared.LiveTable.{LiveTable}
 use Rattle.rtr_receiver.specs.declared.Table.{Table}
 use Rattle.rtr_receiver.specs.declared.Session.{Session}
 use Rattle.rtr_listing.specs.declared.Head.{Head}
@@ -35,7 +33,7 @@ number-at-most name n = omega (arith, line-length name (decimal n), digits-lengt
 
 -- a table's six lines one by one
 pub table-length : (t : Table) (count : ℕ)
-    → length (table_lines (LiveTable.Known t) count)
+    → length (table_lines (Some t) count)
     ≡ length (line "session=" (decimal t.session))
     + length (line "serial=" (decimal t.serial))
     + length (line "refresh=" (decimal t.refresh))
@@ -45,10 +43,10 @@ pub table-length : (t : Table) (count : ℕ)
 unfolding field_lines table_lines
 table-length t count = simp length-append (omega arith)
 
-table-at-most : (t : LiveTable) (count : ℕ) → length (table_lines t count) ≤ 102
+table-at-most : (t : Option Table) (count : ℕ) → length (table_lines t count) ≤ 102
 unfolding field_lines table_lines
-table-at-most LiveTable.NoTable count = omega (arith, line-length (text "count=") (text "none"))
-table-at-most (LiveTable.Known t) count =
+table-at-most None count = omega (arith, line-length (text "count=") (text "none"))
+table-at-most (Some t) count =
     omega (
       arith,
       table-length t count,
@@ -62,9 +60,9 @@ table-at-most (LiveTable.Known t) count =
     )
 
 -- without a table
-pub no-table-lines : (t : LiveTable) (count : ℕ) → t ≡ LiveTable.NoTable → table_lines t count ≡ text "count=none\n"
+pub no-table-lines : (t : Option Table) (count : ℕ) → t ≡ None → table_lines t count ≡ text "count=none\n"
 unfolding field_lines table_lines line_of
-no-table-lines t count e = ap (λ (x : LiveTable). table_lines x count) e
+no-table-lines t count e = ap (λ (x : Option Table). table_lines x count) e
 
 -- a head's lines: the stop, then the table
 pub head-length : (h : Head) → length (head_lines h) ≡ length (line "stopped=" (decimal h.stopped)) + length (table_lines h.table h.count)
@@ -162,12 +160,12 @@ next-within s i count h =
     omega (arith, more, all-next-length i s)
 
 -- what is found inside a room is its record, and it is never outside
-pub the-record : (s : List ℕ) (i : ℕ) (r : Record) (found : RecordFound) → 6 * i + 6 ≤ length s → found ≡ record_found s i → found ≡ Found r → r ≡ record_at s i
-the-record s i r found h p q = let e : record_found s i ≡ Found (record_at s i) = found_inside s i h in cc
+pub the-record : (s : List ℕ) (i : ℕ) (r : Record) (found : Option Record) → 6 * i + 6 ≤ length s → found ≡ record_found s i → found ≡ Some r → r ≡ record_at s i
+the-record s i r found h p q = let e : record_found s i ≡ Some (record_at s i) = found_inside s i h in cc
 
-pub never-outside : (s : List ℕ) (i : ℕ) (found : RecordFound) → 6 * i + 6 ≤ length s → found ≡ record_found s i → found ≡ Outside → ⊥
+pub never-outside : (s : List ℕ) (i : ℕ) (found : Option Record) → 6 * i + 6 ≤ length s → found ≡ record_found s i → found ≡ None → ⊥
 never-outside s i found h p q =
-    let e : record_found s i ≡ Found (record_at s i) = found_inside s i h in
+    let e : record_found s i ≡ Some (record_at s i) = found_inside s i h in
     let z : ◌≡◌ {A = ℕ} 0 1 = cc in
     omega arith
 

@@ -1,5 +1,6 @@
 -- What is printed follows from the history of calls (rtr_receiver's `history` and `stop-from-history`): the number by which the connection was lost, or 0, and behind that line the table that the finished updates
 -- make, however the bytes were cut. Document 01's input is printed as document 01's output, and without its last byte as document 01 says. Assumes nothing.
+use Rattle.std.specs.Prelude.{Ok}
 use Prim.Native.Nat.{ℕ, ◌≤◌}
 use mathlib.Core.Bool.{Bool, true, false}
 use mathlib.Core.List.{List, [], ◌∷◌, ◌++◌, append_assoc}
@@ -28,7 +29,6 @@ use Rattle.rtr_encode.specs.Encode.{Encoded}
 use Rattle.rtr_receiver.specs.Contents.{contents}
 use Rattle.rtr_receiver.specs.declared.Session.{Session}
 use Rattle.rtr_listing.specs.Promises.{ListReason, is_listed}
-use Rattle.rtr_listing.specs.declared.ListAnswer.TheVariants.{Written}
 use Rattle.rtr_listing.proofs.Calls.{listed-says, written_is}
 use Rattle.rtr_listing.proofs.Exactly.{listed-exactly, listing-written-exactly}
 use Rattle.rtr_listing.proofs.listing.Reads as listing-reads
@@ -112,7 +112,7 @@ module _ (limit H : ℕ) (v : RtrProtocolVersion) (calls : List Call) (m : Memor
       go true e = e
       go false e = absurd (none ((listed-exactly limit' s live).0 e))
 
-  pub listing-call-is-history : (κs : _) (a : _) (r : _) (st : _) (n : ℕ) → listing-reads.Post κs a r st → a.0 ≡ m.session → a.1.0.now ≡ m.live → r ≡ Written n →
+  pub listing-call-is-history : (κs : _) (a : _) (r : _) (st : _) (n : ℕ) → listing-reads.Post κs a r st → a.0 ≡ m.session → a.1.0.now ≡ m.live → r ≡ Ok n →
       take n st.1.1.0.now ≡ printed_after limit H v (history_of calls)
   listing-call-is-history κs a r st n p session live e =
       let exact = (listing-written-exactly κs a r st n p).0 e in

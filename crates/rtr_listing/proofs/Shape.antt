@@ -1,5 +1,6 @@
 -- Every receiver can be listed: where the limit is not the session's, the live room breaks the room rules, or a record stands without a table, there is a reason for 22 of the
 -- receiver's own (shape-exactly). Assumes nothing.
+use Rattle.std.specs.Prelude.{Option, Some, None}
 use Prim.Native.Nat.{ℕ, zero, suc, ◌<◌}
 use mathlib.Core.Bool.{Bool, true, false, ◌||◌, true≢false}
 use mathlib.Core.List.{List}
@@ -12,11 +13,10 @@ use Rattle.rtr_room.proofs.Laws.{rules-exactly}
 use Rattle.rtr_receiver.specs.History.{has_table}
 use Rattle.rtr_receiver.specs.Promises.{Reason, is_receiver, has_limit}
 use Rattle.rtr_receiver.specs.Promises.Reason.{other_limit, live_over, live_rules, records_without_table}
-use Rattle.rtr_receiver.specs.declared.LiveTable.{LiveTable}
-use Rattle.rtr_receiver.specs.declared.LiveTable.TheVariants.{NoTable, Known}
 use Rattle.rtr_receiver.specs.declared.Session.{Session}
 use Rattle.rtr_receiver.proofs.Shape.{shape-exactly}
 use Rattle.rtr_listing.specs.Promises.{is_listed}
+use Rattle.rtr_receiver.specs.declared.Table.{Table}
 
 unless-false : (b : Bool) → (b ≡ false → ⊥) → b ≡ true
 unless-false true h = refl
@@ -35,13 +35,13 @@ module _ (limit : ℕ) (s : Session) (live working hold : List ℕ) (shape : is_
       live_rules (λ t table count same. true≢false (sym ((rules-exactly limit s.live.records live).1 (t, table, count, leb-true s.live.records limit q, same)) ∙ e))
   broken false q e = live_over (leb-false s.live.records limit q)
 
-  tabled : (t : LiveTable) → s.table ≡ t → (has_table t || eqb s.live.records 0) ≡ true
-  tabled (Known t) e = refl
-  tabled NoTable e = unless-false _ (λ q. no-reason (records_without_table e (above_zero s.live.records q)))
+  tabled : (t : Option Table) → s.table ≡ t → (has_table t || eqb s.live.records 0) ≡ true
+  tabled (Some t) e = refl
+  tabled None e = unless-false _ (λ q. no-reason (records_without_table e (above_zero s.live.records q)))
 
   -- without a table there is no record
-  pub no-records : s.table ≡ NoTable → s.live.records ≡ 0
-  no-records e = eqb-true s.live.records 0 (tabled NoTable e)
+  pub no-records : s.table ≡ None → s.live.records ≡ 0
+  no-records e = eqb-true s.live.records 0 (tabled None e)
 
   pub receiver-is-listed : is_listed limit s live ≡ true
   receiver-is-listed =

@@ -1,5 +1,6 @@
 -- What each public function promises leaves one result and one content of the lent output. `Post` is the contract as Rattle reads it off the
 -- source, and `s` the parameters as the function returns. Assumes nothing.
+use Rattle.std.specs.Prelude.{Result, Ok, Err}
 use Prim.Native.Nat.{ℕ}
 use mathlib.Core.Bool.{cond}
 use mathlib.Core.List.{List}
@@ -11,8 +12,6 @@ use Rattle.rtr_encode.specs.Encode.{Writing, Encoded}
 use Rattle.rtr_encode.specs.Encode.Writing.{written, refused}
 use Rattle.rtr_listing.specs.Promises.{list_said, leaves}
 use Rattle.rtr_listing.specs.declared.ListError.TheVariants.{NotAReceiver, OutputShort}
-use Rattle.rtr_listing.specs.declared.ListAnswer.{ListAnswer}
-use Rattle.rtr_listing.specs.declared.ListAnswer.TheVariants.{Written, Refused}
 use Rattle.rtr_listing.proofs.ListError.number.Reads as list-error-number
 use Rattle.rtr_listing.proofs.head_of.Reads as head_of
 use Rattle.rtr_listing.proofs.head_lines.Reads as head-lines
@@ -20,19 +19,20 @@ use Rattle.rtr_listing.proofs.record_lines.Reads as record-lines
 use Rattle.rtr_listing.proofs.text_line.Reads as text-line
 use Rattle.rtr_listing.proofs.number_line.Reads as number-line
 use Rattle.rtr_listing.proofs.listing.Reads as listing
+use Rattle.rtr_listing.specs.declared.ListError.{ListError}
 
 -- the answer that has a number and values
-answer_of : Writing → ListAnswer
-answer_of (written n) = Written n
-answer_of (refused k x) = cond (eqb k 22) (Refused NotAReceiver) (Refused (OutputShort (get_or x 0 0)))
+answer_of : Writing → Result ℕ ListError
+answer_of (written n) = Ok n
+answer_of (refused k x) = cond (eqb k 22) (Err NotAReceiver) (Err (OutputShort (get_or x 0 0)))
 
-said-back : (a : ListAnswer) → answer_of (list_said a) ≡ a
+said-back : (a : Result ℕ ListError) → answer_of (list_said a) ≡ a
 unfolding answer_of
-said-back (Written n) = refl
-said-back (Refused NotAReceiver) = refl
-said-back (Refused (OutputShort n)) = refl
+said-back (Ok n) = refl
+said-back (Err NotAReceiver) = refl
+said-back (Err (OutputShort n)) = refl
 
-one-leaving : (r r' : ListAnswer) (o o' : List ℕ) (given : Encoded) → leaves r o ≡ given → leaves r' o' ≡ given → (r ≡ r') × (o ≡ o')
+one-leaving : (r r' : Result ℕ ListError) (o o' : List ℕ) (given : Encoded) → leaves r o ≡ given → leaves r' o' ≡ given → (r ≡ r') × (o ≡ o')
 one-leaving r r' o o' given p q = (
   only_one list_said answer_of said-back r r' given.says (ap (λ (e : Encoded). e.says) p) (ap (λ (e : Encoded). e.says) q),
   only-this o o' given.out (ap (λ (e : Encoded). e.out) p) (ap (λ (e : Encoded). e.out) q),

@@ -1,5 +1,5 @@
 -- The bytes of a table's listing: document 01, "The listing".
-use Rattle.std.specs.Prelude.{ℕ, zero, suc, ◌+◌, ◌/◌, ◌%◌, cond, List, [], ◌∷◌, ◌++◌, ltb, eqb}
+use Rattle.std.specs.Prelude.{ℕ, zero, suc, ◌+◌, ◌/◌, ◌%◌, cond, List, [], ◌∷◌, ◌++◌, ltb, eqb, Option, Some, None}
 use Prim.Native.Char.{code}
 use Prim.Native.String.{String, [] as none, ◌∷◌ as ◌then◌}
 use Rattle.rtr_codec.specs.Answers.{number_of}
@@ -7,7 +7,6 @@ use Rattle.rtr_room.specs.Table.{family_of, prefix_of, max_of}
 use Rattle.rtr_room.specs.declared.Record.{Record}
 use Rattle.rtr_receiver.specs.Promises.{stop_said}
 use Rattle.rtr_receiver.specs.declared.Phase.{Phase}
-use Rattle.rtr_receiver.specs.declared.LiveTable.{LiveTable}
 use Rattle.rtr_receiver.specs.declared.Session.{Session}
 use Rattle.rtr_receiver.specs.declared.Table.{Table}
 use Rattle.rtr_listing.specs.declared.Head.{Head}
@@ -94,9 +93,9 @@ field_lines before (f ∷ fs) [] = before
 field_lines before [] ns = before
 
 -- the table's numbers and its count of records; or that there is none
-unfoldable pub table_lines : LiveTable → ℕ → List ℕ
-table_lines LiveTable.NoTable count = line "count=" (text "none")
-table_lines (LiveTable.Known t) count = field_lines [] table_fields (table_numbers t) ++ line "count=" (digits 10 count_digits count)
+unfoldable pub table_lines : Option Table → ℕ → List ℕ
+table_lines None count = line "count=" (text "none")
+table_lines (Some t) count = field_lines [] table_fields (table_numbers t) ++ line "count=" (digits 10 count_digits count)
 
 -- the lines before the records
 unfoldable pub head_lines : Head → List ℕ

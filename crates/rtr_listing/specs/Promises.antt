@@ -1,18 +1,15 @@
 -- What a call of the listing says and leaves, with document 01's numbers: "The listing" and "Refusal numbers". What it says, and the output that it
 -- leaves, are those of encoding (Writing and Encoded of rtr_encode). Over any record limit; a call promises it of the limit that the session record holds.
-use Rattle.std.specs.Prelude.{ℕ, Bool, false, cond, ◌&&◌, ◌||◌, List, [], ◌∷◌, ◌≡◌, leb, length}
+use Rattle.std.specs.Prelude.{ℕ, Bool, false, cond, ◌&&◌, ◌||◌, List, [], ◌∷◌, ◌≡◌, leb, length, None, Result, Ok, Err}
 use Rattle.rtr_encode.specs.Encode.{Writing, Encoded, unless, out_after}
 use Rattle.rtr_encode.specs.Encode.Writing.{written, refused}
 use Rattle.rtr_receiver.specs.Contents.{Rooms, contents, are_rooms, is_none, OverLimit, Used, OffSize, BreaksRules}
 use Rattle.rtr_receiver.specs.History.{has_table}
 use Rattle.rtr_receiver.specs.Promises.{has_limit}
-use Rattle.rtr_receiver.specs.declared.LiveTable.{LiveTable}
 use Rattle.rtr_receiver.specs.declared.Session.{Session}
 use Rattle.rtr_listing.specs.Listing.{listing}
 use Rattle.rtr_listing.specs.declared.ListError.{ListError}
 use Rattle.rtr_listing.specs.declared.ListError.TheVariants.{NotAReceiver, OutputShort}
-use Rattle.rtr_listing.specs.declared.ListAnswer.{ListAnswer}
-use Rattle.rtr_listing.specs.declared.ListAnswer.TheVariants.{Written, Refused}
 
 -- document 01's number and values of a refusal
 abbrev pub list_refusal : ListError → Writing
@@ -20,12 +17,12 @@ list_refusal NotAReceiver = refused 22 []
 list_refusal (OutputShort needed) = refused 9 (needed ∷ [])
 
 -- what an answer says
-abbrev pub list_said : ListAnswer → Writing
-list_said (Written n) = written n
-list_said (Refused error) = list_refusal error
+abbrev pub list_said : Result ℕ ListError → Writing
+list_said (Ok n) = written n
+list_said (Err error) = list_refusal error
 
 -- an answer and the output that it leaves
-abbrev pub leaves : ListAnswer → List ℕ → Encoded
+abbrev pub leaves : Result ℕ ListError → List ℕ → Encoded
 leaves answer out = record { says = list_said answer; out = out }
 
 -- 9 with how many bytes are needed, where an output of `room` bytes is shorter than that
@@ -47,7 +44,7 @@ pub data ListReason (limit : ℕ) (s : Session) (live : Rooms) : Type 0 where
   live_size : OffSize limit live → ListReason limit s live
   live_over : OverLimit limit s.live → ListReason limit s live
   live_rules : BreaksRules limit s.live live → ListReason limit s live
-  records_without_table : s.table ≡ LiveTable.NoTable → Used s.live → ListReason limit s live
+  records_without_table : s.table ≡ None → Used s.live → ListReason limit s live
 
 -- the listing of a session and its live room: 22, then 9, then all of it
 unfoldable pub listing_says : ℕ → Session → Rooms → List ℕ → Encoded

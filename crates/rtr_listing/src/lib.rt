@@ -10,8 +10,8 @@ ghost use Rattle.rtr_listing.specs.Listing.{glyph, digits, places, decimal, line
 ghost use Rattle.rtr_listing.specs.Promises.{list_refusal, leaves, puts, is_listed, listing_says};
 ghost use Rattle.rtr_listing.specs.Private.{Fits, Put};
 
-use rtr_receiver::{LiveTable, Phase, Session, Table, is_limit};
-use rtr_room::{Record, RecordFound, get, rules};
+use rtr_receiver::{Phase, Session, Table, is_limit};
+use rtr_room::{Record, get, rules};
 
 // Why nothing is written.
 #[derive(Clone, Copy)]
@@ -32,18 +32,11 @@ impl ListError {
     }
 }
 
-// How many bytes were written, or why none were.
-#[derive(Clone, Copy)]
-pub enum ListAnswer {
-    Written(usize),
-    Refused(ListError),
-}
-
 // What a listing says before its records: the stop's number, 0 without one; the table's session, serial and intervals if there is one; and how many records it has.
 #[derive(Clone, Copy)]
 pub struct Head {
     pub stopped: usize,
-    pub table: LiveTable,
+    pub table: Option<Table>,
     pub count: usize,
 }
 
@@ -172,8 +165,8 @@ pub fn head_of(s: Session) -> Head
 }
 
 fn put_table(out: &mut [u8], at: usize, t: Table, count: usize) -> usize
-    requires { Fits out.old at (table_lines (LiveTable.Known t) count) }
-    ensures { Put out.old at (table_lines (LiveTable.Known t) count) result out.new }
+    requires { Fits out.old at (table_lines (Some t) count) }
+    ensures { Put out.old at (table_lines (Some t) count) result out.new }
 {
     let serial = put_number(out, at, b"session=", t.session as usize);
     let refresh = put_number(out, serial, b"serial=", t.serial as usize);
@@ -190,8 +183,8 @@ fn put_head(out: &mut [u8], at: usize, head: Head) -> usize
     let table = head.table;
     let next = put_number(out, at, b"stopped=", head.stopped);
     match table {
-        LiveTable::NoTable => put_text(out, next, b"count=none\n"),
-        LiveTable::Known(t) => put_table(out, next, t, head.count),
+        None => put_text(out, next, b"count=none\n"),
+        Some(t) => put_table(out, next, t, head.count),
     }
 }
 
@@ -261,10 +254,10 @@ fn records_length(live: &[u32], count: usize) -> usize
     let mut i = 0;
     while i < count {
         match get(live, i) {
-            RecordFound::Found(r) => {
+            Some(r) => {
                 sum += record_length(r);
             }
-            RecordFound::Outside => {
+            None => {
                 return sum;
             }
         }
@@ -281,10 +274,10 @@ fn put_records(out: &mut [u8], at: usize, live: &[u32], count: usize) -> usize
     let mut i = 0;
     while i < count {
         match get(live, i) {
-            RecordFound::Found(r) => {
+            Some(r) => {
                 next = put_record(out, next, r);
             }
-            RecordFound::Outside => {
+            None => {
                 return next;
             }
         }
@@ -296,14 +289,14 @@ fn put_records(out: &mut [u8], at: usize, live: &[u32], count: usize) -> usize
 // ---- The listing
 
 // Refusal 9.
-fn short(needed: usize) -> ListAnswer
-    ensures { result ≡ ListAnswer.Refused (ListError.OutputShort needed) }
+fn short(needed: usize) -> Result<usize, ListError>
+    ensures { result ≡ Err (ListError.OutputShort needed) }
 {
-    ListAnswer::Refused(ListError::OutputShort { needed })
+    Err(ListError::OutputShort { needed })
 }
 
 // The lines before the records.
-pub fn head_lines(s: Session, out: &mut [u8]) -> ListAnswer
+pub fn head_lines(s: Session, out: &mut [u8]) -> Result<usize, ListError>
     ensures { leaves result out.new ≡ puts (head_lines (head_of s)) out.old }
 {
     let head = head_of(s);
@@ -312,11 +305,11 @@ pub fn head_lines(s: Session, out: &mut [u8]) -> ListAnswer
         return short(needed);
     }
     put_head(out, 0, head);
-    ListAnswer::Written(needed)
+    Ok(needed)
 }
 
 // The five lines of a record.
-pub fn record_lines(r: Record, out: &mut [u8]) -> ListAnswer
+pub fn record_lines(r: Record, out: &mut [u8]) -> Result<usize, ListError>
     ensures { leaves result out.new ≡ puts (record_lines r) out.old }
 {
     let needed = record_length(r);
@@ -324,11 +317,11 @@ pub fn record_lines(r: Record, out: &mut [u8]) -> ListAnswer
         return short(needed);
     }
     put_record(out, 0, r);
-    ListAnswer::Written(needed)
+    Ok(needed)
 }
 
 // A line of a name and a text.
-pub fn text_line(name: &[u8], value: &[u8], out: &mut [u8]) -> ListAnswer
+pub fn text_line(name: &[u8], value: &[u8], out: &mut [u8]) -> Result<usize, ListError>
     ensures { leaves result out.new ≡ puts (line_of name.now value.now) out.old }
 {
     let needed = name.len() + value.len() + 1;
@@ -338,11 +331,11 @@ pub fn text_line(name: &[u8], value: &[u8], out: &mut [u8]) -> ListAnswer
     let from = put_text(out, 0, name);
     let end = put_text(out, from, value);
     put_text(out, end, b"\n");
-    ListAnswer::Written(needed)
+    Ok(needed)
 }
 
 // A line of a name and a number, without leading zeros; of one over 32 bits the last ten digits.
-pub fn number_line(name: &[u8], n: usize, out: &mut [u8]) -> ListAnswer
+pub fn number_line(name: &[u8], n: usize, out: &mut [u8]) -> Result<usize, ListError>
     ensures { leaves result out.new ≡ puts (line_of name.now (decimal n)) out.old }
 {
     let needed = name.len() + places(n) + 1;
@@ -350,7 +343,7 @@ pub fn number_line(name: &[u8], n: usize, out: &mut [u8]) -> ListAnswer
         return short(needed);
     }
     put_number(out, 0, name, n);
-    ListAnswer::Written(needed)
+    Ok(needed)
 }
 
 // A receiver may have the limit, no record stands without a table, and the live room keeps the room rules.
@@ -364,8 +357,8 @@ fn is_listed(s: Session, live: &[u32]) -> bool
         return false;
     }
     match table {
-        LiveTable::Known(_) => rules(live, life.limit, in_live.records),
-        LiveTable::NoTable => {
+        Some(_) => rules(live, life.limit, in_live.records),
+        None => {
             if in_live.records == 0 {
                 return rules(live, life.limit, in_live.records);
             }
@@ -375,11 +368,11 @@ fn is_listed(s: Session, live: &[u32]) -> bool
 }
 
 // The whole listing of a session and its live room: lengths first, so that nothing is written where it does not fit.
-pub fn listing(s: Session, live: &[u32], out: &mut [u8]) -> ListAnswer
+pub fn listing(s: Session, live: &[u32], out: &mut [u8]) -> Result<usize, ListError>
     ensures { leaves result out.new ≡ listing_says s.life.limit s live.now out.old }
 {
     if !is_listed(s, live) {
-        return ListAnswer::Refused(ListError::NotAReceiver);
+        return Err(ListError::NotAReceiver);
     }
     let head = head_of(s);
     let needed = head_length(head) + records_length(live, head.count);
@@ -388,5 +381,5 @@ pub fn listing(s: Session, live: &[u32], out: &mut [u8]) -> ListAnswer
     }
     let next = put_head(out, 0, head);
     put_records(out, next, live, head.count);
-    ListAnswer::Written(needed)
+    Ok(needed)
 }

@@ -1,4 +1,5 @@
 -- The laws that higher crates cite: each table goes both ways. Assumes nothing.
+use Rattle.std.specs.Prelude.{Some, None}
 use Prim.Native.Nat.{ℕ, ◌≤◌}
 use mathlib.Core.Logic.{◌↔◌}
 use mathlib.Core.Path.{◌≡◌, refl}
@@ -6,34 +7,31 @@ use native.Mathlib.Omega.{arith}
 use Rattle.rtr_models.specs.Codes.{version_number, versions, version_found, type_number, types, type_found, code_number, codes, code_found}
 use Rattle.rtr_models.specs.declared.RtrProtocolVersion.{RtrProtocolVersion}
 use Rattle.rtr_models.specs.declared.RtrProtocolVersion.TheVariants.{V0, V1}
-use Rattle.rtr_models.specs.declared.VersionFound.{VersionFound}
 use Rattle.rtr_models.specs.declared.RtrPduType.{RtrPduType}
 use Rattle.rtr_models.specs.declared.RtrPduType.TheVariants.{SerialNotify, SerialQuery, ResetQuery, CacheResponse, IPv4Prefix, IPv6Prefix, EndOfData, CacheReset, RouterKey, ErrorReport}
-use Rattle.rtr_models.specs.declared.TypeFound.{TypeFound}
 use Rattle.rtr_models.specs.declared.RtrErrorCode.{RtrErrorCode}
 use Rattle.rtr_models.specs.declared.RtrErrorCode.TheVariants.{CorruptData, InternalError, NoDataAvailable, InvalidRequest, UnsupportedProtocolVersion, UnsupportedPduType, WithdrawalOfUnknownRecord, DuplicateAnnouncementReceived, UnexpectedProtocolVersion}
-use Rattle.rtr_models.specs.declared.CodeFound.{CodeFound}
 use Rattle.rtr_models.proofs.Tables.{finds-its-own, finds-none}
 
-version-back : (v : RtrProtocolVersion) → version_found (version_number v) ≡ VersionFound.Known v
+version-back : (v : RtrProtocolVersion) → version_found (version_number v) ≡ Some v
 version-back V0 = refl
 version-back V1 = refl
 
-version-same : (a b : RtrProtocolVersion) → VersionFound.Known a ≡ VersionFound.Known b → a ≡ b
+version-same : (a b : RtrProtocolVersion) → Some a ≡ Some b → a ≡ b
 version-same a b e = cc
 
-version-other : (a : RtrProtocolVersion) → VersionFound.Known a ≡ VersionFound.Unknown → ⊥
+version-other : (a : RtrProtocolVersion) → Some a ≡ None → ⊥
 version-other a e = let z : ◌≡◌ {A = ℕ} 0 1 = cc in omega arith
 
 -- a number finds a version exactly when it is that version's number
-pub version-known : (n : ℕ) (v : RtrProtocolVersion) → version_found n ≡ VersionFound.Known v ↔ (n ≡ version_number v)
-version-known = finds-its-own version_number VersionFound.Known VersionFound.Unknown versions version-back version-same version-other
+pub version-known : (n : ℕ) (v : RtrProtocolVersion) → version_found n ≡ Some v ↔ (n ≡ version_number v)
+version-known = finds-its-own version_number Some None versions version-back version-same version-other
 
 -- a number finds no version exactly when it is no version's
-pub version-unknown : (n : ℕ) → version_found n ≡ VersionFound.Unknown ↔ ((v : RtrProtocolVersion) → n ≡ version_number v → ⊥)
-version-unknown = finds-none version_number VersionFound.Known VersionFound.Unknown versions version-back version-same version-other
+pub version-unknown : (n : ℕ) → version_found n ≡ None ↔ ((v : RtrProtocolVersion) → n ≡ version_number v → ⊥)
+version-unknown = finds-none version_number Some None versions version-back version-same version-other
 
-type-back : (t : RtrPduType) → type_found (type_number t) ≡ TypeFound.Known t
+type-back : (t : RtrPduType) → type_found (type_number t) ≡ Some t
 type-back SerialNotify = refl
 type-back SerialQuery = refl
 type-back ResetQuery = refl
@@ -45,21 +43,21 @@ type-back CacheReset = refl
 type-back RouterKey = refl
 type-back ErrorReport = refl
 
-type-same : (a b : RtrPduType) → TypeFound.Known a ≡ TypeFound.Known b → a ≡ b
+type-same : (a b : RtrPduType) → Some a ≡ Some b → a ≡ b
 type-same a b e = cc
 
-type-other : (a : RtrPduType) → TypeFound.Known a ≡ TypeFound.Unknown → ⊥
+type-other : (a : RtrPduType) → Some a ≡ None → ⊥
 type-other a e = let z : ◌≡◌ {A = ℕ} 0 1 = cc in omega arith
 
 -- a number finds a type exactly when it is that type's number
-pub type-known : (n : ℕ) (t : RtrPduType) → type_found n ≡ TypeFound.Known t ↔ (n ≡ type_number t)
-type-known = finds-its-own type_number TypeFound.Known TypeFound.Unknown types type-back type-same type-other
+pub type-known : (n : ℕ) (t : RtrPduType) → type_found n ≡ Some t ↔ (n ≡ type_number t)
+type-known = finds-its-own type_number Some None types type-back type-same type-other
 
 -- a number finds no type exactly when it is no type's
-pub type-unknown : (n : ℕ) → type_found n ≡ TypeFound.Unknown ↔ ((t : RtrPduType) → n ≡ type_number t → ⊥)
-type-unknown = finds-none type_number TypeFound.Known TypeFound.Unknown types type-back type-same type-other
+pub type-unknown : (n : ℕ) → type_found n ≡ None ↔ ((t : RtrPduType) → n ≡ type_number t → ⊥)
+type-unknown = finds-none type_number Some None types type-back type-same type-other
 
-code-back : (c : RtrErrorCode) → code_found (code_number c) ≡ CodeFound.Known c
+code-back : (c : RtrErrorCode) → code_found (code_number c) ≡ Some c
 code-back CorruptData = refl
 code-back InternalError = refl
 code-back NoDataAvailable = refl
@@ -70,19 +68,19 @@ code-back WithdrawalOfUnknownRecord = refl
 code-back DuplicateAnnouncementReceived = refl
 code-back UnexpectedProtocolVersion = refl
 
-code_same : (a b : RtrErrorCode) → CodeFound.Known a ≡ CodeFound.Known b → a ≡ b
+code_same : (a b : RtrErrorCode) → Some a ≡ Some b → a ≡ b
 code_same a b e = cc
 
-code_other : (a : RtrErrorCode) → CodeFound.Known a ≡ CodeFound.Unknown → ⊥
+code_other : (a : RtrErrorCode) → Some a ≡ None → ⊥
 code_other a e = let z : ◌≡◌ {A = ℕ} 0 1 = cc in omega arith
 
 -- a number finds an error code exactly when it is that code's number
-pub code-known : (n : ℕ) (c : RtrErrorCode) → code_found n ≡ CodeFound.Known c ↔ (n ≡ code_number c)
-code-known = finds-its-own code_number CodeFound.Known CodeFound.Unknown codes code-back code_same code_other
+pub code-known : (n : ℕ) (c : RtrErrorCode) → code_found n ≡ Some c ↔ (n ≡ code_number c)
+code-known = finds-its-own code_number Some None codes code-back code_same code_other
 
 -- a number finds no error code exactly when it is no code's
-pub code-unknown : (n : ℕ) → code_found n ≡ CodeFound.Unknown ↔ ((c : RtrErrorCode) → n ≡ code_number c → ⊥)
-code-unknown = finds-none code_number CodeFound.Known CodeFound.Unknown codes code-back code_same code_other
+pub code-unknown : (n : ℕ) → code_found n ≡ None ↔ ((c : RtrErrorCode) → n ≡ code_number c → ⊥)
+code-unknown = finds-none code_number Some None codes code-back code_same code_other
 
 -- the codes end at 8
 pub code-at-most-8 : (c : RtrErrorCode) → code_number c ≤ 8

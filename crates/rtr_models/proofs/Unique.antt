@@ -1,13 +1,12 @@
 -- What each public function promises leaves one result: two results of the same arguments that both meet the promise are equal; of a part of
 -- a slice, its bytes and where they lie are. `Post` is the function's contract as Rattle reads it off the source. Assumes nothing.
+use Rattle.std.specs.Prelude.{Result, Ok, Err, ⊤}
 use Prim.Native.Nat.{ℕ}
 use mathlib.Core.Bool.{cond}
 use mathlib.Core.Path.{◌≡◌, refl}
 use lib.Dec.{eqb}
 use Rattle.rtr_base.proofs.Unique.{only_one, only-this}
 use Rattle.rtr_models.specs.Parts.{part_number}
-use Rattle.rtr_models.specs.declared.PartAnswer.{PartAnswer}
-use Rattle.rtr_models.specs.declared.PartAnswer.TheVariants.{Part, Refused}
 use Rattle.rtr_models.proofs.RtrProtocolVersion.from_u8.Reads as rtr-protocol-version-from-u8
 use Rattle.rtr_models.proofs.RtrProtocolVersion.to_u8.Reads as rtr-protocol-version-to-u8
 use Rattle.rtr_models.proofs.RtrProtocolVersion.default.Reads as rtr-protocol-version-default
@@ -19,7 +18,6 @@ use Rattle.rtr_models.proofs.Place.answer.Reads as place-answer
 use Rattle.rtr_models.proofs.Place.part.Reads as place-part
 use Rattle.rtr_models.proofs.Place.key_answer.Reads as place-key-answer
 use Rattle.rtr_models.proofs.Place.key_part.Reads as place-key-part
-use Rattle.rtr_models.proofs.Interval.or.Reads as interval-or
 use Rattle.rtr_models.proofs.RtrSerialQuery.new.Reads as rtr-serial-query-new
 use Rattle.rtr_models.proofs.RtrResetQuery.new.Reads as rtr-reset-query-new
 use Rattle.rtr_models.proofs.RtrResetQuery.new_v1.Reads as rtr-reset-query-new-v1
@@ -46,14 +44,15 @@ use Rattle.rtr_models.proofs.RtrErrorReport.error_text_answer.Reads as rtr-error
 use Rattle.rtr_models.proofs.RtrErrorReport.error_text_part.Reads as rtr-error-report-error-text-part
 use Rattle.rtr_models.proofs.RtrPdu.pdu_type.Reads as rtr-pdu-pdu-type
 use Rattle.rtr_models.proofs.RtrPdu.version.Reads as rtr-pdu-version
+use Rattle.rtr_models.specs.declared.PlaceOutside.{PlaceOutside}
 
-answer_of : ℕ → PartAnswer
-answer_of n = cond (eqb n 0) Part Refused
+answer_of : ℕ → Result ⊤ PlaceOutside
+answer_of n = cond (eqb n 0) (Ok tt) (Err (record {}))
 
-number-back : (a : PartAnswer) → answer_of (part_number a) ≡ a
+number-back : (a : Result ⊤ PlaceOutside) → answer_of (part_number a) ≡ a
 unfolding answer_of
-number-back Part = refl
-number-back Refused = refl
+number-back (Ok tt) = refl
+number-back (Err refusal) = refl
 
 pub rtr-protocol-version-from-u8-unique : (κs : _) (a : _) (r r' : _) (s s' : _) → rtr-protocol-version-from-u8.Post κs a r s → rtr-protocol-version-from-u8.Post κs a r' s' → r ≡ r'
 rtr-protocol-version-from-u8-unique κs a r r' s s' p q = only-this r r' _ p q
@@ -87,9 +86,6 @@ place-key-answer-unique κs a r r' s s' p q = only_one part_number answer_of num
 
 pub place-key-part-unique : (κs : _) (a : _) (r r' : _) (s s' : _) → place-key-part.Post κs a r s → place-key-part.Post κs a r' s' → (r.now ≡ r'.now) × (r.ref_ptr ≡ r'.ref_ptr)
 place-key-part-unique κs a r r' s s' p q = (only-this r.now r'.now _ p.0 q.0, only-this r.ref_ptr r'.ref_ptr _ p.1 q.1)
-
-pub interval-or-unique : (κs : _) (a : _) (r r' : _) (s s' : _) → interval-or.Post κs a r s → interval-or.Post κs a r' s' → r ≡ r'
-interval-or-unique κs a r r' s s' p q = only-this r r' _ p q
 
 pub rtr-serial-query-new-unique : (κs : _) (a : _) (r r' : _) (s s' : _) → rtr-serial-query-new.Post κs a r s → rtr-serial-query-new.Post κs a r' s' → r ≡ r'
 rtr-serial-query-new-unique κs a r r' s s' p q = only-this r r' _ p q

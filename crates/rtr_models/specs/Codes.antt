@@ -1,15 +1,12 @@
 -- The numbers of versions, PDU types and error codes: RFC 8210, sections 5.1, 5.2 to 5.11 and 12 (RFC 6810: 5.1 to 5.10 and 10).
 -- A table is a number for each value and the list of the values; what a number finds is read off it.
-use Rattle.std.specs.Prelude.{ℕ, cond, List, [], ◌∷◌, eqb}
+use Rattle.std.specs.Prelude.{ℕ, cond, List, [], ◌∷◌, eqb, Option, Some, None}
 use Rattle.rtr_models.specs.declared.RtrProtocolVersion.{RtrProtocolVersion}
 use Rattle.rtr_models.specs.declared.RtrProtocolVersion.TheVariants.{V0, V1}
-use Rattle.rtr_models.specs.declared.VersionFound.{VersionFound}
 use Rattle.rtr_models.specs.declared.RtrPduType.{RtrPduType}
 use Rattle.rtr_models.specs.declared.RtrPduType.TheVariants.{SerialNotify, SerialQuery, ResetQuery, CacheResponse, IPv4Prefix, IPv6Prefix, EndOfData, CacheReset, RouterKey, ErrorReport}
-use Rattle.rtr_models.specs.declared.TypeFound.{TypeFound}
 use Rattle.rtr_models.specs.declared.RtrErrorCode.{RtrErrorCode}
 use Rattle.rtr_models.specs.declared.RtrErrorCode.TheVariants.{CorruptData, InternalError, NoDataAvailable, InvalidRequest, UnsupportedProtocolVersion, UnsupportedPduType, WithdrawalOfUnknownRecord, DuplicateAnnouncementReceived, UnexpectedProtocolVersion}
-use Rattle.rtr_models.specs.declared.CodeFound.{CodeFound}
 
 -- the first of the values whose number is n, as `known` hands it over; `unknown` where none has it
 abbrev pub found : {A F : Type 0} → (A → ℕ) → (A → F) → F → List A → ℕ → F
@@ -58,11 +55,11 @@ codes =
     CorruptData ∷ InternalError ∷ NoDataAvailable ∷ InvalidRequest ∷ UnsupportedProtocolVersion ∷ UnsupportedPduType ∷ WithdrawalOfUnknownRecord ∷ DuplicateAnnouncementReceived ∷ UnexpectedProtocolVersion ∷ []
 
 -- what a number finds in each table
-abbrev pub version_found : ℕ → VersionFound
-version_found n = found version_number VersionFound.Known VersionFound.Unknown versions n
+abbrev pub version_found : ℕ → Option RtrProtocolVersion
+version_found n = found version_number Some None versions n
 
-abbrev pub type_found : ℕ → TypeFound
-type_found n = found type_number TypeFound.Known TypeFound.Unknown types n
+abbrev pub type_found : ℕ → Option RtrPduType
+type_found n = found type_number Some None types n
 
-abbrev pub code_found : ℕ → CodeFound
-code_found n = found code_number CodeFound.Known CodeFound.Unknown codes n
+abbrev pub code_found : ℕ → Option RtrErrorCode
+code_found n = found code_number Some None codes n

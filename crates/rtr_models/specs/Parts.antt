@@ -1,10 +1,9 @@
 -- Payloads by place: document 01, "Reading" and refusal 11. Whoever asks for a payload gets those bytes where they lie, in the slice that was lent; a place
 -- that is not in it gets 11 and no bytes.
-use Rattle.std.specs.Prelude.{ℕ, ◌+◌, Bool, cond, ◌&&◌, List, [], ◌≡◌, length, take, drop, leb, eqb}
+use Rattle.std.specs.Prelude.{ℕ, ◌+◌, Bool, cond, ◌&&◌, List, [], ◌≡◌, length, take, drop, leb, eqb, Result, Ok, Err, ⊤}
 use Rattle.std.specs.Borrow.{Bor}
 use Rattle.rtr_models.specs.declared.Place.{Place}
-use Rattle.rtr_models.specs.declared.PartAnswer.{PartAnswer}
-use Rattle.rtr_models.specs.declared.PartAnswer.TheVariants.{Part, Refused}
+use Rattle.rtr_models.specs.declared.PlaceOutside.{PlaceOutside}
 
 -- a place is inside a slice where its end does not lie behind the slice's
 abbrev pub inside : Place → List ℕ → Bool
@@ -27,9 +26,9 @@ abbrev pub PartOf : Bool → Place → Bor (List ℕ) → Bor (List ℕ) → Typ
 PartOf fits p slice part = (part.now ≡ part_if fits p slice.now) × (part.ref_ptr ≡ part_at fits p slice.ref_ptr)
 
 -- document 01's number of an answer: 0 is no refusal
-abbrev pub part_number : PartAnswer → ℕ
-part_number Part = 0
-part_number Refused = 11
+abbrev pub part_number : Result ⊤ PlaceOutside → ℕ
+part_number (Ok tt) = 0
+part_number (Err refusal) = 11
 
 -- the number that a place gets
 abbrev pub number_if : Bool → ℕ

@@ -1,7 +1,5 @@
 -- What a PDU value says of itself: RFC 8210, sections 5.1, 5.8 and 6.
-use Rattle.std.specs.Prelude.{ℕ, ◌%◌, Bool, eqb}
-use Rattle.rtr_models.specs.declared.Interval.{Interval}
-use Rattle.rtr_models.specs.declared.Interval.TheVariants.{Absent, Seconds}
+use Rattle.std.specs.Prelude.{ℕ, ◌%◌, Bool, eqb, Option, Some, None}
 use Rattle.rtr_models.specs.declared.RtrProtocolVersion.{RtrProtocolVersion}
 use Rattle.rtr_models.specs.declared.RtrPduType.{RtrPduType}
 use Rattle.rtr_models.specs.declared.RtrPdu.{RtrPdu}
@@ -15,9 +13,9 @@ abbrev pub withdraws : ℕ → Bool
 withdraws flags = eqb (flags % 2) 0
 
 -- an interval's seconds, or the default where it is absent
-abbrev pub seconds_or : ℕ → Interval → ℕ
-seconds_or default Absent = default
-seconds_or default (Seconds n) = n
+abbrev pub seconds_or : ℕ → Option ℕ → ℕ
+seconds_or default None = default
+seconds_or default (Some n) = n
 
 -- the type of a PDU
 abbrev pub type_of : RtrPdu → RtrPduType

@@ -16,21 +16,14 @@ pub enum RtrProtocolVersion {
     V1,
 }
 
-// The version that has a number, if one has.
-#[derive(Clone, Copy)]
-pub enum VersionFound {
-    Known(RtrProtocolVersion),
-    Unknown,
-}
-
 impl RtrProtocolVersion {
-    pub fn from_u8(value: u8) -> VersionFound
+    pub fn from_u8(value: u8) -> Option<RtrProtocolVersion>
         ensures { result ≡ version_found value }
     {
         match value {
-            0 => VersionFound::Known(RtrProtocolVersion::V0),
-            1 => VersionFound::Known(RtrProtocolVersion::V1),
-            _ => VersionFound::Unknown,
+            0 => Some(RtrProtocolVersion::V0),
+            1 => Some(RtrProtocolVersion::V1),
+            _ => None,
         }
     }
 
@@ -65,29 +58,22 @@ pub enum RtrPduType {
     ErrorReport,
 }
 
-// The type that has a number, if one has.
-#[derive(Clone, Copy)]
-pub enum TypeFound {
-    Known(RtrPduType),
-    Unknown,
-}
-
 impl RtrPduType {
-    pub fn from_u8(value: u8) -> TypeFound
+    pub fn from_u8(value: u8) -> Option<RtrPduType>
         ensures { result ≡ type_found value }
     {
         match value {
-            0 => TypeFound::Known(RtrPduType::SerialNotify),
-            1 => TypeFound::Known(RtrPduType::SerialQuery),
-            2 => TypeFound::Known(RtrPduType::ResetQuery),
-            3 => TypeFound::Known(RtrPduType::CacheResponse),
-            4 => TypeFound::Known(RtrPduType::IPv4Prefix),
-            6 => TypeFound::Known(RtrPduType::IPv6Prefix),
-            7 => TypeFound::Known(RtrPduType::EndOfData),
-            8 => TypeFound::Known(RtrPduType::CacheReset),
-            9 => TypeFound::Known(RtrPduType::RouterKey),
-            10 => TypeFound::Known(RtrPduType::ErrorReport),
-            _ => TypeFound::Unknown,
+            0 => Some(RtrPduType::SerialNotify),
+            1 => Some(RtrPduType::SerialQuery),
+            2 => Some(RtrPduType::ResetQuery),
+            3 => Some(RtrPduType::CacheResponse),
+            4 => Some(RtrPduType::IPv4Prefix),
+            6 => Some(RtrPduType::IPv6Prefix),
+            7 => Some(RtrPduType::EndOfData),
+            8 => Some(RtrPduType::CacheReset),
+            9 => Some(RtrPduType::RouterKey),
+            10 => Some(RtrPduType::ErrorReport),
+            _ => None,
         }
     }
 
@@ -123,28 +109,21 @@ pub enum RtrErrorCode {
     UnexpectedProtocolVersion,
 }
 
-// The error code that has a number, if one has.
-#[derive(Clone, Copy)]
-pub enum CodeFound {
-    Known(RtrErrorCode),
-    Unknown,
-}
-
 impl RtrErrorCode {
-    pub fn from_u16(value: u16) -> CodeFound
+    pub fn from_u16(value: u16) -> Option<RtrErrorCode>
         ensures { result ≡ code_found value }
     {
         match value {
-            0 => CodeFound::Known(RtrErrorCode::CorruptData),
-            1 => CodeFound::Known(RtrErrorCode::InternalError),
-            2 => CodeFound::Known(RtrErrorCode::NoDataAvailable),
-            3 => CodeFound::Known(RtrErrorCode::InvalidRequest),
-            4 => CodeFound::Known(RtrErrorCode::UnsupportedProtocolVersion),
-            5 => CodeFound::Known(RtrErrorCode::UnsupportedPduType),
-            6 => CodeFound::Known(RtrErrorCode::WithdrawalOfUnknownRecord),
-            7 => CodeFound::Known(RtrErrorCode::DuplicateAnnouncementReceived),
-            8 => CodeFound::Known(RtrErrorCode::UnexpectedProtocolVersion),
-            _ => CodeFound::Unknown,
+            0 => Some(RtrErrorCode::CorruptData),
+            1 => Some(RtrErrorCode::InternalError),
+            2 => Some(RtrErrorCode::NoDataAvailable),
+            3 => Some(RtrErrorCode::InvalidRequest),
+            4 => Some(RtrErrorCode::UnsupportedProtocolVersion),
+            5 => Some(RtrErrorCode::UnsupportedPduType),
+            6 => Some(RtrErrorCode::WithdrawalOfUnknownRecord),
+            7 => Some(RtrErrorCode::DuplicateAnnouncementReceived),
+            8 => Some(RtrErrorCode::UnexpectedProtocolVersion),
+            _ => None,
         }
     }
 
@@ -174,12 +153,9 @@ pub struct Place {
     pub len: usize,
 }
 
-// Whether a payload lies in a slice: its part can be had, or it is refused by 11.
+// Refusal 11: a payload does not lie in the slice that it is asked of.
 #[derive(Clone, Copy)]
-pub enum PartAnswer {
-    Part,
-    Refused,
-}
+pub struct PlaceOutside;
 
 impl Place {
     // Compared without a sum, which could wrap.
@@ -194,13 +170,13 @@ impl Place {
         false
     }
 
-    pub fn answer(self, input: &[u8]) -> PartAnswer
+    pub fn answer(self, input: &[u8]) -> Result<(), PlaceOutside>
         ensures { part_number result ≡ number_if (inside self input.now) }
     {
         if self.is_inside(input) {
-            return PartAnswer::Part;
+            return Ok(());
         }
-        PartAnswer::Refused
+        Err(PlaceOutside)
     }
 
     // That very part of the slice, or an empty one where it is refused.
@@ -216,14 +192,14 @@ impl Place {
     }
 
     // A key identifier's place must be 20 long besides.
-    pub fn key_answer(self, input: &[u8]) -> PartAnswer
+    pub fn key_answer(self, input: &[u8]) -> Result<(), PlaceOutside>
         ensures { part_number result ≡ number_if (key_inside self input.now) }
     {
         let len = self.len;
         if len == 20 {
             return self.answer(input);
         }
-        PartAnswer::Refused
+        Err(PlaceOutside)
     }
 
     pub fn key_part(self, input: &[u8]) -> &[u8]
@@ -244,24 +220,6 @@ pub struct Ipv6Addr {
     pub w1: u32,
     pub w2: u32,
     pub w3: u32,
-}
-
-// An interval of End of Data, in seconds; version 0 has none.
-#[derive(Clone, Copy)]
-pub enum Interval {
-    Absent,
-    Seconds(u32),
-}
-
-impl Interval {
-    pub fn or(self, default: u32) -> u32
-        ensures { result ≡ seconds_or default self }
-    {
-        match self {
-            Interval::Absent => default,
-            Interval::Seconds(n) => n,
-        }
-    }
 }
 
 // ---- PDU values
@@ -389,9 +347,9 @@ pub struct RtrEndOfData {
     pub version: RtrProtocolVersion,
     pub session_id: u16,
     pub serial_number: u32,
-    pub refresh_interval: Interval,
-    pub retry_interval: Interval,
-    pub expire_interval: Interval,
+    pub refresh_interval: Option<u32>,
+    pub retry_interval: Option<u32>,
+    pub expire_interval: Option<u32>,
 }
 
 impl RtrEndOfData {
@@ -405,22 +363,19 @@ impl RtrEndOfData {
     pub fn refresh_interval_or_default(self) -> u32
         ensures { result ≡ seconds_or 3600 self.refresh_interval }
     {
-        let interval = self.refresh_interval;
-        interval.or(Self::DEFAULT_REFRESH)
+        self.refresh_interval.unwrap_or(Self::DEFAULT_REFRESH)
     }
 
     pub fn retry_interval_or_default(self) -> u32
         ensures { result ≡ seconds_or 600 self.retry_interval }
     {
-        let interval = self.retry_interval;
-        interval.or(Self::DEFAULT_RETRY)
+        self.retry_interval.unwrap_or(Self::DEFAULT_RETRY)
     }
 
     pub fn expire_interval_or_default(self) -> u32
         ensures { result ≡ seconds_or 7200 self.expire_interval }
     {
-        let interval = self.expire_interval;
-        interval.or(Self::DEFAULT_EXPIRE)
+        self.expire_interval.unwrap_or(Self::DEFAULT_EXPIRE)
     }
 }
 
@@ -453,7 +408,7 @@ impl RtrRouterKey {
         self.flags % 2 == 0
     }
 
-    pub fn subject_key_identifier_answer(self, input: &[u8]) -> PartAnswer
+    pub fn subject_key_identifier_answer(self, input: &[u8]) -> Result<(), PlaceOutside>
         ensures { part_number result ≡ number_if (key_inside self.subject_key_identifier input.now) }
     {
         let place = self.subject_key_identifier;
@@ -467,7 +422,7 @@ impl RtrRouterKey {
         place.key_part(input)
     }
 
-    pub fn subject_public_key_info_answer(self, input: &[u8]) -> PartAnswer
+    pub fn subject_public_key_info_answer(self, input: &[u8]) -> Result<(), PlaceOutside>
         ensures { part_number result ≡ number_if (inside self.subject_public_key_info input.now) }
     {
         let place = self.subject_public_key_info;
@@ -514,7 +469,7 @@ impl RtrErrorReport {
         Self::new(version, RtrErrorCode::CorruptData, erroneous_pdu, message)
     }
 
-    pub fn erroneous_pdu_answer(self, input: &[u8]) -> PartAnswer
+    pub fn erroneous_pdu_answer(self, input: &[u8]) -> Result<(), PlaceOutside>
         ensures { part_number result ≡ number_if (inside self.erroneous_pdu input.now) }
     {
         let place = self.erroneous_pdu;
@@ -528,7 +483,7 @@ impl RtrErrorReport {
         place.part(input)
     }
 
-    pub fn error_text_answer(self, input: &[u8]) -> PartAnswer
+    pub fn error_text_answer(self, input: &[u8]) -> Result<(), PlaceOutside>
         ensures { part_number result ≡ number_if (inside self.error_text input.now) }
     {
         let place = self.error_text;

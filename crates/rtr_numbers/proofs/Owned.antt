@@ -1,5 +1,6 @@
 -- Whoever holds a session record holds numbers that fit their types: what owning a value of a Rattle type tells (`Is`), case by case.
 -- Assumes nothing.
+use Rattle.std.specs.Prelude.{Option, Some, None, ⊤}
 use mathlib.Core.List.{List}
 use native.Mathlib.Omega.{arith}
 use mir.Val.{Val}
@@ -17,10 +18,9 @@ use Rattle.rtr_codec.specs.declared.RtrError.TheVariants.{IncompletePdu, Invalid
 use Rattle.rtr_stream.specs.declared.StreamError.{StreamError}
 use Rattle.rtr_receiver.specs.declared.Stop.{Stop}
 use Rattle.rtr_receiver.specs.declared.Phase.{Phase}
-use Rattle.rtr_receiver.specs.declared.LiveTable.{LiveTable}
-use Rattle.rtr_receiver.specs.declared.Note.{Note}
 use Rattle.rtr_receiver.specs.declared.Session.{Session}
 use Rattle.rtr_numbers.specs.Ranges.{ErrorFits, StopFits, PhaseFits, TableFits, NoteFits, SessionFits}
+use Rattle.rtr_receiver.specs.declared.Table.{Table}
 
 error-owned : (e : RtrError) (vs : List Val) → Is (enum.row error-type.the_type) e vs → ErrorFits e
 error-owned (IncompletePdu a n) vs h = tt
@@ -51,13 +51,13 @@ phase-owned Phase.AskedChange vs h = tt
 phase-owned (Phase.Loading kind session) vs h = omega arith
 phase-owned (Phase.Stopped stop) vs h = stop-owned stop _ h.1.1.1.1.0
 
-table-owned : (t : LiveTable) (vs : List Val) → Is (enum.row table-type.the_type) t vs → TableFits t
-table-owned LiveTable.NoTable vs h = tt
-table-owned (LiveTable.Known t) vs h = (omega arith, omega arith, omega arith, omega arith, omega arith)
+table-owned : (t : Option Table) (vs : List Val) → Is (enum.row table-type.the_type) t vs → TableFits t
+table-owned None vs h = tt
+table-owned (Some t) vs h = (omega arith, omega arith, omega arith, omega arith, omega arith)
 
-note-owned : (n : Note) (vs : List Val) → Is (enum.row note-type.the_type) n vs → NoteFits n
-note-owned Note.NoNote vs h = tt
-note-owned (Note.Noted session serial) vs h = (omega arith, omega arith)
+note-owned : (n : Option (ℕ × ℕ)) (vs : List Val) → Is (enum.row note-type.the_type) n vs → NoteFits n
+note-owned None vs h = tt
+note-owned (Some (session, serial)) vs h = (omega arith, omega arith)
 
 pub session-owned : (s : Session) (vs : List Val) → Is (struct.row session-type.the_type) s vs → SessionFits s
 session-owned s vs h =

@@ -1,4 +1,5 @@
 -- A session whose numbers fit is guessed from its numbers, and a guess always fits. Assumes nothing.
+use Rattle.std.specs.Prelude.{Option, Some, None, ⊤}
 use Prim.Native.Nat.{ℕ, ◌%◌}
 use mathlib.Core.List.{List}
 use mathlib.Core.Path.{◌≡◌, refl, ap}
@@ -12,8 +13,6 @@ use Rattle.rtr_receiver.specs.Promises.{stage_of}
 use Rattle.rtr_receiver.specs.declared.LoadKind.{LoadKind}
 use Rattle.rtr_receiver.specs.declared.Stop.{Stop}
 use Rattle.rtr_receiver.specs.declared.Phase.{Phase}
-use Rattle.rtr_receiver.specs.declared.LiveTable.{LiveTable}
-use Rattle.rtr_receiver.specs.declared.Note.{Note}
 use Rattle.rtr_receiver.specs.declared.Life.{Life}
 use Rattle.rtr_receiver.specs.declared.Counts.{Counts}
 use Rattle.rtr_receiver.specs.declared.Session.{Session}
@@ -22,10 +21,11 @@ use Rattle.rtr_numbers.specs.Back.{loose_error, loose_stop, loose_phase, loose_t
 use Rattle.rtr_numbers.proofs.Guesses.{version-back, code-back, either_way}
 use Rattle.rtr_numbers.proofs.Tables.{low-back}
 use Rattle.rtr_numbers.specs.Ranges.{ErrorFits, StopFits, PhaseFits, TableFits, NoteFits, SessionFits}
+use Rattle.rtr_receiver.specs.declared.Table.{Table}
 
 -- ---- Back from numbers
 
-module _ (life : Life) (t : LiveTable) (note : Note) (live working : Counts) (held : ℕ) where
+module _ (life : Life) (t : Option Table) (note : Option (ℕ × ℕ)) (live working : Counts) (held : ℕ) where
   stop-back : (s : Stop) → StopFits s → loose_phase (numbers_of life (stage_of (Phase.Stopped s)) t note live working held) ≡ Phase.Stopped s
   unfolding numbers_of loose_phase loose_stop loose_error
   stop-back (Stop.Stream (StreamError.Read (IncompletePdu a n))) h = refl
@@ -64,16 +64,16 @@ module _ (life : Life) (t : LiveTable) (note : Note) (live working : Counts) (he
   phase-back (Phase.Stopped stop) h = stop-back stop h
 
 module _ (life : Life) (p : Phase) (live working : Counts) (held : ℕ) where
-  table-back : (t : LiveTable) (note : Note) → TableFits t → loose_table (numbers_of life (stage_of p) t note live working held) ≡ t
+  table-back : (t : Option Table) (note : Option (ℕ × ℕ)) → TableFits t → loose_table (numbers_of life (stage_of p) t note live working held) ≡ t
   unfolding numbers_of loose_table
-  table-back LiveTable.NoTable note h = refl
-  table-back (LiveTable.Known t) note h =
-      ap LiveTable.Known (low-back t (record { session = omega arith; serial = omega arith; refresh = omega arith; retry = omega arith; expire = omega arith }))
+  table-back None note h = refl
+  table-back (Some t) note h =
+      ap Some (low-back t (record { session = omega arith; serial = omega arith; refresh = omega arith; retry = omega arith; expire = omega arith }))
 
-  note-back : (t : LiveTable) (note : Note) → NoteFits note → loose_note (numbers_of life (stage_of p) t note live working held) ≡ note
+  note-back : (t : Option Table) (note : Option (ℕ × ℕ)) → NoteFits note → loose_note (numbers_of life (stage_of p) t note live working held) ≡ note
   unfolding numbers_of loose_note
-  note-back t Note.NoNote h = refl
-  note-back t (Note.Noted session serial) h =
+  note-back t None h = refl
+  note-back t (Some (session, serial)) h =
       let a : session % 65536 ≡ session = omega arith in
       let b : serial % 4294967296 ≡ serial = omega arith in
       cc

@@ -1,12 +1,11 @@
 -- What is read back from numbers. A first guess takes each number at its place, by its remainder where it is too large, and any unknown
 -- number as some case; the guess stands exactly where its own numbers are those given.
-use Rattle.std.specs.Prelude.{ℕ, ◌+◌, ◌%◌, Bool, true, false, cond, ◌&&◌, List, [], ◌∷◌, eqb, get_or}
+use Rattle.std.specs.Prelude.{ℕ, ◌+◌, ◌%◌, Bool, true, false, cond, ◌&&◌, List, [], ◌∷◌, eqb, get_or, Option, Some, None}
 use Rattle.rtr_models.specs.Codes.{code_found}
 use Rattle.rtr_models.specs.declared.RtrProtocolVersion.{RtrProtocolVersion}
 use Rattle.rtr_models.specs.declared.RtrProtocolVersion.TheVariants.{V0, V1}
 use Rattle.rtr_models.specs.declared.RtrErrorCode.{RtrErrorCode}
 use Rattle.rtr_models.specs.declared.RtrErrorCode.TheVariants.{CorruptData}
-use Rattle.rtr_models.specs.declared.CodeFound.{CodeFound}
 use Rattle.rtr_codec.specs.declared.RtrError.{RtrError}
 use Rattle.rtr_codec.specs.declared.RtrError.TheVariants.{IncompletePdu, InvalidProtocolVersion, InvalidPduType, InvalidLength, RouterKeyInV0, InvalidPrefixLength, InvalidErrorCode, InvalidUtf8}
 use Rattle.rtr_stream.specs.declared.StreamError.{StreamError}
@@ -14,12 +13,8 @@ use Rattle.rtr_receiver.specs.declared.LoadKind.{LoadKind}
 use Rattle.rtr_receiver.specs.declared.Stop.{Stop}
 use Rattle.rtr_receiver.specs.declared.Phase.{Phase}
 use Rattle.rtr_receiver.specs.declared.Table.{Table}
-use Rattle.rtr_receiver.specs.declared.LiveTable.{LiveTable}
-use Rattle.rtr_receiver.specs.declared.Note.{Note}
 use Rattle.rtr_receiver.specs.declared.Session.{Session}
 use Rattle.rtr_numbers.specs.Numbers.{session_numbers, table_numbers_of}
-use Rattle.rtr_numbers.specs.declared.SessionFound.{SessionFound}
-use Rattle.rtr_numbers.specs.declared.TableFound.{TableFound}
 
 -- two lists are the same, number by number
 unfoldable pub alike : List ℕ → List ℕ → Bool
@@ -29,12 +24,12 @@ alike (x ∷ xs) [] = false
 alike (x ∷ xs) (y ∷ ys) = eqb x y && alike xs ys
 
 -- the session whose numbers these are: what `session_of` of src/lib.rt gives
-unfoldable pub session_if : Session → List ℕ → SessionFound
-session_if s n = cond (alike (session_numbers s) n) (SessionFound.Known s) SessionFound.Unknown
+unfoldable pub session_if : Session → List ℕ → Option Session
+session_if s n = cond (alike (session_numbers s) n) (Some s) None
 
 -- the table whose numbers these are: what `table_of` of src/lib.rt gives
-unfoldable pub table_if : Table → List ℕ → TableFound
-table_if t n = cond (alike (table_numbers_of t) n) (TableFound.Known t) TableFound.Unknown
+unfoldable pub table_if : Table → List ℕ → Option Table
+table_if t n = cond (alike (table_numbers_of t) n) (Some t) None
 
 -- ---- The guesses
 
@@ -55,9 +50,9 @@ abbrev pub loose_version : ℕ → RtrProtocolVersion
 loose_version n = cond (eqb n 0) V0 V1
 
 -- the code of a number, or else the first
-abbrev pub code_or : CodeFound → RtrErrorCode
-code_or (CodeFound.Known code) = code
-code_or CodeFound.Unknown = CorruptData
+abbrev pub code_or : Option RtrErrorCode → RtrErrorCode
+code_or (Some code) = code
+code_or None = CorruptData
 
 -- the code of a number's 16 bits, or else the first
 abbrev pub loose_code : ℕ → RtrErrorCode
@@ -109,12 +104,12 @@ low_table n from =
     }
 
 -- no table where number 6 is 0, else one of the numbers behind it
-unfoldable pub loose_table : List ℕ → LiveTable
-loose_table n = cond (eqb (get_or n 6 0) 0) LiveTable.NoTable (LiveTable.Known (low_table n 7))
+unfoldable pub loose_table : List ℕ → Option Table
+loose_table n = cond (eqb (get_or n 6 0) 0) None (Some (low_table n 7))
 
 -- no note where number 12 is 0, else one of the two numbers behind it
-unfoldable pub loose_note : List ℕ → Note
-loose_note n = cond (eqb (get_or n 12 0) 0) Note.NoNote (Note.Noted (low16 (get_or n 13 0)) (low32 (get_or n 14 0)))
+unfoldable pub loose_note : List ℕ → Option (ℕ × ℕ)
+loose_note n = cond (eqb (get_or n 12 0) 0) None (Some ((low16 (get_or n 13 0)), (low32 (get_or n 14 0))))
 
 -- each part from its numbers
 unfoldable pub loose_session : List ℕ → Session
@@ -132,9 +127,9 @@ loose_session n =
 -- ---- What is found
 
 -- the session that has these numbers: the guess, where its numbers are these
-abbrev pub session_of : List ℕ → SessionFound
+abbrev pub session_of : List ℕ → Option Session
 session_of n = session_if (loose_session n) n
 
 -- the table that says these numbers and no more
-abbrev pub table_found : List ℕ → TableFound
+abbrev pub table_found : List ℕ → Option Table
 table_found n = table_if (low_table n 0) n

@@ -1,6 +1,6 @@
 -- The numbers of a session, and of a table, as a host without Rattle's types has them. A stop is told by document 01's number and values
 -- ("Refusal numbers").
-use Rattle.std.specs.Prelude.{ℕ, List, [], ◌∷◌, get_or}
+use Rattle.std.specs.Prelude.{ℕ, List, [], ◌∷◌, get_or, Option, Some, None}
 use Rattle.rtr_models.specs.Codes.{version_number}
 use Rattle.rtr_codec.specs.Read.{Verdict}
 use Rattle.rtr_receiver.specs.Receiver.{Stage}
@@ -8,8 +8,6 @@ use Rattle.rtr_receiver.specs.Receiver.Stage.{idle, must_reset, asked_full, aske
 use Rattle.rtr_receiver.specs.Promises.{Left, stage_of}
 use Rattle.rtr_receiver.specs.declared.LoadKind.{LoadKind}
 use Rattle.rtr_receiver.specs.declared.Table.{Table}
-use Rattle.rtr_receiver.specs.declared.LiveTable.{LiveTable}
-use Rattle.rtr_receiver.specs.declared.Note.{Note}
 use Rattle.rtr_receiver.specs.declared.Life.{Life}
 use Rattle.rtr_receiver.specs.declared.Counts.{Counts}
 use Rattle.rtr_receiver.specs.declared.Session.{Session}
@@ -43,40 +41,40 @@ stage_value i (loading kind id) = 0
 stage_value i (stopped number values) = get_or values i 0
 
 -- number 6: whether there is a table; numbers 7 to 11 are what it says, zeros without one
-abbrev pub table_number : LiveTable → ℕ
-table_number LiveTable.NoTable = 0
-table_number (LiveTable.Known t) = 1
+abbrev pub table_number : Option Table → ℕ
+table_number None = 0
+table_number (Some t) = 1
 
 -- what a table says, or zeros
-abbrev pub table_or : LiveTable → Table
-table_or LiveTable.NoTable = record { session = 0; serial = 0; refresh = 0; retry = 0; expire = 0 }
-table_or (LiveTable.Known t) = t
+abbrev pub table_or : Option Table → Table
+table_or None = record { session = 0; serial = 0; refresh = 0; retry = 0; expire = 0 }
+table_or (Some t) = t
 
 -- the five numbers of a table by itself
 abbrev pub table_numbers_of : Table → List ℕ
 table_numbers_of t = t.session ∷ t.serial ∷ t.refresh ∷ t.retry ∷ t.expire ∷ []
 
 -- number 12: whether a Serial Notify is noted; numbers 13 and 14 are its session and serial, zeros without one
-abbrev pub note_number : Note → ℕ
-note_number Note.NoNote = 0
-note_number (Note.Noted session serial) = 1
+abbrev pub note_number : Option (ℕ × ℕ) → ℕ
+note_number None = 0
+note_number (Some (session, serial)) = 1
 
 -- a note's session, or 0
-abbrev pub note_session : Note → ℕ
-note_session Note.NoNote = 0
-note_session (Note.Noted session serial) = session
+abbrev pub note_session : Option (ℕ × ℕ) → ℕ
+note_session None = 0
+note_session (Some (session, serial)) = session
 
 -- a note's serial, or 0
-abbrev pub note_serial : Note → ℕ
-note_serial Note.NoNote = 0
-note_serial (Note.Noted session serial) = serial
+abbrev pub note_serial : Option (ℕ × ℕ) → ℕ
+note_serial None = 0
+note_serial (Some (session, serial)) = serial
 
 -- how many numbers a session is
 abbrev pub session_size : ℕ
 session_size = 24
 
 -- the 24 numbers of what a call leaves of a session; the last five are kept for what is to come, and are zeros
-unfoldable pub numbers_of : Life → Stage → LiveTable → Note → Counts → Counts → ℕ → List ℕ
+unfoldable pub numbers_of : Life → Stage → Option Table → Option (ℕ × ℕ) → Counts → Counts → ℕ → List ℕ
 numbers_of life stage table note live working held =
     version_number life.version
     ∷ stage_number stage

@@ -1,14 +1,13 @@
 -- What a value of a Rattle type always has: each number fits its type (8, 16 or 32 bits; a `usize` has the 64 bits that a number here has).
 -- Such values come back from their numbers: proofs/Laws.antt.
-use Rattle.std.specs.Prelude.{ℕ, ◌<◌}
+use Rattle.std.specs.Prelude.{ℕ, ◌<◌, Option, Some, None}
 use Rattle.rtr_codec.specs.declared.RtrError.{RtrError}
 use Rattle.rtr_codec.specs.declared.RtrError.TheVariants.{IncompletePdu, InvalidProtocolVersion, InvalidPduType, InvalidLength, RouterKeyInV0, InvalidPrefixLength, InvalidErrorCode, InvalidUtf8}
 use Rattle.rtr_stream.specs.declared.StreamError.{StreamError}
 use Rattle.rtr_receiver.specs.declared.Stop.{Stop}
 use Rattle.rtr_receiver.specs.declared.Phase.{Phase}
-use Rattle.rtr_receiver.specs.declared.LiveTable.{LiveTable}
-use Rattle.rtr_receiver.specs.declared.Note.{Note}
 use Rattle.rtr_receiver.specs.declared.Session.{Session}
+use Rattle.rtr_receiver.specs.declared.Table.{Table}
 
 -- numbers of 8, 16 and 32 bits
 abbrev pub Fits8 : ℕ → Type 0
@@ -55,14 +54,14 @@ PhaseFits (Phase.Loading kind session) = Fits16 session
 PhaseFits (Phase.Stopped stop) = StopFits stop
 
 -- a table's session, serial and intervals
-abbrev pub TableFits : LiveTable → Type 0
-TableFits LiveTable.NoTable = Unit
-TableFits (LiveTable.Known t) = Fits16 t.session × Fits32 t.serial × Fits32 t.refresh × Fits32 t.retry × Fits32 t.expire
+abbrev pub TableFits : Option Table → Type 0
+TableFits None = Unit
+TableFits (Some t) = Fits16 t.session × Fits32 t.serial × Fits32 t.refresh × Fits32 t.retry × Fits32 t.expire
 
 -- a note's session and serial
-abbrev pub NoteFits : Note → Type 0
-NoteFits Note.NoNote = Unit
-NoteFits (Note.Noted session serial) = Fits16 session × Fits32 serial
+abbrev pub NoteFits : Option (ℕ × ℕ) → Type 0
+NoteFits None = Unit
+NoteFits (Some (session, serial)) = Fits16 session × Fits32 serial
 
 -- a session record whose numbers fit
 pub record SessionFits (s : Session) : Type 0 where

@@ -12,25 +12,11 @@ ghost use Rattle.rtr_numbers.specs.Private.{phase_numbers};
 
 use rtr_codec::RtrError;
 use rtr_models::*;
-use rtr_receiver::{Counts, Life, LiveTable, LoadKind, Note, Phase, Session, Stop, Table};
+use rtr_receiver::{Counts, Life, LoadKind, Phase, Session, Stop, Table};
 use rtr_stream::StreamError;
 
 // How many numbers a session is.
 pub const SESSION_NUMBERS: usize = 24;
-
-// The session that has these numbers, if one has.
-#[derive(Clone, Copy)]
-pub enum SessionFound {
-    Known(Session),
-    Unknown,
-}
-
-// The table that has these numbers, if one has.
-#[derive(Clone, Copy)]
-pub enum TableFound {
-    Known(Table),
-    Unknown,
-}
 
 // ---- Numbers, narrow and wide
 
@@ -245,28 +231,28 @@ fn phase_numbers(phase: Phase) -> PhaseNumbers
 }
 
 // Whether there is a table.
-pub fn table_number(table: LiveTable) -> u64
+pub fn table_number(table: Option<Table>) -> u64
     ensures { result ≡ table_number table }
 {
     match table {
-        LiveTable::NoTable => 0,
-        LiveTable::Known(_) => 1,
+        None => 0,
+        Some(_) => 1,
     }
 }
 
 // What a table says, or zeros.
-pub fn table_or(table: LiveTable) -> Table
+pub fn table_or(table: Option<Table>) -> Table
     ensures { result ≡ table_or table }
 {
     match table {
-        LiveTable::NoTable => Table {
+        None => Table {
             session: 0,
             serial: 0,
             refresh: 0,
             retry: 0,
             expire: 0,
         },
-        LiveTable::Known(t) => t,
+        Some(t) => t,
     }
 }
 
@@ -282,30 +268,30 @@ fn table_numbers(t: Table) -> [u64; 5]
     ]
 }
 
-fn note_number(note: Note) -> u64
+fn note_number(note: Option<(u16, u32)>) -> u64
     ensures { result ≡ note_number note }
 {
     match note {
-        Note::NoNote => 0,
-        Note::Noted(_, _) => 1,
+        None => 0,
+        Some((_, _)) => 1,
     }
 }
 
-fn note_session(note: Note) -> u64
+fn note_session(note: Option<(u16, u32)>) -> u64
     ensures { result ≡ note_session note }
 {
     match note {
-        Note::NoNote => 0,
-        Note::Noted(session, _) => wide16(session),
+        None => 0,
+        Some((session, _)) => wide16(session),
     }
 }
 
-fn note_serial(note: Note) -> u64
+fn note_serial(note: Option<(u16, u32)>) -> u64
     ensures { result ≡ note_serial note }
 {
     match note {
-        Note::NoNote => 0,
-        Note::Noted(_, serial) => wide32(serial),
+        None => 0,
+        Some((_, serial)) => wide32(serial),
     }
 }
 
@@ -352,7 +338,7 @@ fn session_numbers(s: Session) -> [u64; SESSION_NUMBERS]
 // Sets the numbers to the session's; where not as many are lent, nothing is set. What is set reads back as this session.
 pub fn put_session(s: Session, numbers: &mut [u64]) -> bool
     ensures value { (result ≡ eqb (length numbers.old) session_size) × (numbers.new ≡ cond (eqb (length numbers.old) session_size) (session_numbers s) numbers.old) }
-    ensures reads_back { length numbers.old ≡ session_size → session_of numbers.new ≡ SessionFound.Known s }
+    ensures reads_back { length numbers.old ≡ session_size → session_of numbers.new ≡ Some s }
 {
     let said = session_numbers(s);
     put_numbers(numbers, &said)
@@ -376,8 +362,8 @@ pub fn loose_code(n: u64) -> RtrErrorCode
 {
     let found = RtrErrorCode::from_u16(low16(n));
     match found {
-        CodeFound::Known(code) => code,
-        CodeFound::Unknown => RtrErrorCode::CorruptData,
+        Some(code) => code,
+        None => RtrErrorCode::CorruptData,
     }
 }
 
@@ -455,22 +441,22 @@ fn low_table(n: &[u64], from: usize) -> Table
     }
 }
 
-fn loose_table(n: &[u64]) -> LiveTable
+fn loose_table(n: &[u64]) -> Option<Table>
     ensures { result ≡ loose_table n.now }
 {
     if at(n, 6) == 0 {
-        return LiveTable::NoTable;
+        return None;
     }
-    LiveTable::Known(low_table(n, 7))
+    Some(low_table(n, 7))
 }
 
-fn loose_note(n: &[u64]) -> Note
+fn loose_note(n: &[u64]) -> Option<(u16, u32)>
     ensures { result ≡ loose_note n.now }
 {
     if at(n, 12) == 0 {
-        return Note::NoNote;
+        return None;
     }
-    Note::Noted(low16(at(n, 13)), low32(at(n, 14)))
+    Some((low16(at(n, 13)), low32(at(n, 14))))
 }
 
 fn loose_session(n: &[u64]) -> Session
@@ -495,25 +481,25 @@ fn loose_session(n: &[u64]) -> Session
 }
 
 // The session that has these numbers; Unknown where none has them.
-pub fn session_of(numbers: &[u64]) -> SessionFound
+pub fn session_of(numbers: &[u64]) -> Option<Session>
     ensures { result ≡ session_of numbers.now }
 {
     let s = loose_session(numbers);
     let said = session_numbers(s);
     if is_alike(&said, numbers) {
-        return SessionFound::Known(s);
+        return Some(s);
     }
-    SessionFound::Unknown
+    None
 }
 
 // The table that says these numbers; Unknown where none does.
-pub fn table_of(numbers: &[u64]) -> TableFound
+pub fn table_of(numbers: &[u64]) -> Option<Table>
     ensures { result ≡ table_found numbers.now }
 {
     let t = low_table(numbers, 0);
     let said = table_numbers(t);
     if is_alike(&said, numbers) {
-        return TableFound::Known(t);
+        return Some(t);
     }
-    TableFound::Unknown
+    None
 }

@@ -1,5 +1,6 @@
 -- What the calls answer: the shared refusals are those of the promise, a receiver's live room is the room of a table, and what both engines
 -- find of it is its state. Assumes nothing.
+use Rattle.std.specs.Prelude.{None, Result, Ok, Err, ⊤}
 use Prim.Native.Nat.{ℕ, ◌≤◌, ◌<◌}
 use mathlib.Core.Bool.{Bool, true, false, cond, not}
 use mathlib.Core.List.{List}
@@ -16,7 +17,6 @@ use Rattle.rtr_receiver.specs.Contents.{Rooms, contents}
 use Rattle.rtr_receiver.specs.History.{has_table}
 use Rattle.rtr_receiver.specs.Promises.{is_receiver}
 use Rattle.rtr_receiver.specs.Promises.Reason.{live_over, live_rules}
-use Rattle.rtr_receiver.specs.declared.LiveTable.{LiveTable}
 use Rattle.rtr_receiver.specs.declared.Session.{Session}
 use Rattle.rtr_receiver.proofs.Shape.{shape-exactly}
 use Rattle.rtr_origin.specs.Origin.{longest_in, state_of}
@@ -24,8 +24,6 @@ use Rattle.rtr_origin.specs.Promises.{validate_says, route_refusal}
 use Rattle.rtr_origin.specs.Promises.RouteSays.{state, refused}
 use Rattle.rtr_origin.specs.Private.{plain, Under}
 use Rattle.rtr_origin.specs.Judged.{Asks, Walked, Ran, target_of, strength, strongest, named, bar_says, bar_said}
-use Rattle.rtr_origin.specs.declared.Bar.{Bar}
-use Rattle.rtr_origin.specs.declared.Bar.TheVariants.{Open, Shut}
 use Rattle.rtr_origin.specs.declared.Route.{Route}
 use Rattle.rtr_origin.specs.declared.RouteState.{RouteState}
 use Rattle.rtr_origin.specs.declared.RouteState.TheVariants.{Valid}
@@ -49,7 +47,7 @@ module _ (limit : ℕ) (s : Session) (live working : Rooms) (hold : List ℕ) (q
   unfolding bar_says
   bar-22 e = rw e
 
-  pub bar-21 : is_receiver limit s live working hold ≡ true → s.table ≡ LiveTable.NoTable → 21 ≡ bar_says limit s live working hold q
+  pub bar-21 : is_receiver limit s live working hold ≡ true → s.table ≡ None → 21 ≡ bar_says limit s live working hold q
   unfolding bar_says
   bar-21 e t = rw (e, t)
 
@@ -66,7 +64,7 @@ module _ (limit : ℕ) (s : Session) (live working : Rooms) (hold : List ℕ) (q
   some_number NoTable h = omega arith
   some_number TooLong h = omega arith
 
-  pub shut-is : (b : Bar) (e : ValidateError) → b ≡ Shut e → bar_said b ≡ bar_says limit s live working hold q → refused (route_refusal e) ≡ validate_says limit s live working hold q
+  pub shut-is : (b : Result ⊤ ValidateError) (e : ValidateError) → b ≡ Err e → bar_said b ≡ bar_says limit s live working hold q → refused (route_refusal e) ≡ validate_says limit s live working hold q
   unfolding validate_says bar_says
   shut-is b e w h =
       go (is_receiver limit s live working hold) (has_table s.table) (leb q.length (longest_in q.prefix)) (sym (ap bar_said w) ∙ h)
@@ -78,7 +76,7 @@ module _ (limit : ℕ) (s : Session) (live working : Rooms) (hold : List ℕ) (q
       go true true false p = ap refused p
       go true true true p = absurd (some_number e p)
 
-  pub open_is : (b : Bar) → b ≡ Open → bar_said b ≡ bar_says limit s live working hold q
+  pub open_is : (b : Result ⊤ ValidateError) → b ≡ Ok tt → bar_said b ≡ bar_says limit s live working hold q
       → (is_receiver limit s live working hold ≡ true) × (state (state_of q (contents s.live live)) ≡ validate_says limit s live working hold q)
   unfolding validate_says bar_says
   open_is b w h = go (is_receiver limit s live working hold) (has_table s.table) (leb q.length (longest_in q.prefix)) refl (sym (ap bar_said w) ∙ h)

@@ -1,5 +1,6 @@
 -- The states of a list of routes: as many as there are routes, one more for each further route, and the same for two ways of asking that agree on every route in range. By induction over the
 -- routes. Assumes nothing.
+use Rattle.std.specs.Prelude.{Option, Some, None, Result, Ok, Err}
 use Prim.Native.Nat.{ℕ, zero, suc, ◌+◌, ◌*◌, ◌≤◌, ◌<◌}
 use mathlib.Core.Bool.{cond}
 use mathlib.Core.List.{List, [], ◌∷◌, ◌++◌}
@@ -21,10 +22,7 @@ use Rattle.rtr_origin.specs.Peer.{says_number, place_of, states_from, peer_said}
 use Rattle.rtr_origin.specs.Survey.{state_by}
 use Rattle.rtr_origin.specs.declared.Route.{Route}
 use Rattle.rtr_origin.specs.declared.RouteState.{RouteState}
-use Rattle.rtr_origin.specs.declared.RouteFound.{RouteFound}
-use Rattle.rtr_origin.specs.declared.RouteFound.TheVariants.{Known, Unknown}
 use Rattle.rtr_origin.specs.declared.peer.PeerError.{PeerError}
-use Rattle.rtr_origin.specs.declared.peer.PeerAnswer.{PeerAnswer}
 use Rattle.rtr_origin.proofs.Numbers.{numbers-of-route}
 
 -- the six numbers of route i
@@ -32,11 +30,11 @@ abbrev pub six_at : List ℕ → ℕ → List ℕ
 six_at routes i = take 6 (drop (6 * i) routes)
 
 -- what the code puts in a place
-module _ (t : List Record) (six : List ℕ) (f : RouteFound) (found : f ≡ route_of six) where
-  pub place-known : (q : Route) (s : RouteState) (n : ℕ) → f ≡ Known q → s ≡ state_of q t → n ≡ state_number s → n ≡ place_of (state_by t) (route_of six)
+module _ (t : List Record) (six : List ℕ) (f : Option Route) (found : f ≡ route_of six) where
+  pub place-known : (q : Route) (s : RouteState) (n : ℕ) → f ≡ Some q → s ≡ state_of q t → n ≡ state_number s → n ≡ place_of (state_by t) (route_of six)
   place-known q s n e is numbered = numbered ∙ ap state_number is ∙ ap (place_of (state_by t)) (sym e ∙ found)
 
-  pub place-unknown : f ≡ Unknown → 23 ≡ place_of (state_by t) (route_of six)
+  pub place-unknown : f ≡ None → 23 ≡ place_of (state_by t) (route_of six)
   place-unknown e = ap (place_of (state_by t)) (sym e ∙ found)
 
 pub states-length : (ask : Route → RouteSays) (n : ℕ) (routes : List ℕ) → length (states_from ask n routes) ≡ n
@@ -70,9 +68,9 @@ module _ (ask other : Route → RouteSays) (alike : (q : Route) → q.length ≤
   place-alike : (six : List ℕ) → place_of ask (route_of six) ≡ place_of other (route_of six)
   place-alike six = go (route_of six) refl
     where
-      go : (f : RouteFound) → route_of six ≡ f → place_of ask f ≡ place_of other f
-      go (Known q) e = ap says_number (alike q (numbers-of-route six q e).1)
-      go Unknown e = refl
+      go : (f : Option Route) → route_of six ≡ f → place_of ask f ≡ place_of other f
+      go (Some q) e = ap says_number (alike q (numbers-of-route six q e).1)
+      go None e = refl
 
   pub states-alike : (n : ℕ) (routes : List ℕ) → states_from ask n routes ≡ states_from other n routes
   unfolding states_from
@@ -81,14 +79,14 @@ module _ (ask other : Route → RouteSays) (alike : (q : Route) → q.length ≤
 
 -- ---- an answer from what it says
 
-pub peer_of : Writing → PeerAnswer
-peer_of (written n) = PeerAnswer.Answered n
+pub peer_of : Writing → Result ℕ PeerError
+peer_of (written n) = Ok n
 peer_of (refused k values) =
-    PeerAnswer.Refused (cond (eqb k 22) PeerError.OutOfShape (cond (eqb k 21) PeerError.NoTable (PeerError.StatesShort (get_or values 0 0))))
+    Err (cond (eqb k 22) PeerError.OutOfShape (cond (eqb k 21) PeerError.NoTable (PeerError.StatesShort (get_or values 0 0))))
 
-pub peer-back : (r : PeerAnswer) → peer_of (peer_said r) ≡ r
+pub peer-back : (r : Result ℕ PeerError) → peer_of (peer_said r) ≡ r
 unfolding peer_of
-peer-back (PeerAnswer.Answered n) = refl
-peer-back (PeerAnswer.Refused PeerError.OutOfShape) = refl
-peer-back (PeerAnswer.Refused PeerError.NoTable) = refl
-peer-back (PeerAnswer.Refused (PeerError.StatesShort needed)) = refl
+peer-back (Ok n) = refl
+peer-back (Err PeerError.OutOfShape) = refl
+peer-back (Err PeerError.NoTable) = refl
+peer-back (Err (PeerError.StatesShort needed)) = refl

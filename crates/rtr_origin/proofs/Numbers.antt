@@ -1,5 +1,6 @@
 -- A route and its six numbers, both ways: a route in range is found from its numbers, and what is found has those numbers and is in range. Six numbers are a
 -- list of its six members, and family and length are found again in the first, by arithmetic. Before that the tests of `route_of`. Assumes nothing.
+use Rattle.std.specs.Prelude.{Option, Some, None}
 use Prim.Native.Nat.{ℕ, zero, suc, ◌+◌, ◌*◌, ◌/◌, ◌%◌, ◌≤◌, ◌<◌}
 use mathlib.Core.Bool.{Bool, true, false, cond, ◌&&◌}
 use mathlib.Core.List.{List, [], ◌∷◌}
@@ -14,8 +15,6 @@ use Rattle.rtr_origin.specs.Numbers.{numbers_of, is_ipv4, is_ipv6, route_of, NoR
 use Rattle.rtr_origin.specs.declared.RoutePrefix.{RoutePrefix}
 use Rattle.rtr_origin.specs.declared.RoutePrefix.TheVariants.{IPv4, IPv6}
 use Rattle.rtr_origin.specs.declared.Route.{Route}
-use Rattle.rtr_origin.specs.declared.RouteFound.{RouteFound}
-use Rattle.rtr_origin.specs.declared.RouteFound.TheVariants.{Known, Unknown}
 
 -- ---- the tests of the code
 
@@ -72,12 +71,12 @@ six-in-range first e = go (eqb (first / 65536) 6) (leb (first % 65536) 128) refl
     go true false p q h = absurd (never h)
 
 module _ (n : List ℕ) where
-  pub not-six : (length n ≡ 6 → ⊥) → Unknown ≡ route_of n
+  pub not-six : (length n ≡ 6 → ⊥) → None ≡ route_of n
   unfolding route_of
   not-six h = rw (ne_eqb (length n) 6 h)
 
   module _ (size : length n ≡ 6) (first w0 w1 w2 w3 origin l : ℕ) (e : first ≡ get_or n 0 0) (e0 : w0 ≡ get_or n 1 0) (e1 : w1 ≡ get_or n 2 0) (e2 : w2 ≡ get_or n 3 0) (e3 : w3 ≡ get_or n 4 0) (o : origin ≡ get_or n 5 0) (k : l ≡ first % 65536 % 256) where
-    pub found-four : is_ipv4 first w1 w2 w3 ≡ true → Known (record { prefix = IPv4 w0; length = l; origin = origin }) ≡ route_of n
+    pub found-four : is_ipv4 first w1 w2 w3 ≡ true → Some (record { prefix = IPv4 w0; length = l; origin = origin }) ≡ route_of n
     unfolding route_of
     found-four h =
         let small = (four-in-range first w1 w2 w3 h).1 in
@@ -85,25 +84,25 @@ module _ (n : List ℕ) where
         rw (eq-eqb (length n) 6 size, sym e, sym e0, sym e1, sym e2, sym e3, sym o, h, same)
 
     module _ (f : is_ipv4 first w1 w2 w3 ≡ false) where
-      pub found-six : is_ipv6 first ≡ true → Known (record { prefix = IPv6 (record { w0 = w0; w1 = w1; w2 = w2; w3 = w3 }); length = l; origin = origin }) ≡ route_of n
+      pub found-six : is_ipv6 first ≡ true → Some (record { prefix = IPv6 (record { w0 = w0; w1 = w1; w2 = w2; w3 = w3 }); length = l; origin = origin }) ≡ route_of n
       unfolding route_of
       found-six h =
           let small = (six-in-range first h).1 in
           let same : l ≡ first % 65536 = omega (arith, k, small) in
           rw (eq-eqb (length n) 6 size, sym e, sym e0, sym e1, sym e2, sym e3, sym o, f, h, same)
 
-      pub found_none : is_ipv6 first ≡ false → Unknown ≡ route_of n
+      pub found_none : is_ipv6 first ≡ false → None ≡ route_of n
       unfolding route_of
       found_none h = rw (eq-eqb (length n) 6 size, sym e, sym e0, sym e1, sym e2, sym e3, sym o, f, h)
 
 -- ---- both ways
 
 -- a route that is in range is found from its numbers
-pub route-of-numbers : (q : Route) → q.length ≤ longest_in q.prefix → route_of (numbers_of q) ≡ Known q
+pub route-of-numbers : (q : Route) → q.length ≤ longest_in q.prefix → route_of (numbers_of q) ≡ Some q
 unfolding route_of
 route-of-numbers q = go q.prefix q.length q.origin
   where
-    go : (p : RoutePrefix) (l o : ℕ) → l ≤ longest_in p → route_of (numbers_of (record { prefix = p; length = l; origin = o })) ≡ Known (record { prefix = p; length = l; origin = o })
+    go : (p : RoutePrefix) (l o : ℕ) → l ≤ longest_in p → route_of (numbers_of (record { prefix = p; length = l; origin = o })) ≡ Some (record { prefix = p; length = l; origin = o })
     go (IPv4 address) l o h =
         let family : (4 * 65536 + l) / 65536 ≡ 4 = omega (arith, h) in
         let long : (4 * 65536 + l) % 65536 ≡ l = omega (arith, h) in
@@ -125,7 +124,7 @@ members (a ∷ (b ∷ (c ∷ (d ∷ (f ∷ (g ∷ [])))))) e = refl
 members (a ∷ (b ∷ (c ∷ (d ∷ (f ∷ (g ∷ (h ∷ t))))))) e = absurd (omega (arith, e))
 
 -- what is found is in range and has those numbers
-pub numbers-of-route : (n : List ℕ) (q : Route) → route_of n ≡ Known q → (n ≡ numbers_of q) × (q.length ≤ longest_in q.prefix)
+pub numbers-of-route : (n : List ℕ) (q : Route) → route_of n ≡ Some q → (n ≡ numbers_of q) × (q.length ≤ longest_in q.prefix)
 unfolding route_of
 numbers-of-route n q e = by_size (eqb (length n) 6) refl e
   where
@@ -138,10 +137,10 @@ numbers-of-route n q e = by_size (eqb (length n) 6) refl e
     six : Route
     six = record { prefix = IPv6 (record { w0 = get_or n 1 0; w1 = get_or n 2 0; w2 = get_or n 3 0; w3 = get_or n 4 0 }); length = get_or n 0 0 % 65536; origin = get_or n 5 0 }
 
-    never : Unknown ≡ Known q → ⊥
+    never : None ≡ Some q → ⊥
     never h = let z : ◌≡◌ {A = ℕ} 0 1 = cc in omega arith
 
-    same : (x : Route) → Holds x → Known x ≡ Known q → Holds q
+    same : (x : Route) → Holds x → Some x ≡ Some q → Holds q
     same x h p = let z : x ≡ q = cc in subst Holds z h
 
     is-four : length n ≡ 6 → is_ipv4 (get_or n 0 0) (get_or n 2 0) (get_or n 3 0) (get_or n 4 0) ≡ true → Holds four
@@ -156,39 +155,39 @@ numbers-of-route n q e = by_size (eqb (length n) 6) refl e
         let first : get_or n 0 0 ≡ 6 * 65536 + get_or n 0 0 % 65536 = omega (arith, r.0) in
         (members n size ∙ (λ i. first i ∷ (get_or n 1 0 ∷ (get_or n 2 0 ∷ (get_or n 3 0 ∷ (get_or n 4 0 ∷ (get_or n 5 0 ∷ [])))))), r.1)
 
-    by-second : length n ≡ 6 → (b : Bool) → is_ipv6 (get_or n 0 0) ≡ b → cond b (Known six) Unknown ≡ Known q → Holds q
+    by-second : length n ≡ 6 → (b : Bool) → is_ipv6 (get_or n 0 0) ≡ b → cond b (Some six) None ≡ Some q → Holds q
     by-second size true h p = same six (is-six size h) p
     by-second size false h p = absurd (never p)
 
-    by_first : length n ≡ 6 → (b : Bool) → is_ipv4 (get_or n 0 0) (get_or n 2 0) (get_or n 3 0) (get_or n 4 0) ≡ b → cond b (Known four) (cond (is_ipv6 (get_or n 0 0)) (Known six) Unknown) ≡ Known q → Holds q
+    by_first : length n ≡ 6 → (b : Bool) → is_ipv4 (get_or n 0 0) (get_or n 2 0) (get_or n 3 0) (get_or n 4 0) ≡ b → cond b (Some four) (cond (is_ipv6 (get_or n 0 0)) (Some six) None) ≡ Some q → Holds q
     by_first size true h p = same four (is-four size h) p
     by_first size false h p = by-second size (is_ipv6 (get_or n 0 0)) refl p
 
-    by_size : (b : Bool) → eqb (length n) 6 ≡ b → cond b (cond (is_ipv4 (get_or n 0 0) (get_or n 2 0) (get_or n 3 0) (get_or n 4 0)) (Known four) (cond (is_ipv6 (get_or n 0 0)) (Known six) Unknown)) Unknown ≡ Known q → Holds q
+    by_size : (b : Bool) → eqb (length n) 6 ≡ b → cond b (cond (is_ipv4 (get_or n 0 0) (get_or n 2 0) (get_or n 3 0) (get_or n 4 0)) (Some four) (cond (is_ipv6 (get_or n 0 0)) (Some six) None)) None ≡ Some q → Holds q
     by_size true h p = by_first (eqb-true (length n) 6 h) (is_ipv4 (get_or n 0 0) (get_or n 2 0) (get_or n 3 0) (get_or n 4 0)) refl p
     by_size false h p = absurd (never p)
 
 -- so a route is known exactly where it is in range and the numbers are its
-pub route-exactly : (n : List ℕ) (q : Route) → route_of n ≡ Known q ↔ ((n ≡ numbers_of q) × (q.length ≤ longest_in q.prefix))
+pub route-exactly : (n : List ℕ) (q : Route) → route_of n ≡ Some q ↔ ((n ≡ numbers_of q) × (q.length ≤ longest_in q.prefix))
 route-exactly n q = (numbers-of-route n q, λ h. ap route_of h.0 ∙ route-of-numbers q h.1)
 
 -- and none is known exactly where no route in range has them
-pub no-route-exactly : (n : List ℕ) → route_of n ≡ Unknown ↔ ((q : Route) → q.length ≤ longest_in q.prefix → n ≡ numbers_of q → ⊥)
+pub no-route-exactly : (n : List ℕ) → route_of n ≡ None ↔ ((q : Route) → q.length ≤ longest_in q.prefix → n ≡ numbers_of q → ⊥)
 no-route-exactly n = (λ e q l m. differ q (sym e ∙ (route-exactly n q).1 (m, l)), λ h. go h (route_of n) refl)
   where
-    differ : (q : Route) → Unknown ≡ Known q → ⊥
+    differ : (q : Route) → None ≡ Some q → ⊥
     differ q h = let z : ◌≡◌ {A = ℕ} 0 1 = cc in omega arith
 
-    go : ((q : Route) → q.length ≤ longest_in q.prefix → n ≡ numbers_of q → ⊥) → (f : RouteFound) → route_of n ≡ f → route_of n ≡ Unknown
-    go h Unknown e = e
-    go h (Known q) e = let r = numbers-of-route n q e in absurd (h q r.1 r.0)
+    go : ((q : Route) → q.length ≤ longest_in q.prefix → n ≡ numbers_of q → ⊥) → (f : Option Route) → route_of n ≡ f → route_of n ≡ None
+    go h None e = e
+    go h (Some q) e = let r = numbers-of-route n q e in absurd (h q r.1 r.0)
 
 -- the numbers of a route that is too long are no route's
-pub too-long-unknown : (q : Route) → q.length < 65536 → longest_in q.prefix < q.length → route_of (numbers_of q) ≡ Unknown
+pub too-long-unknown : (q : Route) → q.length < 65536 → longest_in q.prefix < q.length → route_of (numbers_of q) ≡ None
 unfolding route_of
 too-long-unknown q = go q.prefix q.length q.origin
   where
-    go : (p : RoutePrefix) (l o : ℕ) → l < 65536 → longest_in p < l → route_of (numbers_of (record { prefix = p; length = l; origin = o })) ≡ Unknown
+    go : (p : RoutePrefix) (l o : ℕ) → l < 65536 → longest_in p < l → route_of (numbers_of (record { prefix = p; length = l; origin = o })) ≡ None
     go (IPv4 address) l o h k =
         let family : (4 * 65536 + l) / 65536 ≡ 4 = omega (arith, h) in
         let long : (4 * 65536 + l) % 65536 ≡ l = omega (arith, h) in
@@ -244,23 +243,23 @@ module _ (n : List ℕ) where
       go (IPv6 address) l o h e (NoRoute.spare f i a b k) = omega (arith, h, f, ap (λ (m : List ℕ). get_or m 0 0 / 65536) e)
 
   -- six numbers are no route's exactly for one of these reasons
-  pub no-route-reasons : length n ≡ 6 → route_of n ≡ Unknown ↔ NoRoute n
+  pub no-route-reasons : length n ≡ 6 → route_of n ≡ None ↔ NoRoute n
   no-route-reasons size = (λ e. by-four e (is_ipv4 first (get_or n 2 0) (get_or n 3 0) (get_or n 4 0)) refl, λ r. back r (route_of n) refl)
     where
-      differ : {q : Route} → Known q ≡ Unknown → ⊥
+      differ : {q : Route} → Some q ≡ None → ⊥
       differ h = let z : ◌≡◌ {A = ℕ} 0 1 = cc in omega arith
 
       l : ℕ
       l = first % 65536 % 256
 
-      by-six : route_of n ≡ Unknown → is_ipv4 first (get_or n 2 0) (get_or n 3 0) (get_or n 4 0) ≡ false → (b : Bool) → is_ipv6 first ≡ b → NoRoute n
+      by-six : route_of n ≡ None → is_ipv4 first (get_or n 2 0) (get_or n 3 0) (get_or n 4 0) ≡ false → (b : Bool) → is_ipv6 first ≡ b → NoRoute n
       by-six e f true h = absurd (differ (found-six n size first (get_or n 1 0) (get_or n 2 0) (get_or n 3 0) (get_or n 4 0) (get_or n 5 0) l refl refl refl refl refl refl refl f h ∙ e))
       by-six e f false h = because f h
 
-      by-four : route_of n ≡ Unknown → (b : Bool) → is_ipv4 first (get_or n 2 0) (get_or n 3 0) (get_or n 4 0) ≡ b → NoRoute n
+      by-four : route_of n ≡ None → (b : Bool) → is_ipv4 first (get_or n 2 0) (get_or n 3 0) (get_or n 4 0) ≡ b → NoRoute n
       by-four e true h = absurd (differ (found-four n size first (get_or n 1 0) (get_or n 2 0) (get_or n 3 0) (get_or n 4 0) (get_or n 5 0) l refl refl refl refl refl refl refl h ∙ e))
       by-four e false h = by-six e h (is_ipv6 first) refl
 
-      back : NoRoute n → (f : RouteFound) → route_of n ≡ f → route_of n ≡ Unknown
-      back r Unknown e = e
-      back r (Known q) e = let w = numbers-of-route n q e in absurd (sound q w.1 w.0 r)
+      back : NoRoute n → (f : Option Route) → route_of n ≡ f → route_of n ≡ None
+      back r None e = e
+      back r (Some q) e = let w = numbers-of-route n q e in absurd (sound q w.1 w.0 r)

@@ -1,5 +1,6 @@
 -- What is said of a whole peer (document 02, request Two): each state is what the single question gives, what stands behind the states stays, a refusal keeps them all, a peer cut in two lists gives the
 -- same states, and each refusal is given for its reason alone. Of the definition first, then of the call. Assumes nothing.
+use Rattle.std.specs.Prelude.{Option, Some, None, Result, Ok, Err}
 use Prim.Native.Nat.{ℕ, zero, suc, ◌+◌, ◌*◌, ◌%◌, ◌≤◌, ◌<◌}
 use mathlib.Core.Bool.{Bool, true, false}
 use mathlib.Core.List.{List, [], ◌∷◌, ◌++◌}
@@ -17,7 +18,6 @@ use Rattle.rtr_encode.specs.Encode.Writing.{written, refused}
 use Rattle.rtr_receiver.specs.Contents.{Rooms, contents}
 use Rattle.rtr_receiver.specs.History.{has_table}
 use Rattle.rtr_receiver.specs.Promises.{is_receiver}
-use Rattle.rtr_receiver.specs.declared.LiveTable.{LiveTable}
 use Rattle.rtr_receiver.specs.declared.Session.{Session}
 use Rattle.rtr_origin.specs.Origin.{longest_in, state_of, state_number}
 use Rattle.rtr_origin.specs.Numbers.{numbers_of, route_of}
@@ -25,13 +25,8 @@ use Rattle.rtr_origin.specs.Promises.{RouteSays, validate_says, route_said}
 use Rattle.rtr_origin.specs.Peer.{says_number, place_of, states_from, states_of, route_count, peer_leaves, peer_refusal, peer_said}
 use Rattle.rtr_origin.specs.declared.Route.{Route}
 use Rattle.rtr_origin.specs.declared.RouteState.{RouteState}
-use Rattle.rtr_origin.specs.declared.RouteFound.{RouteFound}
-use Rattle.rtr_origin.specs.declared.RouteFound.TheVariants.{Known, Unknown}
-use Rattle.rtr_origin.specs.declared.ValidateAnswer.{ValidateAnswer}
 use Rattle.rtr_origin.specs.declared.peer.PeerError.{PeerError}
 use Rattle.rtr_origin.specs.declared.peer.PeerError.TheVariants.{OutOfShape, NoTable, StatesShort}
-use Rattle.rtr_origin.specs.declared.peer.PeerAnswer.{PeerAnswer}
-use Rattle.rtr_origin.specs.declared.peer.PeerAnswer.TheVariants.{Answered, Refused}
 use Rattle.rtr_origin.proofs.Numbers.{numbers-of-route, route-of-numbers, too-long-unknown}
 use Rattle.rtr_origin.proofs.Shaped.{shaped-validate, too-long-validate}
 use Rattle.rtr_origin.proofs.PeerAnswers.{Answerable, PeerCase, peer-cases, shapeless-list, not-in-sixes, untabled-list, short-list, answered-list}
@@ -40,6 +35,7 @@ use Rattle.rtr_origin.proofs.peer.validate_all.Reads as reads
 use Rattle.rtr_origin.specs.contracts.peer.validate_all.{signature}
 use Rattle.rtr_origin.proofs.validate.Reads as question
 use Rattle.rtr_origin.specs.contracts.validate.{signature as question-signature}
+use Rattle.rtr_origin.specs.declared.ValidateError.{ValidateError}
 
 -- ---- the states of a list
 
@@ -124,10 +120,10 @@ module _ (limit : ℕ) (s : Session) (live working : Rooms) (hold routes states 
           by false e = sym (ap (λ (x : Encoded). x.says) (shapeless-list limit s live working hold routes states e))
 
   -- then 21 exactly without a table
-  pub list-21-exactly : left.says ≡ refused 21 [] ↔ ((is_receiver limit s live working hold ≡ true) × (length routes % 6 ≡ 0) × (s.table ≡ LiveTable.NoTable))
+  pub list-21-exactly : left.says ≡ refused 21 [] ↔ ((is_receiver limit s live working hold ≡ true) × (length routes % 6 ≡ 0) × (s.table ≡ None))
   list-21-exactly = (go cases, λ h. sym (ap (λ (x : Encoded). x.says) (untabled-list limit s live working hold routes states h.0 h.1 h.2)))
     where
-      go : {l : Encoded} → Case l → l.says ≡ refused 21 [] → (is_receiver limit s live working hold ≡ true) × (length routes % 6 ≡ 0) × (s.table ≡ LiveTable.NoTable)
+      go : {l : Encoded} → Case l → l.says ≡ refused 21 [] → (is_receiver limit s live working hold ≡ true) × (length routes % 6 ≡ 0) × (s.table ≡ None)
       go (PeerCase.untabled p q t) e = (p, q, t)
       go (PeerCase.shapeless p) e = absurd (other 22 21 (λ i. omega arith) e)
       go (PeerCase.not_sixes p q) e = absurd (other 22 21 (λ i. omega arith) e)
@@ -206,7 +202,7 @@ module _ (limit : ℕ) (s : Session) (live working : Rooms) (hold routes states 
 -- ---- the call
 
 -- answers that say the same are the same
-same_answer : (r r' : PeerAnswer) → peer_said r ≡ peer_said r' → r ≡ r'
+same_answer : (r r' : Result ℕ PeerError) → peer_said r ≡ peer_said r' → r ≡ r'
 same_answer r r' e = sym (peer-back r) ∙ ap peer_of e ∙ peer-back r'
 
 -- a refusal has a number
@@ -244,7 +240,7 @@ module _ (κs : Lfts 5) (a : ArgsD signature κs) where
   abbrev leaves : Encoded
   leaves = peer_leaves session.life.limit session live_in working-in hold-in routes-in states-in
 
-  module _ (r : PeerAnswer) (s : _) (p : reads.Post κs a r s) where
+  module _ (r : Result ℕ PeerError) (s : _) (p : reads.Post κs a r s) where
     abbrev states-out : List ℕ
     states-out = s.1.1.1.1.1.0.now
 
@@ -252,41 +248,41 @@ module _ (κs : Lfts 5) (a : ArgsD signature κs) where
     says = ap (λ (x : Encoded). x.says) p
 
     -- an answer is given exactly where the definition says so
-    given : (r' : PeerAnswer) → (r ≡ r') ↔ (leaves.says ≡ peer_said r')
+    given : (r' : Result ℕ PeerError) → (r ≡ r') ↔ (leaves.says ≡ peer_said r')
     given r' = (λ e. sym says ∙ ap peer_said e, λ e. same_answer r r' (says ∙ e))
 
     -- answered exactly where nothing stands in the way, with the number of routes, those with 23 counted
-    pub call-answered-exactly : (n : ℕ) → (r ≡ Answered n) ↔ (Answerable session.life.limit session live_in working-in hold-in routes-in states-in × (6 * n ≡ length routes-in))
+    pub call-answered-exactly : (n : ℕ) → (r ≡ Ok n) ↔ (Answerable session.life.limit session live_in working-in hold-in routes-in states-in × (6 * n ≡ length routes-in))
     call-answered-exactly n = (
-      (λ e. let w = (answered-exactly session.life.limit session live_in working-in hold-in routes-in states-in n).0 ((given (Answered n)).0 e) in (w.0, omega (arith, w.1, w.0.sixes))),
-      λ h. (given (Answered n)).1 ((answered-exactly session.life.limit session live_in working-in hold-in routes-in states-in n).1 (h.0, omega (arith, h.1))),
+      (λ e. let w = (answered-exactly session.life.limit session live_in working-in hold-in routes-in states-in n).0 ((given (Ok n)).0 e) in (w.0, omega (arith, w.1, w.0.sixes))),
+      λ h. (given (Ok n)).1 ((answered-exactly session.life.limit session live_in working-in hold-in routes-in states-in n).1 (h.0, omega (arith, h.1))),
     )
 
     -- out of shape exactly without receiver shape, or where the numbers are not in sixes
-    pub call-22-exactly : (r ≡ Refused OutOfShape) ↔ ((shaped ≡ false) ⊎ (length routes-in % 6 ≡ 0 → ⊥))
+    pub call-22-exactly : (r ≡ Err OutOfShape) ↔ ((shaped ≡ false) ⊎ (length routes-in % 6 ≡ 0 → ⊥))
     call-22-exactly = (
-      (λ e. (list-22-exactly session.life.limit session live_in working-in hold-in routes-in states-in).0 ((given (Refused OutOfShape)).0 e)),
-      λ h. (given (Refused OutOfShape)).1 ((list-22-exactly session.life.limit session live_in working-in hold-in routes-in states-in).1 h),
+      (λ e. (list-22-exactly session.life.limit session live_in working-in hold-in routes-in states-in).0 ((given (Err OutOfShape)).0 e)),
+      λ h. (given (Err OutOfShape)).1 ((list-22-exactly session.life.limit session live_in working-in hold-in routes-in states-in).1 h),
     )
 
     -- then no table exactly without one
-    pub call-21-exactly : (r ≡ Refused NoTable) ↔ ((shaped ≡ true) × (length routes-in % 6 ≡ 0) × (session.table ≡ LiveTable.NoTable))
+    pub call-21-exactly : (r ≡ Err NoTable) ↔ ((shaped ≡ true) × (length routes-in % 6 ≡ 0) × (session.table ≡ None))
     call-21-exactly = (
-      (λ e. (list-21-exactly session.life.limit session live_in working-in hold-in routes-in states-in).0 ((given (Refused NoTable)).0 e)),
-      λ h. (given (Refused NoTable)).1 ((list-21-exactly session.life.limit session live_in working-in hold-in routes-in states-in).1 h),
+      (λ e. (list-21-exactly session.life.limit session live_in working-in hold-in routes-in states-in).0 ((given (Err NoTable)).0 e)),
+      λ h. (given (Err NoTable)).1 ((list-21-exactly session.life.limit session live_in working-in hold-in routes-in states-in).1 h),
     )
 
     -- then too short exactly where there are fewer states than routes, with how many routes there are
-    pub call-9-exactly : (k : ℕ) → (r ≡ Refused (StatesShort k))
+    pub call-9-exactly : (k : ℕ) → (r ≡ Err (StatesShort k))
         ↔ ((shaped ≡ true) × (length routes-in % 6 ≡ 0) × (has_table session.table ≡ true) × (length states-in < k) × (6 * k ≡ length routes-in))
     call-9-exactly k = (
       (λ e.
-          let w = (list-9-exactly session.life.limit session live_in working-in hold-in routes-in states-in (k ∷ [])).0 ((given (Refused (StatesShort k))).0 e) in
+          let w = (list-9-exactly session.life.limit session live_in working-in hold-in routes-in states-in (k ∷ [])).0 ((given (Err (StatesShort k))).0 e) in
           let many : k ≡ route_count routes-in = ap (λ (l : List ℕ). get_or l 0 0) w.4 in
           (w.0, w.1, w.2, omega (arith, w.3, many), omega (arith, many, w.1))),
       λ h.
           let many : k ≡ route_count routes-in = omega (arith, h.4) in
-          (given (Refused (StatesShort k))).1 ((list-9-exactly session.life.limit session live_in working-in hold-in routes-in states-in (k ∷ [])).1 (h.0, h.1, h.2, omega (arith, h.3, many), ap (λ (n : ℕ). n ∷ []) many)),
+          (given (Err (StatesShort k))).1 ((list-9-exactly session.life.limit session live_in working-in hold-in routes-in states-in (k ∷ [])).1 (h.0, h.1, h.2, omega (arith, h.3, many), ap (λ (n : ℕ). n ∷ []) many)),
     )
 
     -- the list of states is as long as it was
@@ -294,15 +290,15 @@ module _ (κs : Lfts 5) (a : ArgsD signature κs) where
     call-keeps-length = ap (λ (x : Encoded). length x.out) p ∙ list-keeps-length session.life.limit session live_in working-in hold-in routes-in states-in
 
     -- a refused call keeps every state that stood there
-    pub refused-call-keeps : (error : PeerError) → r ≡ Refused error → states-out ≡ states-in
+    pub refused-call-keeps : (error : PeerError) → r ≡ Err error → states-out ≡ states-in
     refused-call-keeps error e =
         let w = numbered error in
         ap (λ (x : Encoded). x.out) p
-        ∙ refused-keeps-states session.life.limit session live_in working-in hold-in routes-in states-in w.0 w.1 ((given (Refused error)).0 e ∙ w.2)
+        ∙ refused-keeps-states session.life.limit session live_in working-in hold-in routes-in states-in w.0 w.1 ((given (Err error)).0 e ∙ w.2)
 
-    module _ (n : ℕ) (e : r ≡ Answered n) where
+    module _ (n : ℕ) (e : r ≡ Ok n) where
       said : leaves.says ≡ written n
-      said = (given (Answered n)).0 e
+      said = (given (Ok n)).0 e
 
       -- an answered one leaves what stands behind the states
       pub answered-call-rest : drop n states-out ≡ drop n states-in
@@ -320,7 +316,7 @@ module _ (κs : Lfts 5) (a : ArgsD signature κs) where
         answerable = ((call-answered-exactly n).0 e).0
 
         -- in range a route's place has a state, so 23 stands exactly where six numbers are no route
-        low : (q : Route) → q.length ≤ longest_in q.prefix → place_of asks (Known q) ≡ 23 → ⊥
+        low : (q : Route) → q.length ≤ longest_in q.prefix → place_of asks (Some q) ≡ 23 → ⊥
         low q short w = small (state_of q (contents session.live live_in)) (sym (ap says_number (shaped-validate session.life.limit session live_in working-in hold-in q answerable.shape answerable.table short)) ∙ w)
           where
             small : (x : RouteState) → state_number x ≡ 23 → ⊥
@@ -328,16 +324,16 @@ module _ (κs : Lfts 5) (a : ArgsD signature κs) where
             small RouteState.Valid h = omega arith
             small RouteState.Invalid h = omega arith
 
-        pub call-23-exactly : (get_or states-out i d ≡ 23) ↔ (route_of (six_at routes-in i) ≡ Unknown)
+        pub call-23-exactly : (get_or states-out i d ≡ 23) ↔ (route_of (six_at routes-in i) ≡ None)
         call-23-exactly = (λ w. go (route_of (six_at routes-in i)) refl (sym place ∙ w), λ f. place ∙ ap (place_of asks) f)
           where
-            go : (f : RouteFound) → route_of (six_at routes-in i) ≡ f → place_of asks f ≡ 23 → route_of (six_at routes-in i) ≡ Unknown
-            go Unknown f w = f
-            go (Known q) f w = absurd (low q (numbers-of-route (six_at routes-in i) q f).1 w)
+            go : (f : Option Route) → route_of (six_at routes-in i) ≡ f → place_of asks f ≡ 23 → route_of (six_at routes-in i) ≡ None
+            go None f w = f
+            go (Some q) f w = absurd (low q (numbers-of-route (six_at routes-in i) q f).1 w)
 
         -- where they are a route's numbers, be it too long, the place has the number of what `validate` answers when it is asked of that route in the same memory
         pub each-is-the-call : (q : Route) → six_at routes-in i ≡ numbers_of q → q.length < 65536 →
-            (κs' : Lfts 3) (a' : ArgsD question-signature κs') (answer : ValidateAnswer) (s' : _) → question.Post κs' a' answer s' →
+            (κs' : Lfts 3) (a' : ArgsD question-signature κs') (answer : Result RouteState ValidateError) (s' : _) → question.Post κs' a' answer s' →
             a'.0 ≡ session → a'.1.0.now ≡ live_in → a'.1.1.0.now ≡ working-in → a'.1.1.1.0.now ≡ hold-in → a'.1.1.1.1.0 ≡ q →
             get_or states-out i d ≡ says_number (route_said answer)
         each-is-the-call q numbers byte κs' a' answer s' p' e0 e1 e2 e3 e4 =
@@ -352,9 +348,9 @@ module _ (κs : Lfts 5) (a : ArgsD signature κs) where
                 ∙ sym (ap says_number (too-long-validate session.life.limit session live_in working-in hold-in q answerable.shape answerable.table over))
 
 -- a peer cut in two lists: what two calls leave, one behind the other, is what one call leaves of both
-pub calls-join : (κs : Lfts 5) (a : ArgsD signature κs) (r : PeerAnswer) (s : _) → reads.Post κs a r s → (n : ℕ) → r ≡ Answered n →
-    (κs' : Lfts 5) (a' : ArgsD signature κs') (r' : PeerAnswer) (s' : _) → reads.Post κs' a' r' s' → (n' : ℕ) → r' ≡ Answered n' →
-    (κs'' : Lfts 5) (a'' : ArgsD signature κs'') (r'' : PeerAnswer) (s'' : _) → reads.Post κs'' a'' r'' s'' → (n'' : ℕ) → r'' ≡ Answered n'' →
+pub calls-join : (κs : Lfts 5) (a : ArgsD signature κs) (r : Result ℕ PeerError) (s : _) → reads.Post κs a r s → (n : ℕ) → r ≡ Ok n →
+    (κs' : Lfts 5) (a' : ArgsD signature κs') (r' : Result ℕ PeerError) (s' : _) → reads.Post κs' a' r' s' → (n' : ℕ) → r' ≡ Ok n' →
+    (κs'' : Lfts 5) (a'' : ArgsD signature κs'') (r'' : Result ℕ PeerError) (s'' : _) → reads.Post κs'' a'' r'' s'' → (n'' : ℕ) → r'' ≡ Ok n'' →
     asks κs a ≡ asks κs'' a'' → asks κs' a' ≡ asks κs'' a'' → routes-in κs'' a'' ≡ routes-in κs a ++ routes-in κs' a' →
     take n'' s''.1.1.1.1.1.0.now ≡ take n s.1.1.1.1.1.0.now ++ take n' s'.1.1.1.1.1.0.now
 calls-join κs a r s p n e κs' a' r' s' p' n' e' κs'' a'' r'' s'' p'' n'' e'' same same' joined =

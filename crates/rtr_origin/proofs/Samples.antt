@@ -1,4 +1,5 @@
 -- States worked out by hand, so that the page is held to something outside itself: each is computed. Assumes nothing.
+use Rattle.std.specs.Prelude.{Ok}
 use mathlib.Core.List.{List, [], ◌∷◌}
 use mathlib.Core.Path.{◌≡◌, refl}
 use Rattle.rtr_room.specs.Table.{ipv4_record, ipv6_record}
@@ -9,7 +10,6 @@ use Rattle.rtr_origin.specs.Numbers.{route_of}
 use Rattle.rtr_origin.specs.Promises.{RouteSays, route_refusal}
 use Rattle.rtr_origin.specs.Peer.{says_number, states_from, states_of, peer_refusal, peer_said}
 use Rattle.rtr_origin.specs.declared.peer.PeerError.{PeerError}
-use Rattle.rtr_origin.specs.declared.peer.PeerAnswer.{PeerAnswer}
 use Rattle.rtr_origin.specs.declared.Route.{Route}
 use Rattle.rtr_origin.specs.declared.ValidateError.TheVariants.{NotAReceiver, NoTable, TooLong}
 use Rattle.rtr_origin.specs.declared.RoutePrefix.TheVariants.{IPv4, IPv6}
@@ -123,5 +123,5 @@ of-nobody = refl
 pub numbers-in-places : (says_number (RouteSays.refused 23) ≡ 23) × (says_number (RouteSays.state Valid) ≡ 1) × (says_number (RouteSays.state Invalid) ≡ 2) × (says_number (RouteSays.state NotFound) ≡ 0)
 numbers-in-places = (refl, refl, refl, refl)
 
-pub numbers-of-list-refusals : (peer_refusal PeerError.OutOfShape ≡ refused 22 []) × (peer_refusal PeerError.NoTable ≡ refused 21 []) × (peer_refusal (PeerError.StatesShort 40000) ≡ refused 9 (40000 ∷ [])) × (peer_said (PeerAnswer.Answered 40000) ≡ written 40000)
+pub numbers-of-list-refusals : (peer_refusal PeerError.OutOfShape ≡ refused 22 []) × (peer_refusal PeerError.NoTable ≡ refused 21 []) × (peer_refusal (PeerError.StatesShort 40000) ≡ refused 9 (40000 ∷ [])) × (peer_said (Ok 40000) ≡ written 40000)
 numbers-of-list-refusals = (refl, refl, refl, refl)

@@ -1,5 +1,6 @@
 -- What receiver shape, the table and the route's length decide of a question: 22 exactly where the shape is missing, then 21 exactly where there is no table,
 -- then 23 exactly where the route is longer than its family allows; else the state, by the live table alone. By the cases of each test. Assumes nothing.
+use Rattle.std.specs.Prelude.{Option, Some, None}
 use Prim.Native.Nat.{ℕ, ◌≤◌, ◌<◌}
 use mathlib.Core.Bool.{Bool, true, false, cond}
 use mathlib.Core.List.{List}
@@ -11,13 +12,13 @@ use borrow.Author.Tests.{leb-false, le-leb, lt-leb}
 use Rattle.rtr_receiver.specs.Contents.{Rooms, contents}
 use Rattle.rtr_receiver.specs.History.{has_table}
 use Rattle.rtr_receiver.specs.Promises.{is_receiver}
-use Rattle.rtr_receiver.specs.declared.LiveTable.{LiveTable}
 use Rattle.rtr_receiver.specs.declared.Session.{Session}
 use Rattle.rtr_origin.specs.Origin.{longest_in, state_of}
 use Rattle.rtr_origin.specs.Promises.{RouteSays, validate_says}
 use Rattle.rtr_origin.specs.Promises.RouteSays.{state, refused}
 use Rattle.rtr_origin.specs.declared.Route.{Route}
 use Rattle.rtr_origin.specs.declared.RoutePrefix.TheVariants.{IPv4, IPv6}
+use Rattle.rtr_receiver.specs.declared.Table.{Table}
 
 module _ (limit : ℕ) (s : Session) (live working : Rooms) (hold : List ℕ) (q : Route) where
   -- without the shape 22, whatever else
@@ -27,7 +28,7 @@ module _ (limit : ℕ) (s : Session) (live working : Rooms) (hold : List ℕ) (q
 
   module _ (e : is_receiver limit s live working hold ≡ true) where
     -- without a table 21, however long the route
-    pub untabled-validate : s.table ≡ LiveTable.NoTable → validate_says limit s live working hold q ≡ refused 21
+    pub untabled-validate : s.table ≡ None → validate_says limit s live working hold q ≡ refused 21
     unfolding validate_says
     untabled-validate t = rw (e, t)
 
@@ -69,7 +70,7 @@ module _ (limit : ℕ) (s : Session) (live working : Rooms) (hold : List ℕ) (q
       go true true false p = absurd (numbered 23 22 (λ i. omega arith) p)
       go true true true p = absurd (stated _ 22 p)
 
-  pub refused-21-exactly : validate_says limit s live working hold q ≡ refused 21 ↔ ((is_receiver limit s live working hold ≡ true) × (s.table ≡ LiveTable.NoTable))
+  pub refused-21-exactly : validate_says limit s live working hold q ≡ refused 21 ↔ ((is_receiver limit s live working hold ≡ true) × (s.table ≡ None))
   unfolding validate_says
   refused-21-exactly = (
     (λ p.
@@ -78,9 +79,9 @@ module _ (limit : ℕ) (s : Session) (live working : Rooms) (hold : List ℕ) (q
     λ w. untabled-validate w.0 w.1,
   )
     where
-      none : (t : LiveTable) → has_table t ≡ false → t ≡ LiveTable.NoTable
-      none LiveTable.NoTable h = refl
-      none (LiveTable.Known i) h = absurd (never h)
+      none : (t : Option Table) → has_table t ≡ false → t ≡ None
+      none None h = refl
+      none (Some i) h = absurd (never h)
         where
           never : true ≡ false → ⊥
           never h = let z : ◌≡◌ {A = ℕ} 0 1 = cc in omega arith

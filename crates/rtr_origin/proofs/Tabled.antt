@@ -1,5 +1,6 @@
 -- The room of a table, as the engine reads it: its records are the table, record i is the table's, and a look-up finds the rank. From the laws
 -- of rooms. Assumes nothing.
+use Rattle.std.specs.Prelude.{Result, Ok, Err}
 use Prim.Native.Nat.{ℕ, ◌*◌, ◌≤◌, ◌<◌}
 use mathlib.Core.Bool.{Bool, true, false, cond}
 use mathlib.Core.List.{List}
@@ -10,10 +11,11 @@ use Rattle.rtr_room.specs.Table.{is_table, ordered, all_in_rule, is_in, rank}
 use Rattle.rtr_room.specs.Room.{Found, room, records, record_at, is_room, limit_of, look_up, found}
 use Rattle.rtr_room.specs.Room.Found.{stands_at, missing_at}
 use Rattle.rtr_room.specs.declared.Record.{Record}
-use Rattle.rtr_room.specs.declared.LookUp.{LookUp}
 use Rattle.rtr_room.proofs.Laws.{records-of-room, record-of-room, records-length, rules-exactly, rules-size, look-up-is}
 use Rattle.rtr_room.proofs.Laws.Tests.{second-of}
 use Rattle.rtr_room.proofs.Laws.Ranks.{rank-within}
+use Rattle.rtr_room.specs.declared.NotARoom.{NotARoom}
+use Rattle.rtr_room.specs.declared.Position.{Position}
 
 module _ (s : List ℕ) (count : ℕ) (h : is_room (limit_of s) count s ≡ true) where
   abbrev t : List Record
@@ -62,15 +64,15 @@ never-refused true k n e = let z : ◌≡◌ {A = ℕ} 0 1 = cc in omega arith
 never-refused false k n e = let z : ◌≡◌ {A = ℕ} 0 1 = cc in omega arith
 
 module _ (s : List ℕ) (count : ℕ) (h : is_room (limit_of s) count s ≡ true) (r : Record) where
-  pub ranked-at : (a : LookUp) (at : ℕ) → a ≡ LookUp.At at → found a ≡ look_up s count r → (at ≡ rank r (records count s)) × (at ≤ count)
+  pub ranked-at : (a : Result Position NotARoom) (at : ℕ) → a ≡ Ok (Position.At at) → found a ≡ look_up s count r → (at ≡ rank r (records count s)) × (at ≤ count)
   ranked-at a at e f =
       let k : at ≡ rank r (records count s) = told_at (is_in r (records count s)) at _ (sym (ap found e) ∙ f ∙ rank_is s count h r) in
       (k, omega (arith, rank-inside s count h r))
 
-  pub ranked-missing : (a : LookUp) (at : ℕ) → a ≡ LookUp.Missing at → found a ≡ look_up s count r → (at ≡ rank r (records count s)) × (at ≤ count)
+  pub ranked-missing : (a : Result Position NotARoom) (at : ℕ) → a ≡ Ok (Position.Missing at) → found a ≡ look_up s count r → (at ≡ rank r (records count s)) × (at ≤ count)
   ranked-missing a at e f =
       let k : at ≡ rank r (records count s) = told-missing (is_in r (records count s)) at _ (sym (ap found e) ∙ f ∙ rank_is s count h r) in
       (k, omega (arith, rank-inside s count h r))
 
-  pub ranked-never : (a : LookUp) → a ≡ LookUp.NotARoom → found a ≡ look_up s count r → ⊥
+  pub ranked-never : (a : Result Position NotARoom) → a ≡ Err (record {}) → found a ≡ look_up s count r → ⊥
   ranked-never a e f = never-refused (is_in r (records count s)) 22 _ (sym (ap found e) ∙ f ∙ rank_is s count h r)

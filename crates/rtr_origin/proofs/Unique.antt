@@ -1,5 +1,6 @@
 -- What each public call promises leaves one result (document 01, "How tight the promises are"), and the two calls, whose promise is one, give equal
 -- results: document 02, request One, "proved equal on every table and route". Only the list's call is lent memory to write, its states. Assumes nothing.
+use Rattle.std.specs.Prelude.{Result, Ok, Err}
 use Prim.Native.Nat.{ℕ}
 use mathlib.Core.Bool.{cond}
 use mathlib.Core.Path.{◌≡◌, refl, sym, ap, ◌∙◌}
@@ -11,8 +12,6 @@ use Rattle.rtr_origin.specs.Peer.{peer_said}
 use Rattle.rtr_origin.specs.Promises.RouteSays.{state, refused}
 use Rattle.rtr_origin.specs.declared.ValidateError.{ValidateError}
 use Rattle.rtr_origin.specs.declared.ValidateError.TheVariants.{NotAReceiver, NoTable, TooLong}
-use Rattle.rtr_origin.specs.declared.ValidateAnswer.{ValidateAnswer}
-use Rattle.rtr_origin.specs.declared.ValidateAnswer.TheVariants.{State, Refused}
 use Rattle.rtr_origin.proofs.Lists.{peer_of, peer-back}
 use Rattle.rtr_origin.proofs.peer.validate_all.Reads as all-reads
 use Rattle.rtr_origin.proofs.peer.PeerError.number.Reads as peer-error-reads
@@ -21,21 +20,22 @@ use Rattle.rtr_origin.proofs.validate_by_scan.Reads as scan-reads
 use Rattle.rtr_origin.proofs.route_of.Reads as route-of-reads
 use Rattle.rtr_origin.proofs.RouteState.number.Reads as state-reads
 use Rattle.rtr_origin.proofs.ValidateError.number.Reads as error-reads
+use Rattle.rtr_origin.specs.declared.RouteState.{RouteState}
 
 -- the answer that says so
 error_of : ℕ → ValidateError
 error_of n = cond (eqb n 22) NotAReceiver (cond (eqb n 21) NoTable TooLong)
 
-answer_of : RouteSays → ValidateAnswer
-answer_of (state s) = State s
-answer_of (refused n) = Refused (error_of n)
+answer_of : RouteSays → Result RouteState ValidateError
+answer_of (state s) = Ok s
+answer_of (refused n) = Err (error_of n)
 
-answer_back : (r : ValidateAnswer) → answer_of (route_said r) ≡ r
+answer_back : (r : Result RouteState ValidateError) → answer_of (route_said r) ≡ r
 unfolding answer_of error_of
-answer_back (State s) = refl
-answer_back (Refused NotAReceiver) = refl
-answer_back (Refused NoTable) = refl
-answer_back (Refused TooLong) = refl
+answer_back (Ok s) = refl
+answer_back (Err NotAReceiver) = refl
+answer_back (Err NoTable) = refl
+answer_back (Err TooLong) = refl
 
 pub validate-unique : (κs : _) (a : _) (r r' : _) (s s' : _) → order-reads.Post κs a r s → order-reads.Post κs a r' s' → r ≡ r'
 validate-unique κs a r r' s s' p q = only_one route_said answer_of answer_back r r' _ p q

@@ -1,6 +1,6 @@
 -- For the contracts of private functions alone: a route as a record, so that one test compares two records, and how strongly records speak for
 -- it. Nobody has to believe this page.
-use Rattle.std.specs.Prelude.{ℕ, ◌+◌, ◌-◌, ◌*◌, ◌/◌, ◌^◌, ◌≤◌, ◌<◌, Bool, true, false, cond, not, ◌&&◌, List, [], ◌∷◌, ◌⊎◌, ◌≡◌, leb, eqb}
+use Rattle.std.specs.Prelude.{ℕ, ◌+◌, ◌-◌, ◌*◌, ◌/◌, ◌^◌, ◌≤◌, ◌<◌, Bool, true, false, cond, not, ◌&&◌, List, [], ◌∷◌, ◌⊎◌, ◌≡◌, leb, eqb, Result, Ok, Err, ⊤}
 use Rattle.rtr_receiver.specs.Contents.{Rooms}
 use Rattle.rtr_receiver.specs.History.{has_table}
 use Rattle.rtr_receiver.specs.Promises.{is_receiver}
@@ -11,13 +11,12 @@ use Rattle.rtr_room.specs.declared.Record.{Record}
 use Rattle.rtr_origin.specs.Origin.{words, words_in, family_in, longest_in, agree, any}
 use Rattle.rtr_origin.specs.Promises.{route_refusal}
 use Rattle.rtr_origin.specs.Private.{plain, Under}
-use Rattle.rtr_origin.specs.declared.Bar.{Bar}
-use Rattle.rtr_origin.specs.declared.Bar.TheVariants.{Open, Shut}
 use Rattle.rtr_origin.specs.declared.RoutePrefix.{RoutePrefix}
 use Rattle.rtr_origin.specs.declared.RoutePrefix.TheVariants.{IPv4, IPv6}
 use Rattle.rtr_origin.specs.declared.Route.{Route}
 use Rattle.rtr_origin.specs.declared.RouteState.{RouteState}
 use Rattle.rtr_origin.specs.declared.RouteState.TheVariants.{NotFound, Valid, Invalid}
+use Rattle.rtr_origin.specs.declared.ValidateError.{ValidateError}
 
 -- a record of a family and an address
 abbrev pub record_in : RoutePrefix → ℕ → ℕ → Record
@@ -108,6 +107,6 @@ bar_says limit s live working hold q =
     cond (is_receiver limit s live working hold) (cond (has_table s.table) (cond (leb q.length (longest_in q.prefix)) 0 23) 21) 22
 
 -- what the code says of them
-abbrev pub bar_said : Bar → ℕ
-bar_said Open = 0
-bar_said (Shut error) = route_refusal error
+abbrev pub bar_said : Result ⊤ ValidateError → ℕ
+bar_said (Ok tt) = 0
+bar_said (Err error) = route_refusal error

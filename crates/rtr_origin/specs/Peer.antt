@@ -1,7 +1,7 @@
 -- A whole peer at once: document 02, request Two. What the list's call says, and what it leaves in the list of states. A route's place has what the single
 -- question (Promises) gives for it: there is no second definition of a state. What is said, and the output that is left, are those of encoding (Writing and Encoded of rtr_encode):
 -- `unless` refuses where a test fails, and `out_after` keeps the list on a refusal, else puts the states before what stood behind them.
-use Rattle.std.specs.Prelude.{ℕ, zero, suc, ◌/◌, ◌%◌, ◌&&◌, List, [], ◌∷◌, leb, eqb, length, take, drop}
+use Rattle.std.specs.Prelude.{ℕ, zero, suc, ◌/◌, ◌%◌, ◌&&◌, List, [], ◌∷◌, leb, eqb, length, take, drop, Option, Some, None, Result, Ok, Err}
 use Rattle.rtr_encode.specs.Encode.{Writing, Encoded, unless, out_after}
 use Rattle.rtr_encode.specs.Encode.Writing.{written, refused}
 use Rattle.rtr_receiver.specs.Contents.{Rooms}
@@ -12,12 +12,8 @@ use Rattle.rtr_origin.specs.Origin.{state_number}
 use Rattle.rtr_origin.specs.Numbers.{route_of}
 use Rattle.rtr_origin.specs.Promises.{RouteSays, validate_says}
 use Rattle.rtr_origin.specs.declared.Route.{Route}
-use Rattle.rtr_origin.specs.declared.RouteFound.{RouteFound}
-use Rattle.rtr_origin.specs.declared.RouteFound.TheVariants.{Known, Unknown}
 use Rattle.rtr_origin.specs.declared.peer.PeerError.{PeerError}
 use Rattle.rtr_origin.specs.declared.peer.PeerError.TheVariants.{OutOfShape, NoTable, StatesShort}
-use Rattle.rtr_origin.specs.declared.peer.PeerAnswer.{PeerAnswer}
-use Rattle.rtr_origin.specs.declared.peer.PeerAnswer.TheVariants.{Answered, Refused}
 
 -- ---- the states
 
@@ -27,9 +23,9 @@ says_number (RouteSays.state s) = state_number s
 says_number (RouteSays.refused number) = number
 
 -- what stands in a route's place: what the single question says of it, and 23 where six numbers are no route's
-abbrev pub place_of : (Route → RouteSays) → RouteFound → ℕ
-place_of ask (Known q) = says_number (ask q)
-place_of ask Unknown = 23
+abbrev pub place_of : (Route → RouteSays) → Option Route → ℕ
+place_of ask (Some q) = says_number (ask q)
+place_of ask None = 23
 
 -- the states of the first so many routes of a list, six numbers each, in order
 unfoldable pub states_from : (Route → RouteSays) → ℕ → List ℕ → List ℕ
@@ -68,10 +64,10 @@ peer_refusal NoTable = refused 21 []
 peer_refusal (StatesShort needed) = refused 9 (needed ∷ [])
 
 -- what the code's answer says
-abbrev pub peer_said : PeerAnswer → Writing
-peer_said (Answered n) = written n
-peer_said (Refused error) = peer_refusal error
+abbrev pub peer_said : Result ℕ PeerError → Writing
+peer_said (Ok n) = written n
+peer_said (Err error) = peer_refusal error
 
 -- an answer and the list that it leaves
-abbrev pub peer_gives : PeerAnswer → List ℕ → Encoded
+abbrev pub peer_gives : Result ℕ PeerError → List ℕ → Encoded
 peer_gives answer states = record { says = peer_said answer; out = states }

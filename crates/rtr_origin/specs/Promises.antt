@@ -1,5 +1,5 @@
 -- What the two calls promise: document 02, request One. 22 first, then 21, then 23; no data go with them, and nothing is written.
-use Rattle.std.specs.Prelude.{ℕ, cond, List, leb}
+use Rattle.std.specs.Prelude.{ℕ, cond, List, leb, Result, Ok, Err}
 use Rattle.rtr_receiver.specs.Contents.{Rooms, contents}
 use Rattle.rtr_receiver.specs.History.{has_table}
 use Rattle.rtr_receiver.specs.Promises.{is_receiver}
@@ -9,8 +9,6 @@ use Rattle.rtr_origin.specs.declared.Route.{Route}
 use Rattle.rtr_origin.specs.declared.RouteState.{RouteState}
 use Rattle.rtr_origin.specs.declared.ValidateError.{ValidateError}
 use Rattle.rtr_origin.specs.declared.ValidateError.TheVariants.{NotAReceiver, NoTable, TooLong}
-use Rattle.rtr_origin.specs.declared.ValidateAnswer.{ValidateAnswer}
-use Rattle.rtr_origin.specs.declared.ValidateAnswer.TheVariants.{State, Refused}
 
 -- a state, or a refusal by a number
 pub data RouteSays : Type 0 where
@@ -33,6 +31,6 @@ route_refusal NoTable = 21
 route_refusal TooLong = 23
 
 -- what the code's answer says
-abbrev pub route_said : ValidateAnswer → RouteSays
-route_said (State s) = state s
-route_said (Refused error) = refused (route_refusal error)
+abbrev pub route_said : Result RouteState ValidateError → RouteSays
+route_said (Ok s) = state s
+route_said (Err error) = refused (route_refusal error)

@@ -2,8 +2,8 @@
 #![tactic(auto)]
 
 use rtr_models::Ipv6Addr;
-use rtr_receiver::{LiveTable, Session, is_receiver};
-use rtr_room::{LookUp, Record, look_up};
+use rtr_receiver::{Session, is_receiver};
+use rtr_room::{Record, look_up};
 
 mod peer;
 
@@ -16,7 +16,7 @@ ghost use Rattle.rtr_origin.specs.Promises.{validate_says, route_refusal, route_
 ghost use Rattle.rtr_origin.specs.Private.{Under};
 ghost use Rattle.rtr_origin.specs.Judged.{Common, LeadingAlike, Jumps, Walked, Ran, bar_says, bar_said, target_of, covers_by, strength, strongest, cut_word, probe_of, named};
 
-pub use peer::{PeerAnswer, PeerError, validate_all};
+pub use peer::{PeerError, validate_all};
 
 // A route's address; its family is its shape.
 #[derive(Clone, Copy)]
@@ -46,19 +46,6 @@ pub enum ValidateError {
     NotAReceiver,
     NoTable,
     TooLong,
-}
-
-#[derive(Clone, Copy)]
-pub enum ValidateAnswer {
-    State(RouteState),
-    Refused(ValidateError),
-}
-
-// The route that has some numbers, if one has.
-#[derive(Clone, Copy)]
-pub enum RouteFound {
-    Known(Route),
-    Unknown,
 }
 
 impl RouteState {
@@ -319,9 +306,9 @@ fn rank_of(live: &[u32], count: usize, r: Record) -> usize
     ensures { (result ≡ rank r (records count live.now)) × (result ≤ count) }
 {
     match look_up(live, count, r) {
-        LookUp::At(at) => at,
-        LookUp::Missing(at) => at,
-        LookUp::NotARoom => 0,
+        Ok(Position::At(at)) => at,
+        Ok(Position::Missing(at)) => at,
+        Err(_) => 0,
     }
 }
 
@@ -423,13 +410,6 @@ fn by_order(live: &[u32], count: usize, least: u32, loose: u32, q: Route) -> Rou
 
 // ---- Calls
 
-// What stands in the way of an answer, if anything.
-#[derive(Clone, Copy)]
-enum Bar {
-    Open,
-    Shut(ValidateError),
-}
-
 fn is_too_long(q: Route) -> bool
     ensures { result ≡ not (leb q.length (longest_in q.prefix)) }
 {
@@ -441,20 +421,20 @@ fn is_too_long(q: Route) -> bool
 }
 
 // 22, then 21, then 23.
-fn barred(s: Session, live: &[u32], working: &[u32], hold: &[u8], q: Route) -> Bar
+fn barred(s: Session, live: &[u32], working: &[u32], hold: &[u8], q: Route) -> Result<(), ValidateError>
     ensures { bar_said result ≡ bar_says s.life.limit s live.now working.now hold.now q }
 {
     if !is_receiver(s, live, working, hold) {
-        return Bar::Shut(ValidateError::NotAReceiver);
+        return Err(ValidateError::NotAReceiver);
     }
     let table = s.table;
     match table {
-        LiveTable::NoTable => Bar::Shut(ValidateError::NoTable),
-        LiveTable::Known(_) => {
+        None => Err(ValidateError::NoTable),
+        Some(_) => {
             if is_too_long(q) {
-                return Bar::Shut(ValidateError::TooLong);
+                return Err(ValidateError::TooLong);
             }
-            Bar::Open
+            Ok(())
         }
     }
 }
@@ -466,27 +446,27 @@ pub fn validate_by_scan(
     working: &[u32],
     hold: &[u8],
     q: Route,
-) -> ValidateAnswer
+) -> Result<RouteState, ValidateError>
     ensures { route_said result ≡ validate_says s.life.limit s live.now working.now hold.now q }
 {
     match barred(s, live, working, hold, q) {
-        Bar::Shut(error) => ValidateAnswer::Refused(error),
-        Bar::Open => {
+        Err(error) => Err(error),
+        Ok(()) => {
             let counts = s.live;
-            ValidateAnswer::State(name(scan(live, counts.records, as_record(q))))
+            Ok(name(scan(live, counts.records, as_record(q))))
         }
     }
 }
 
 // A route's state, by the order of the live table.
-pub fn validate(s: Session, live: &[u32], working: &[u32], hold: &[u8], q: Route) -> ValidateAnswer
+pub fn validate(s: Session, live: &[u32], working: &[u32], hold: &[u8], q: Route) -> Result<RouteState, ValidateError>
     ensures { route_said result ≡ validate_says s.life.limit s live.now working.now hold.now q }
 {
     match barred(s, live, working, hold, q) {
-        Bar::Shut(error) => ValidateAnswer::Refused(error),
-        Bar::Open => {
+        Err(error) => Err(error),
+        Ok(()) => {
             let counts = s.live;
-            ValidateAnswer::State(by_order(live, counts.records, 0, 0, q))
+            Ok(by_order(live, counts.records, 0, 0, q))
         }
     }
 }
@@ -540,11 +520,11 @@ fn is_ipv6(first: u32) -> bool
 }
 
 // The route that six numbers are; Unknown where there are not six, of another family, too long, or with a spare number that is not 0.
-pub fn route_of(numbers: &[u32]) -> RouteFound
+pub fn route_of(numbers: &[u32]) -> Option<Route>
     ensures { result ≡ route_of numbers.now }
 {
     if numbers.len() != 6 {
-        return RouteFound::Unknown;
+        return None;
     }
     let first = number_at(numbers, 0);
     let w0 = number_at(numbers, 1);
@@ -554,18 +534,18 @@ pub fn route_of(numbers: &[u32]) -> RouteFound
     let origin = number_at(numbers, 5);
     let length = narrow(first % 65536);
     if is_ipv4(first, w1, w2, w3) {
-        return RouteFound::Known(Route {
+        return Some(Route {
             prefix: RoutePrefix::IPv4(w0),
             length,
             origin,
         });
     }
     if is_ipv6(first) {
-        return RouteFound::Known(Route {
+        return Some(Route {
             prefix: RoutePrefix::IPv6(Ipv6Addr { w0, w1, w2, w3 }),
             length,
             origin,
         });
     }
-    RouteFound::Unknown
+    None
 }

@@ -8,8 +8,8 @@ ghost use Rattle.rtr_origin.specs.Private.{plain};
 ghost use Rattle.rtr_origin.specs.Peer.{place_of, states_of, route_count, peer_refusal, peer_gives, peer_leaves};
 ghost use Rattle.rtr_origin.specs.Survey.{lower_of, bounds_with, survey_of, bounds_for, state_by};
 
-use crate::{Route, RouteFound, RoutePrefix, by_order, common, probe, record_of, route_of};
-use rtr_receiver::{LiveTable, Session, is_receiver};
+use crate::{Route, RoutePrefix, by_order, common, probe, record_of, route_of};
+use rtr_receiver::{Session, is_receiver};
 use rtr_room::Record;
 
 // Why no route was answered.
@@ -19,13 +19,6 @@ pub enum PeerError {
     OutOfShape,
     NoTable,
     StatesShort { needed: usize },
-}
-
-// How many routes there were, or why none was answered.
-#[derive(Clone, Copy)]
-pub enum PeerAnswer {
-    Answered(usize),
-    Refused(PeerError),
 }
 
 impl PeerError {
@@ -132,12 +125,12 @@ fn place_of(live: &[u32], count: usize, v: Families, numbers: &[u32]) -> u8
     ensures { result ≡ place_of (state_by (records count live.now)) (route_of numbers.now) }
 {
     match route_of(numbers) {
-        RouteFound::Known(q) => {
+        Some(q) => {
             let b = bounds_for(v, q);
             let state = by_order(live, count, b.least, b.loose, q);
             state.number()
         }
-        RouteFound::Unknown => 23,
+        None => 23,
     }
 }
 
@@ -165,26 +158,26 @@ pub fn validate_all(
     hold: &[u8],
     routes: &[u32],
     states: &mut [u8],
-) -> PeerAnswer
+) -> Result<usize, PeerError>
     ensures { peer_gives result states.new ≡ peer_leaves s.life.limit s live.now working.now hold.now routes.now states.old }
 {
     if !is_receiver(s, live, working, hold) {
-        return PeerAnswer::Refused(PeerError::OutOfShape);
+        return Err(PeerError::OutOfShape);
     }
     if routes.len() % 6 != 0 {
-        return PeerAnswer::Refused(PeerError::OutOfShape);
+        return Err(PeerError::OutOfShape);
     }
     let table = s.table;
     match table {
-        LiveTable::NoTable => PeerAnswer::Refused(PeerError::NoTable),
-        LiveTable::Known(_) => {
+        None => Err(PeerError::NoTable),
+        Some(_) => {
             let needed = routes.len() / 6;
             if states.len() < needed {
-                return PeerAnswer::Refused(PeerError::StatesShort { needed });
+                return Err(PeerError::StatesShort { needed });
             }
             let counts = s.live;
             fill_states(live, counts.records, routes, states);
-            PeerAnswer::Answered(needed)
+            Ok(needed)
         }
     }
 }

@@ -1,4 +1,5 @@
 -- A PDU whose numbers fit is guessed from its numbers, and a guess always fits. Assumes nothing.
+use Rattle.std.specs.Prelude.{Option, Some, None, ⊤}
 use Prim.Native.Nat.{ℕ, ◌%◌}
 use mathlib.Core.List.{List}
 use mathlib.Core.Path.{◌≡◌, refl}
@@ -6,7 +7,6 @@ use native.Mathlib.Omega.{arith}
 use lib.Dec.{eqb}
 use lib.ListN.{get_or}
 use Rattle.rtr_models.specs.Values.{version_of}
-use Rattle.rtr_models.specs.declared.Interval.{Interval}
 use Rattle.rtr_models.specs.declared.RtrProtocolVersion.{RtrProtocolVersion}
 use Rattle.rtr_models.specs.declared.RtrProtocolVersion.TheVariants.{V0, V1}
 use Rattle.rtr_models.specs.declared.RtrPdu.{RtrPdu}
@@ -31,11 +31,11 @@ version-told (CacheReset p) k = version-back p.version
 version-told (RouterKey p) k = version-back p.version
 version-told (ErrorReport p) k = version-back p.version
 
-interval-back : (v : RtrProtocolVersion) (default : ℕ) (x : Interval) → IntervalFits v x → loose_interval v (end_seconds v default x) ≡ x
-interval-back V0 default Interval.Absent h = refl
-interval-back V0 default (Interval.Seconds n) h = absurd h
-interval-back V1 default Interval.Absent h = absurd h
-interval-back V1 default (Interval.Seconds n) h = let e : n % 4294967296 ≡ n = omega arith in cc
+interval-back : (v : RtrProtocolVersion) (default : ℕ) (x : Option ℕ) → IntervalFits v x → loose_interval v (end_seconds v default x) ≡ x
+interval-back V0 default None h = refl
+interval-back V0 default (Some n) h = absurd h
+interval-back V1 default None h = absurd h
+interval-back V1 default (Some n) h = let e : n % 4294967296 ≡ n = omega arith in cc
 
 by-version : (pdu : RtrPdu) (k : ℕ) → PduFits pdu → loose_pdu (version_of pdu) (pdu_numbers pdu k) ≡ pdu
 unfolding pdu_numbers loose_pdu

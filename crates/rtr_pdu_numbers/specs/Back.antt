@@ -1,6 +1,5 @@
 -- What is read back from a PDU's numbers: a first guess (as in rtr_numbers), which stands exactly where its own numbers are those given.
-use Rattle.std.specs.Prelude.{ℕ, cond, List, eqb, get_or}
-use Rattle.rtr_models.specs.declared.Interval.{Interval}
+use Rattle.std.specs.Prelude.{ℕ, cond, List, eqb, get_or, Option, Some, None}
 use Rattle.rtr_models.specs.declared.Place.{Place}
 use Rattle.rtr_models.specs.declared.RtrProtocolVersion.{RtrProtocolVersion}
 use Rattle.rtr_models.specs.declared.RtrProtocolVersion.TheVariants.{V0, V1}
@@ -16,18 +15,17 @@ use Rattle.rtr_models.specs.declared.RtrPdu.{RtrPdu}
 use Rattle.rtr_models.specs.declared.RtrPdu.TheVariants.{SerialNotify, SerialQuery, ResetQuery, CacheResponse, IPv4Prefix, IPv6Prefix, EndOfData, CacheReset, RouterKey, ErrorReport}
 use Rattle.rtr_numbers.specs.Back.{alike, low8, low16, low32, loose_version, loose_code}
 use Rattle.rtr_pdu_numbers.specs.Numbers.{pdu_numbers}
-use Rattle.rtr_pdu_numbers.specs.declared.PduFound.{PduFound}
 
 -- the PDU whose numbers these are, with the bytes that it took
-unfoldable pub pdu_if : RtrPdu → List ℕ → PduFound
-pdu_if pdu n = cond (alike (pdu_numbers pdu (get_or n 2 0)) n) (PduFound.Known pdu (get_or n 2 0)) PduFound.Unknown
+unfoldable pub pdu_if : RtrPdu → List ℕ → Option (RtrPdu × ℕ)
+pdu_if pdu n = cond (alike (pdu_numbers pdu (get_or n 2 0)) n) (Some (pdu, (get_or n 2 0))) None
 
 -- ---- The guesses
 
 -- version 1 has intervals
-abbrev pub loose_interval : RtrProtocolVersion → ℕ → Interval
-loose_interval V0 n = Interval.Absent
-loose_interval V1 n = Interval.Seconds (low32 n)
+abbrev pub loose_interval : RtrProtocolVersion → ℕ → Option ℕ
+loose_interval V0 n = None
+loose_interval V1 n = Some (low32 n)
 
 -- a place from the numbers of its start and its length
 abbrev pub loose_place : List ℕ → ℕ → ℕ → Place
@@ -118,5 +116,5 @@ loose_pdu version n =
 -- ---- What is found
 
 -- the PDU that has these numbers, with the bytes that it took
-abbrev pub pdu_of : List ℕ → PduFound
+abbrev pub pdu_of : List ℕ → Option (RtrPdu × ℕ)
 pdu_of n = pdu_if (loose_pdu (loose_version (get_or n 1 0)) n) n

@@ -1,15 +1,14 @@
 -- The numbers of a PDU, as a host without Rattle's types has it.
-use Rattle.std.specs.Prelude.{ℕ, List, [], ◌∷◌}
+use Rattle.std.specs.Prelude.{ℕ, List, [], ◌∷◌, Option}
 use Rattle.rtr_models.specs.Codes.{version_number, code_number}
 use Rattle.rtr_models.specs.Values.{seconds_or}
-use Rattle.rtr_models.specs.declared.Interval.{Interval}
 use Rattle.rtr_models.specs.declared.RtrProtocolVersion.{RtrProtocolVersion}
 use Rattle.rtr_models.specs.declared.RtrProtocolVersion.TheVariants.{V0, V1}
 use Rattle.rtr_models.specs.declared.RtrPdu.{RtrPdu}
 use Rattle.rtr_models.specs.declared.RtrPdu.TheVariants.{SerialNotify, SerialQuery, ResetQuery, CacheResponse, IPv4Prefix, IPv6Prefix, EndOfData, CacheReset, RouterKey, ErrorReport}
 
 -- an interval of an End of Data, as it is encoded: none in version 0, in version 1 the default where it is absent
-abbrev pub end_seconds : RtrProtocolVersion → ℕ → Interval → ℕ
+abbrev pub end_seconds : RtrProtocolVersion → ℕ → Option ℕ → ℕ
 end_seconds V0 default interval = 0
 end_seconds V1 default interval = seconds_or default interval
 

@@ -1,6 +1,6 @@
 -- What a PDU value of Rattle's types has, and that an End of Data has the intervals of its version: such a PDU comes back from its numbers
 -- (proofs/Laws.antt).
-use Rattle.rtr_models.specs.declared.Interval.{Interval}
+use Rattle.std.specs.Prelude.{Option, Some, None}
 use Rattle.rtr_models.specs.declared.RtrProtocolVersion.{RtrProtocolVersion}
 use Rattle.rtr_models.specs.declared.RtrProtocolVersion.TheVariants.{V0, V1}
 use Rattle.rtr_models.specs.declared.RtrPdu.{RtrPdu}
@@ -8,11 +8,11 @@ use Rattle.rtr_models.specs.declared.RtrPdu.TheVariants.{SerialNotify, SerialQue
 use Rattle.rtr_numbers.specs.Ranges.{Fits8, Fits16, Fits32}
 
 -- an interval of an End of Data: none in version 0, one in version 1 (a value that mixes them has the numbers of another)
-abbrev pub IntervalFits : RtrProtocolVersion → Interval → Type 0
-IntervalFits V0 Interval.Absent = Unit
-IntervalFits V0 (Interval.Seconds n) = ⊥
-IntervalFits V1 Interval.Absent = ⊥
-IntervalFits V1 (Interval.Seconds n) = Fits32 n
+abbrev pub IntervalFits : RtrProtocolVersion → Option ℕ → Type 0
+IntervalFits V0 None = Unit
+IntervalFits V0 (Some n) = ⊥
+IntervalFits V1 None = ⊥
+IntervalFits V1 (Some n) = Fits32 n
 
 -- a PDU whose numbers fit, and whose intervals are those of its version
 abbrev pub PduFits : RtrPdu → Type 0

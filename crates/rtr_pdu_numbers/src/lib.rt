@@ -13,13 +13,6 @@ use rtr_numbers::{at, is_alike, loose_code, loose_version, put_numbers};
 // How many numbers a PDU is.
 pub const PDU_NUMBERS: usize = 12;
 
-// The PDU that has these numbers, with the bytes that it took, if one has.
-#[derive(Clone, Copy)]
-pub enum PduFound {
-    Known(RtrPdu, usize),
-    Unknown,
-}
-
 // ---- Numbers, narrow and wide
 
 fn wide8(n: u8) -> u64
@@ -194,7 +187,7 @@ fn ipv6_prefix_numbers(p: RtrIPv6Prefix, consumed: usize) -> [u64; 12]
 }
 
 // An interval as it is encoded.
-fn seconds(version: RtrProtocolVersion, default: u32, interval: Interval) -> u64
+fn seconds(version: RtrProtocolVersion, default: u32, interval: Option<u32>) -> u64
     ensures { result ≡ end_seconds version default interval }
 {
     match version {
@@ -318,12 +311,12 @@ pub fn put_pdu(pdu: RtrPdu, consumed: usize, numbers: &mut [u64]) -> bool
 
 // ---- A PDU from numbers: a guess, then the comparison
 
-fn loose_interval(version: RtrProtocolVersion, n: u64) -> Interval
+fn loose_interval(version: RtrProtocolVersion, n: u64) -> Option<u32>
     ensures { result ≡ loose_interval version n }
 {
     match version {
-        RtrProtocolVersion::V0 => Interval::Absent,
-        RtrProtocolVersion::V1 => Interval::Seconds(low32(n)),
+        RtrProtocolVersion::V0 => None,
+        RtrProtocolVersion::V1 => Some(low32(n)),
     }
 }
 
@@ -452,14 +445,14 @@ fn loose_pdu(n: &[u64]) -> RtrPdu
 }
 
 // The PDU that has these numbers; Unknown where none has them.
-pub fn pdu_of(numbers: &[u64]) -> PduFound
+pub fn pdu_of(numbers: &[u64]) -> Option<(RtrPdu, usize)>
     ensures { result ≡ pdu_of numbers.now }
 {
     let pdu = loose_pdu(numbers);
     let consumed = size(at(numbers, 2));
     let said = pdu_numbers(pdu, consumed);
     if is_alike(&said, numbers) {
-        return PduFound::Known(pdu, consumed);
+        return Some((pdu, consumed));
     }
-    PduFound::Unknown
+    None
 }

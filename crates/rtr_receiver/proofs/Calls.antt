@@ -1,4 +1,5 @@
 -- What the calls without a feed come to, by cases: the tests of an order, the asks, reconnect, start and the notify comparison. Assumes nothing.
+use Rattle.std.specs.Prelude.{Option, Some, None, ⊤, Result, Ok, Err}
 use Rattle.std.proofs.Common.{◌≡◌, ℕ, ◌+◌, ◌-◌, ◌*◌, ◌%◌, ◌<◌, ◌≤◌, Bool, true, false, cond, not, ◌&&◌, ◌||◌, eqb, leb, List, [], ◌∷◌, length, replicate, sym, refl, ap, ◌∙◌, arith, le-ltb, lt-ltb, eq-eqb, ne_eqb, le-leb, leb-false, leb-true}
 use mathlib.Core.Bool.{and-true}
 use borrow.Author.Tests.{lt-leb}
@@ -10,7 +11,6 @@ use Rattle.rtr_codec.specs.Reading.{in_use}
 use Rattle.rtr_encode.specs.Encode.{Writing, Encoded, encode}
 use Rattle.rtr_encode.specs.Answers.{writing}
 use Rattle.rtr_encode.specs.declared.EncodeError.{EncodeError}
-use Rattle.rtr_encode.specs.declared.EncodeAnswer.{EncodeAnswer}
 use Rattle.rtr_room.proofs.Laws.{empty-is}
 use Rattle.rtr_receiver.specs.Contents.{Rooms}
 use Rattle.rtr_receiver.specs.Receiver.{Stage, Receiver, Query, Notified, full_query, change_query, asked_by, ask, reconnected, notified, compared, fresh}
@@ -20,11 +20,8 @@ use Rattle.rtr_receiver.specs.Private.{asked_for}
 use Rattle.rtr_receiver.specs.declared.Stop.{Stop}
 use Rattle.rtr_receiver.specs.declared.Phase.{Phase}
 use Rattle.rtr_receiver.specs.declared.Table.{Table}
-use Rattle.rtr_receiver.specs.declared.LiveTable.{LiveTable}
-use Rattle.rtr_receiver.specs.declared.Note.{Note}
 use Rattle.rtr_receiver.specs.declared.Session.{Session}
 use Rattle.rtr_receiver.specs.declared.AskError.{AskError}
-use Rattle.rtr_receiver.specs.declared.AskAnswer.{AskAnswer}
 use Rattle.rtr_receiver.specs.declared.AskedSession.{AskedSession}
 use Rattle.rtr_receiver.specs.contracts.Phase as phase
 use Rattle.rtr_receiver.proofs.Memory.{with-limit, with-records, left-alike, limit_is, room-stands, room-size, shape_of, standing, stopped-is}
@@ -61,14 +58,14 @@ pub stopped-full : (p : Phase) (w h : ℕ) (stop : Stop) → p ≡ Phase.Stopped
 stopped-full p w h stop e q = stopped-cleared p w h stop e ∙ ap (λ (b : Bool). b && eqb h 0) (ne_eqb w 0 q) ∙ sym (ne_eqb w 0 q)
 
 -- without a table there is no record, and no change
-pub tableless : (s : Session) → s.table ≡ LiveTable.NoTable → s.live.records ≡ 0 → tabled s ≡ not (change_under_way s.phase)
+pub tableless : (s : Session) → s.table ≡ None → s.live.records ≡ 0 → tabled s ≡ not (change_under_way s.phase)
 tableless s e q =
-    ap (λ (t : LiveTable). has_table t || (eqb s.live.records 0 && not (change_under_way s.phase))) e
+    ap (λ (t : Option Table). has_table t || (eqb s.live.records 0 && not (change_under_way s.phase))) e
     ∙ ap (λ (b : Bool). b && not (change_under_way s.phase)) (eq-eqb s.live.records 0 q)
 
-pub tableless-records : (s : Session) → s.table ≡ LiveTable.NoTable → (s.live.records ≡ 0 → ⊥) → tabled s ≡ false
+pub tableless-records : (s : Session) → s.table ≡ None → (s.live.records ≡ 0 → ⊥) → tabled s ≡ false
 tableless-records s e q =
-    ap (λ (t : LiveTable). has_table t || (eqb s.live.records 0 && not (change_under_way s.phase))) e
+    ap (λ (t : Option Table). has_table t || (eqb s.live.records 0 && not (change_under_way s.phase))) e
     ∙ ap (λ (b : Bool). b && not (change_under_way s.phase)) (ne_eqb s.live.records 0 q)
 
 -- a full ask in another phase than Idle and MustReset
@@ -92,18 +89,18 @@ change-else (Phase.Stopped stop) r h = ap (λ (t : Stage). change_query t r) (st
 -- ---- The asks
 
 pub asked-written
-    : (s t : Session) (answer : EncodeAnswer) (phase : Phase) (n : ℕ) →
-    answer ≡ EncodeAnswer.Written n →
+    : (s t : Session) (answer : Result ℕ EncodeError) (phase : Phase) (n : ℕ) →
+    answer ≡ Ok n →
     t ≡ record { life = s.life; phase = phase; table = s.table; note = s.note; live = s.live; working = s.working; held = s.held } →
-    ◌≡◌ {A = AskedSession} (record { session = t; answer = AskAnswer.Written n }) (asked_for s answer phase)
+    ◌≡◌ {A = AskedSession} (record { session = t; answer = Ok n }) (asked_for s answer phase)
 asked-written s t answer phase n e f =
-    ap {B = AskedSession} (λ (x : Session). record { session = x; answer = AskAnswer.Written n }) f ∙ sym (ap (λ (x : EncodeAnswer). asked_for s x phase) e)
+    ap {B = AskedSession} (λ (x : Session). record { session = x; answer = Ok n }) f ∙ sym (ap (λ (x : Result ℕ EncodeError). asked_for s x phase) e)
 
 pub asked-refused
-    : (s : Session) (answer : EncodeAnswer) (phase : Phase) (error : EncodeError) →
-    answer ≡ EncodeAnswer.Refused error →
-    ◌≡◌ {A = AskedSession} (record { session = s; answer = AskAnswer.Refused (AskError.Encoding error) }) (asked_for s answer phase)
-asked-refused s answer phase error e = sym (ap (λ (x : EncodeAnswer). asked_for s x phase) e)
+    : (s : Session) (answer : Result ℕ EncodeError) (phase : Phase) (error : EncodeError) →
+    answer ≡ Err error →
+    ◌≡◌ {A = AskedSession} (record { session = s; answer = Err (AskError.Encoding error) }) (asked_for s answer phase)
+asked-refused s answer phase error e = sym (ap (λ (x : Result ℕ EncodeError). asked_for s x phase) e)
 
 -- the same left in another stage
 abbrev in_stage_left : Stage → Left → Left
@@ -126,7 +123,7 @@ module _ (limit : ℕ) (s : Session) (live working : Rooms) (hold : List ℕ) wh
     -- 22
     pub ask-shapeless
         : (t : AskedSession) →
-        t ≡ record { session = s; answer = AskAnswer.Refused AskError.NotAReceiver } →
+        t ≡ record { session = s; answer = Err AskError.NotAReceiver } →
         is_receiver limit s live working hold ≡ false →
         ask_said t live working hold out ≡ ask_says limit query_of s live working hold out
     ask-shapeless t q e = ap (λ (x : AskedSession). ask_said x live working hold out) q ∙ simp e
@@ -150,7 +147,7 @@ module _ (limit : ℕ) (s : Session) (live working : Rooms) (hold : List ℕ) wh
 
     pub ask-in-wrong-phase
         : (t : AskedSession) →
-        t ≡ record { session = s; answer = AskAnswer.Refused AskError.WrongPhase } →
+        t ≡ record { session = s; answer = Err AskError.WrongPhase } →
         is_receiver limit s live working hold ≡ true →
         query_of (receiver_of s live working hold) ≡ Query.refused 20 →
         ask_said t live working hold out ≡ ask_says limit query_of s live working hold out
@@ -158,7 +155,7 @@ module _ (limit : ℕ) (s : Session) (live working : Rooms) (hold : List ℕ) wh
 
     pub ask-without-table
         : (t : AskedSession) →
-        t ≡ record { session = s; answer = AskAnswer.Refused AskError.NoTable } →
+        t ≡ record { session = s; answer = Err AskError.NoTable } →
         is_receiver limit s live working hold ≡ true →
         query_of (receiver_of s live working hold) ≡ Query.refused 21 →
         ask_said t live working hold out ≡ ask_says limit query_of s live working hold out
@@ -166,7 +163,7 @@ module _ (limit : ℕ) (s : Session) (live working : Rooms) (hold : List ℕ) wh
 
     -- a query that is written, or refused by the encoder
     pub ask-written
-        : (t : AskedSession) (answer : EncodeAnswer) (phase : Phase) (pdu : RtrPdu) (out' : List ℕ) →
+        : (t : AskedSession) (answer : Result ℕ EncodeError) (phase : Phase) (pdu : RtrPdu) (out' : List ℕ) →
         t ≡ asked_for s answer phase →
         is_receiver limit s live working hold ≡ true →
         query_of (receiver_of s live working hold) ≡ Query.query pdu (stage_of phase) →
@@ -186,14 +183,14 @@ module _ (limit : ℕ) (s : Session) (live working : Rooms) (hold : List ℕ) wh
             ≡ asked_to limit (asked_by (Writing.refused number values) (stage_of phase) (receiver_of s live working hold) out')
         kept number values = ap (λ (l : Left). record { says = Writing.refused number values; out = out'; left = l }) stands
 
-        said : (answer : EncodeAnswer) →
+        said : (answer : Result ℕ EncodeError) →
             ask_said (asked_for s answer phase) live working hold out'
             ≡ asked_to limit (asked_by (writing answer) (stage_of phase) (receiver_of s live working hold) out')
-        said (EncodeAnswer.Written n) = ap (λ (l : Left). record { says = Writing.written n; out = out'; left = in_stage_left (stage_of phase) l }) stands
-        said (EncodeAnswer.Refused EncodeError.PlaceOutside) = kept 11 []
-        said (EncodeAnswer.Refused EncodeError.InvalidUtf8) = kept 8 _
-        said (EncodeAnswer.Refused EncodeError.TooLong) = kept 10 []
-        said (EncodeAnswer.Refused (EncodeError.OutputShort needed)) = kept 9 (needed ∷ [])
+        said (Ok n) = ap (λ (l : Left). record { says = Writing.written n; out = out'; left = in_stage_left (stage_of phase) l }) stands
+        said (Err EncodeError.PlaceOutside) = kept 11 []
+        said (Err EncodeError.InvalidUtf8) = kept 8 _
+        said (Err EncodeError.TooLong) = kept 10 []
+        said (Err (EncodeError.OutputShort needed)) = kept 9 (needed ∷ [])
 
   -- ---- Reconnect
 
@@ -207,7 +204,7 @@ module _ (limit : ℕ) (s : Session) (live working : Rooms) (hold : List ℕ) wh
       working' ≡ replicate (length working) 0 →
       record {
         number = 0;
-        left = leaves (record { life = s.life; phase = Phase.Idle; table = s.table; note = Note.NoNote; live = s.live; working = record { records = 0 }; held = 0 }) live working' hold;
+        left = leaves (record { life = s.life; phase = Phase.Idle; table = s.table; note = None; live = s.live; working = record { records = 0 }; held = 0 }) live working' hold;
       }
       ≡ reconnect_says limit s live working hold
   unfolding reconnect_says
@@ -230,15 +227,15 @@ module _ (limit : ℕ) (s : Session) (live working : Rooms) (hold : List ℕ) wh
   unfolding notify_says
   notify-is n e f = simp e (ap NotifySays.compares (sym f))
 
-pub without-table : (table : LiveTable) (note : Note) → table ≡ LiveTable.NoTable → notified table note ≡ Notified.none
-without-table table note e = ap (λ (t : LiveTable). notified t note) e
+pub without-table : (table : Option Table) (note : Option (ℕ × ℕ)) → table ≡ None → notified table note ≡ Notified.none
+without-table table note e = ap (λ (t : Option Table). notified t note) e
 
-pub without-note : (table : LiveTable) (note : Note) (t : Table) → table ≡ LiveTable.Known t → note ≡ Note.NoNote → notified table note ≡ Notified.none
-without-note table note t e f = ap (λ (x : LiveTable). notified x note) e ∙ ap (λ (x : Note). notified (LiveTable.Known t) x) f
+pub without-note : (table : Option Table) (note : Option (ℕ × ℕ)) (t : Table) → table ≡ Some t → note ≡ None → notified table note ≡ Notified.none
+without-note table note t e f = ap (λ (x : Option Table). notified x note) e ∙ ap (λ (x : Option (ℕ × ℕ)). notified (Some t) x) f
 
-module _ (table : LiveTable) (note : Note) (t : Table) (session serial : ℕ) (e : table ≡ LiveTable.Known t) (f : note ≡ Note.Noted session serial) where
+module _ (table : Option Table) (note : Option (ℕ × ℕ)) (t : Table) (session serial : ℕ) (e : table ≡ Some t) (f : note ≡ Some (session, serial)) where
   with-note : notified table note ≡ cond (eqb session t.session) (compared serial t.serial) Notified.other_session
-  with-note = ap (λ (x : LiveTable). notified x note) e ∙ ap (λ (x : Note). notified (LiveTable.Known t) x) f
+  with-note = ap (λ (x : Option Table). notified x note) e ∙ ap (λ (x : Option (ℕ × ℕ)). notified (Some t) x) f
 
   pub of-other-session : (session ≡ t.session → ⊥) → notified table note ≡ Notified.other_session
   of-other-session h = with-note ∙ simp (ne_eqb session t.session h)
@@ -308,7 +305,7 @@ module _ (limit : ℕ) (known : is_limit limit ≡ true) (version : RtrProtocolV
       live' ≡ replicate (length live) 0 →
       working' ≡ replicate (length working) 0 →
       StartSays.started
-      (leaves (record { life = record { version = version; limit = limit }; phase = Phase.Idle; table = LiveTable.NoTable; note = Note.NoNote; live = record { records = 0 }; working = record { records = 0 }; held = 0 }) live' working' hold)
+      (leaves (record { life = record { version = version; limit = limit }; phase = Phase.Idle; table = None; note = None; live = record { records = 0 }; working = record { records = 0 }; held = 0 }) live' working' hold)
       ≡ start_says limit version live working hold
   unfolding start_says
   start_is live' working' l w h e f =

@@ -1,10 +1,10 @@
 -- The code's calls are the steps of a run: each contract, as Rattle reads it off the source, is the step of specs/Runs.antt. So what is proved of runs is proved of the code; a
 -- contract that is weakened breaks this file. A slice that is lent keeps its length. Assumes nothing.
+use Rattle.std.specs.Prelude.{Ok}
 use Rattle.std.proofs.Common.{[], length, refl}
 use Rattle.rtr_receiver.specs.Promises.{record_limit}
 use Rattle.rtr_receiver.specs.Runs.{Call, Step, Run}
 use Rattle.rtr_receiver.specs.declared.LoadKind.{LoadKind}
-use Rattle.rtr_receiver.specs.declared.StartAnswer.{StartAnswer}
 use Rattle.rtr_receiver.proofs.start.Reads as start-reads
 use Rattle.rtr_receiver.proofs.full_ask.Reads as full-reads
 use Rattle.rtr_receiver.proofs.change_ask.Reads as change-reads
@@ -12,7 +12,7 @@ use Rattle.rtr_receiver.proofs.feed.Reads as feed-reads
 use Rattle.rtr_receiver.proofs.reconnect.Reads as reconnect-reads
 
 -- a start that is not refused begins a run
-pub start-begins : (κs : _) (a : _) (session : _) (s : _) → start-reads.Post κs a (StartAnswer.Started session) s →
+pub start-begins : (κs : _) (a : _) (session : _) (s : _) → start-reads.Post κs a (Ok session) s →
     Run record_limit a.0 (length a.1.1.1.0.now) [] (record { session = session; live = s.1.0.now; working = s.1.1.0.now; hold = a.1.1.1.0.now })
 start-begins κs a session s p = Run.started _ a.1.0.now a.1.1.0.now refl p
 

@@ -1,5 +1,6 @@
 -- What each deed leaves in memory stands for what the definition makes of the receiver: a room that keeps the rules is the room of its records, so
 -- the laws of rooms say what a call makes of it. Assumes nothing.
+use Rattle.std.specs.Prelude.{Option, Some, ⊤, Result, Err}
 use Rattle.std.proofs.Common.{◌≡◌, ℕ, ◌*◌, Bool, true, cond, List, [], ◌∷◌, length, take, replicate, sym, refl, ap, ◌∙◌, ap₂, ⊎_elim, arith, eq-eqb, ne_eqb}
 use denote.Enum.Declared.{tag_of}
 use types.Run.{OneOf, miss}
@@ -10,8 +11,6 @@ use Rattle.rtr_room.specs.Table.{Change, enter, leave}
 use Rattle.rtr_room.specs.Room.{room, records, is_room, Said, Outcome, keeps, entered, gone, outcome_of, enter_said, leave_said, copied}
 use Rattle.rtr_room.specs.Room.Said.{counted, refused_by}
 use Rattle.rtr_room.specs.declared.Record.{Record}
-use Rattle.rtr_room.specs.declared.EnterAnswer.{EnterAnswer}
-use Rattle.rtr_room.specs.declared.LeaveAnswer.{LeaveAnswer}
 use Rattle.rtr_room.proofs.Laws.{room-length, empty-is, copy_is, enter-is, leave-is, enter-refuses, leave-refuses, changed-is, refused-is}
 use Rattle.rtr_receiver.specs.Contents.{Rooms}
 use Rattle.rtr_receiver.specs.Receiver.{Stage, Receiver, Deed, in_stage, stop, on_serial_notify, start_load, on_change_response, changed_to, on_record, finish, no_update}
@@ -22,13 +21,13 @@ use Rattle.rtr_receiver.specs.declared.LoadKind.{LoadKind}
 use Rattle.rtr_receiver.specs.declared.Stop.{Stop}
 use Rattle.rtr_receiver.specs.declared.Phase.{Phase}
 use Rattle.rtr_receiver.specs.declared.Table.{Table}
-use Rattle.rtr_receiver.specs.declared.LiveTable.{LiveTable}
-use Rattle.rtr_receiver.specs.declared.Note.{Note}
 use Rattle.rtr_receiver.specs.declared.Counts.{Counts}
 use Rattle.rtr_receiver.specs.declared.Session.{Session}
 use Rattle.rtr_receiver.specs.declared.Doing.{Doing}
 use Rattle.rtr_receiver.specs.contracts.Phase as phase-enum
 use Rattle.rtr_receiver.proofs.Memory.{room-stands, room-size, with-limit, with-records, left-alike}
+use Rattle.rtr_room.specs.declared.EnterError.{EnterError}
+use Rattle.rtr_room.specs.declared.LeaveError.{LeaveError}
 
 -- ---- rooms
 
@@ -161,18 +160,18 @@ module _ (limit : ℕ) (s : Session) (live working : Rooms) (b : BothRooms limit
       ∙ ap (λ (x : Change). in_memory limit (changed_to x (receiver_of s live working []))) (sym f.0)
 
   -- entering, by what the call answered
-  pub enter-came : (r : Record) (a : EnterAnswer) (w : List ℕ) → record { says = enter_said a; left = w } ≡ entered working s.working.records r → (a' : EnterAnswer) → a ≡ a' → Came limit (records s.working.records working) (enter_said a') w (enter limit r (records s.working.records working))
-  enter-came r a w e a' g = ap (λ (x : EnterAnswer). record { says = enter_said x; left = w }) (sym g) ∙ e ∙ enter-on limit s.working.records working r b.1
+  pub enter-came : (r : Record) (a : Result ℕ EnterError) (w : List ℕ) → record { says = enter_said a; left = w } ≡ entered working s.working.records r → (a' : Result ℕ EnterError) → a ≡ a' → Came limit (records s.working.records working) (enter_said a') w (enter limit r (records s.working.records working))
+  enter-came r a w e a' g = ap (λ (x : Result ℕ EnterError). record { says = enter_said x; left = w }) (sym g) ∙ e ∙ enter-on limit s.working.records working r b.1
 
   -- the working room is a room
-  pub enters-a-room : (r : Record) (a : EnterAnswer) (w : List ℕ) → record { says = enter_said a; left = w } ≡ entered working s.working.records r → a ≡ EnterAnswer.NotARoom → ⊥
+  pub enters-a-room : (r : Record) (a : Result ℕ EnterError) (w : List ℕ) → record { says = enter_said a; left = w } ≡ entered working s.working.records r → a ≡ Err EnterError.NotARoom → ⊥
   enters-a-room r a w e g = ⊎_elim (λ p. omega arith) (λ p. omega arith) (enter-refuses limit 22 r _ (refused-came _ 22 w (enter-came r a w e _ g)).0)
 
   -- leaving
-  pub leave-came : (r : Record) (a : LeaveAnswer) (w : List ℕ) → record { says = leave_said a; left = w } ≡ gone working s.working.records r → (a' : LeaveAnswer) → a ≡ a' → Came limit (records s.working.records working) (leave_said a') w (leave r (records s.working.records working))
-  leave-came r a w e a' g = ap (λ (x : LeaveAnswer). record { says = leave_said x; left = w }) (sym g) ∙ e ∙ leave-on limit s.working.records working r b.1
+  pub leave-came : (r : Record) (a : Result ℕ LeaveError) (w : List ℕ) → record { says = leave_said a; left = w } ≡ gone working s.working.records r → (a' : Result ℕ LeaveError) → a ≡ a' → Came limit (records s.working.records working) (leave_said a') w (leave r (records s.working.records working))
+  leave-came r a w e a' g = ap (λ (x : Result ℕ LeaveError). record { says = leave_said x; left = w }) (sym g) ∙ e ∙ leave-on limit s.working.records working r b.1
 
-  pub leaves-a-room : (r : Record) (a : LeaveAnswer) (w : List ℕ) → record { says = leave_said a; left = w } ≡ gone working s.working.records r → a ≡ LeaveAnswer.NotARoom → ⊥
+  pub leaves-a-room : (r : Record) (a : Result ℕ LeaveError) (w : List ℕ) → record { says = leave_said a; left = w } ≡ gone working s.working.records r → a ≡ Err LeaveError.NotARoom → ⊥
   leaves-a-room r a w e g = let p : ◌≡◌ {A = ℕ} 22 16 = leave-refuses 22 r _ (refused-came _ 22 w (leave-came r a w e _ g)).0 in omega arith
 
   -- ---- loads
@@ -199,7 +198,7 @@ module _ (limit : ℕ) (s : Session) (live working : Rooms) (b : BothRooms limit
       (record {
         life = s.life;
         phase = Phase.Idle;
-        table = LiveTable.Known (record { session = p.session_id; serial = p.serial_number; refresh = refresh; retry = retry; expire = expire });
+        table = Some (record { session = p.session_id; serial = p.serial_number; refresh = refresh; retry = retry; expire = expire });
         note = s.note;
         live = s.working;
         working = record { records = 0 };
@@ -209,9 +208,9 @@ module _ (limit : ℕ) (s : Session) (live working : Rooms) (b : BothRooms limit
   finish-stands p refresh retry expire h₁ h₂ h₃ l w le we =
       let k = room-stands limit s.live.records live b.0 in
       let m = room-stands limit s.working.records working b.1 in
-      let table : LiveTable.Known (record { session = p.session_id; serial = p.serial_number; refresh = refresh; retry = retry; expire = expire })
-      ≡ LiveTable.Known (record { session = p.session_id; serial = p.serial_number; refresh = seconds_or 3600 p.refresh_interval; retry = seconds_or 600 p.retry_interval; expire = seconds_or 7200 p.expire_interval }) =
-      λ i. LiveTable.Known (record { session = p.session_id; serial = p.serial_number; refresh = h₁ i; retry = h₂ i; expire = h₃ i }) in
+      let table : Some (record { session = p.session_id; serial = p.serial_number; refresh = refresh; retry = retry; expire = expire })
+      ≡ Some (record { session = p.session_id; serial = p.serial_number; refresh = seconds_or 3600 p.refresh_interval; retry = seconds_or 600 p.retry_interval; expire = seconds_or 7200 p.expire_interval }) =
+      λ i. Some (record { session = p.session_id; serial = p.serial_number; refresh = h₁ i; retry = h₂ i; expire = h₃ i }) in
       left-alike (with-limit b.4) refl table refl (with-records (sym m.1)) refl (nothing-held s.held b.2)
       (le ∙ ap₂ copied m.0 k.0 ∙ (copy_is limit _ _ (omega (arith, m.1, m.2)) (omega (arith, k.1, k.2))).0)
       (zeros-stand limit working w (room-size limit s.working.records working b.1).0 we)
@@ -239,11 +238,11 @@ module _ (limit : ℕ) (s : Session) (live working : Rooms) (b : BothRooms limit
   passed-stands = kept-stands limit s live working b s refl refl refl refl
 
   -- a Serial Notify changes the note alone
-  pub notify-stands : (id serial : ℕ) (q : Session) → q ≡ record { life = s.life; phase = s.phase; table = s.table; note = Note.Noted id serial; live = s.live; working = s.working; held = s.held } →
+  pub notify-stands : (id serial : ℕ) (q : Session) → q ≡ record { life = s.life; phase = s.phase; table = s.table; note = Some (id, serial); live = s.live; working = s.working; held = s.held } →
       Stands limit q live working (on_serial_notify id serial (receiver_of s live working []))
   notify-stands id serial q f =
       ap (λ (x : Session). leaves x live working []) f
-      ∙ kept-stands limit s live working b (record { life = s.life; phase = s.phase; table = s.table; note = Note.Noted id serial; live = s.live; working = s.working; held = s.held }) refl refl refl refl
+      ∙ kept-stands limit s live working b (record { life = s.life; phase = s.phase; table = s.table; note = Some (id, serial); live = s.live; working = s.working; held = s.held }) refl refl refl refl
 
   -- a stop of a session and the working room as they were
   pub stops : (why : Stop) (q : Session) (w : List ℕ) → (q ≡ stopped_session s why) × (w ≡ replicate (length working) 0) →
@@ -260,14 +259,14 @@ module _ (limit : ℕ) (s : Session) (live working : Rooms) (b : BothRooms limit
 
 -- ---- another session
 
-pub other-session : (id : ℕ) (t : LiveTable) (known : Table) → t ≡ LiveTable.Known known → (id ≡ known.session → ⊥) → (r : Receiver) → on_change_response t id r ≡ stop 15 [] r
+pub other-session : (id : ℕ) (t : Option Table) (known : Table) → t ≡ Some known → (id ≡ known.session → ⊥) → (r : Receiver) → on_change_response t id r ≡ stop 15 [] r
 other-session id t known e h r =
-    ap (λ (x : LiveTable). on_change_response x id r) e
+    ap (λ (x : Option Table). on_change_response x id r) e
     ∙ ap (λ (x : Bool). cond x (start_load LoadKind.Change id r.live r) (stop 15 [] r)) (ne_eqb id known.session h)
 
-pub same-session : (id : ℕ) (t : LiveTable) (known : Table) → t ≡ LiveTable.Known known → id ≡ known.session → (r : Receiver) → on_change_response t id r ≡ start_load LoadKind.Change id r.live r
+pub same-session : (id : ℕ) (t : Option Table) (known : Table) → t ≡ Some known → id ≡ known.session → (r : Receiver) → on_change_response t id r ≡ start_load LoadKind.Change id r.live r
 same-session id t known e h r =
-    ap (λ (x : LiveTable). on_change_response x id r) e
+    ap (λ (x : Option Table). on_change_response x id r) e
     ∙ ap (λ (x : Bool). cond x (start_load LoadKind.Change id r.live r) (stop 15 [] r)) (eq-eqb id known.session h)
 
 -- what comes of a Cache Response after a change ask

@@ -1,9 +1,9 @@
 -- Small histories with their updates, places and tables computed, for the reader of specs/History.antt; the bytes are those of document 01's listing.
 -- Assumes nothing.
+use Rattle.std.specs.Prelude.{None, Option, Some}
 use Rattle.std.proofs.Common.{◌≡◌, ℕ, ◌≤◌, true, false, List, [], ◌∷◌, ◌++◌, length, take, refl, ap, ◌∙◌, arith}
 use Rattle.rtr_models.specs.declared.RtrPdu.{RtrPdu}
 use Rattle.rtr_models.specs.declared.RtrProtocolVersion.TheVariants.{V0, V1}
-use Rattle.rtr_models.specs.declared.Interval.TheVariants.{Absent}
 use Rattle.rtr_codec.specs.Reading.{in_use}
 use Rattle.rtr_codec.specs.Read.{Verdict, read}
 use Rattle.rtr_codec.proofs.Samples.{response_bytes, prefix_bytes, end_bytes, response_pdu, prefix_pdu, end_pdu, response-read, announced-read, withdrawn-read, end_read, later-end-read, other-end-read}
@@ -15,8 +15,6 @@ use Rattle.rtr_receiver.specs.Receiver.{Notified, notified}
 use Rattle.rtr_receiver.specs.Runs.{bytes}
 use Rattle.rtr_receiver.specs.declared.LoadKind.{LoadKind}
 use Rattle.rtr_receiver.specs.declared.Table.{Table}
-use Rattle.rtr_receiver.specs.declared.LiveTable.{LiveTable}
-use Rattle.rtr_receiver.specs.declared.Note.{Note}
 use Rattle.rtr_receiver.proofs.Whole.{told-by, cut_off}
 
 -- ---- Histories, in version 1, with any record limit of 1 or more and any hold of 24 bytes or more
@@ -99,11 +97,11 @@ module _ (limit H : ℕ) (some : 1 ≤ limit) (size : 24 ≤ H) where
 
   -- the table after the load
   abbrev first : Live
-  first = record { info = LiveTable.Known (said 7); records = prefix ∷ [] }
+  first = record { info = Some (said 7); records = prefix ∷ [] }
 
   loaded-is : with_updates limit no_table (loaded ∷ []) ≡ first
   unfolding with_updates with_all
-  loaded-is = ap (λ (c : Change). record { info = LiveTable.Known (said 7); records = kept [] c }) (enter-first limit prefix some)
+  loaded-is = ap (λ (c : Change). record { info = Some (said 7); records = kept [] c }) (enter-first limit prefix some)
 
   after-load : (es : List Event) → comes (load es) ≡ after (loaded ∷ []) (outcome limit V1 first Place.idle (items H [] es))
   unfolding outcome with_updates
@@ -117,7 +115,7 @@ module _ (limit H : ℕ) (some : 1 ≤ limit) (size : 24 ≤ H) where
   unfolding items outcome
   listing = after-load []
 
-  pub listing-table : table_of limit (finished limit H V1 (load [])) ≡ record { info = LiveTable.Known (said 7); records = prefix ∷ [] }
+  pub listing-table : table_of limit (finished limit H V1 (load [])) ≡ record { info = Some (said 7); records = prefix ∷ [] }
   listing-table = ap (λ (o : Outcome). table_of limit o.updates) listing ∙ loaded-is
 
   -- 2. without its last byte: no update, no table, and the load goes on
@@ -161,12 +159,12 @@ module _ (limit H : ℕ) (some : 1 ≤ limit) (size : 24 ≤ H) where
   unfolding items outcome
   change = changing (ended 8 []) ∙ ap withdrew (later-ended-items [])
 
-  pub change-table : table_of limit (finished limit H V1 (load (change_ask (response (withdrawn (ended 8 [])))))) ≡ record { info = LiveTable.Known (said 8); records = [] }
+  pub change-table : table_of limit (finished limit H V1 (load (change_ask (response (withdrawn (ended 8 [])))))) ≡ record { info = Some (said 8); records = [] }
   unfolding with_updates with_all
   change-table =
       ap (λ (o : Outcome). table_of limit o.updates) change
       ∙ ap (λ (l : Live). with_updates limit l (emptied ∷ [])) loaded-is
-      ∙ ap (λ (c : Change). record { info = LiveTable.Known (said 8); records = kept (prefix ∷ []) c }) (leave-first prefix [])
+      ∙ ap (λ (c : Change). record { info = Some (said 8); records = kept (prefix ∷ []) c }) (leave-first prefix [])
 
   -- 5. a change that is refused half-way (the prefix withdrawn twice): the table stays the load's and the connection is lost by 16, though an End of Data follows
   pub refused-change : comes (load (change_ask (response (withdrawn (withdrawn (ended 8 [])))))) ≡ record { updates = loaded ∷ []; place = Place.lost 16 [] }
@@ -185,7 +183,7 @@ version_zero =
     ∷ Item.told (RtrPdu.CacheResponse (record { version = V0; session_id = 4660 }))
     ∷ Item.told
     (RtrPdu.EndOfData
-    (record { version = V0; session_id = 4660; serial_number = 7; refresh_interval = Absent; retry_interval = Absent; expire_interval = Absent }))
+    (record { version = V0; session_id = 4660; serial_number = 7; refresh_interval = None; retry_interval = None; expire_interval = None }))
     ∷ []
 
 pub version-zero : (limit : ℕ) → outcome limit V0 no_table Place.idle version_zero ≡ record { updates = record { kind = LoadKind.Full; records = []; end = said 7 } ∷ []; place = Place.idle }
@@ -193,11 +191,11 @@ unfolding outcome
 version-zero limit = refl
 
 -- document 01's edges of the notify comparison: a serial just past the largest is newer, one halfway round is undefined
-abbrev tabled : ℕ → LiveTable
-tabled serial = LiveTable.Known (record { session = 0; serial = serial; refresh = 0; retry = 0; expire = 0 })
+abbrev tabled : ℕ → Option Table
+tabled serial = Some (record { session = 0; serial = serial; refresh = 0; retry = 0; expire = 0 })
 
-pub past-the-largest : notified (tabled 4294967295) (Note.Noted 0 0) ≡ Notified.newer
+pub past-the-largest : notified (tabled 4294967295) (Some (0, 0)) ≡ Notified.newer
 past-the-largest = refl
 
-pub halfway-round : notified (tabled 0) (Note.Noted 0 2147483648) ≡ Notified.undefined
+pub halfway-round : notified (tabled 0) (Some (0, 2147483648)) ≡ Notified.undefined
 halfway-round = refl

@@ -1,4 +1,5 @@
 -- The run step: what one announced prefix does to the feed from its first byte on, and what several do, one after another. Assumes nothing.
+use Rattle.std.specs.Prelude.{Some, Result, Ok, Err, None}
 use Rattle.std.proofs.Common.{◌≡◌, ℕ, ◌+◌, ◌<◌, ◌≤◌, Bool, true, false, cond, not, ◌||◌, eqb, leb, List, [], length, take, drop, sym, refl, ap, ◌∙◌, subst, ap₂, ⊎_elim, arith, length-drop, take-append-drop, length-take-le, drop-drop, eqb-true, leb-true}
 use mathlib.Core.Bool.{false≢true}
 use Rattle.rtr_models.specs.Codes.{version_number}
@@ -16,7 +17,6 @@ use Rattle.rtr_room.specs.Room.{Found, Outcome, Said, entered, is_room, limit_of
 use Rattle.rtr_room.proofs.Laws.{apart-insert, apart_none, changed-is, enter-applies, enter-changes, enter-keeps, enter-refused-keeps, join-insert, join-length, join-membership, join-none, join-table, look-up-is, merge-is, records-length, records-none, records-of-room, refused-is, rules-exactly}
 use Rattle.rtr_room.proofs.Laws.Tests.{first_of, second-of, both}
 use Rattle.rtr_room.specs.declared.Record.{Record}
-use Rattle.rtr_room.specs.declared.MergeAnswer.{MergeAnswer}
 use Rattle.rtr_receiver.specs.Contents.{Contents, Rooms}
 use Rattle.rtr_receiver.specs.Receiver.{Stage, Deed, is_due, listens, changed_to, on_pdu, on_piece, no_update}
 use Rattle.rtr_receiver.specs.Promises.{cleared, in_order, is_loading, is_stopped, receiver_of, stage_of, tabled}
@@ -24,15 +24,13 @@ use Rattle.rtr_receiver.specs.Private.{carried_by, feed_here, may_gather, Gather
 use Rattle.rtr_receiver.specs.declared.LoadKind.{LoadKind}
 use Rattle.rtr_receiver.specs.declared.Phase.{Phase}
 use Rattle.rtr_receiver.specs.declared.Session.{Session}
-use Rattle.rtr_receiver.specs.declared.Carried.{Carried}
-use Rattle.rtr_receiver.specs.declared.Announced.{Announced}
-use Rattle.rtr_receiver.specs.declared.Then.{Then}
 use Rattle.rtr_receiver.proofs.Memory.{room-size, room-stands}
 use Rattle.rtr_receiver.proofs.Deeds.{enter-on}
 use Rattle.rtr_receiver.proofs.Feeds.{from}
 use Rattle.rtr_receiver.proofs.Good.{entry-in-rule}
 use Rattle.rtr_receiver.proofs.Steps.{shape_of, shape_is}
 use Rattle.rtr_receiver.proofs.Whole.{IsPdu, Prefixes, pdu-fed, on-prefix}
+use Rattle.rtr_room.specs.declared.NotARoom.{NotARoom}
 
 -- versions of one number are one
 same_version : (a b : RtrProtocolVersion) → eqb (version_number a) (version_number b) ≡ true → a ≡ b
@@ -46,7 +44,7 @@ named-so : (pdu : RtrPdu) (a b : Bool) (x y : Record) → a ≡ b → x ≡ y �
 named-so pdu a b x y e f h = subst (λ (z : Record). Prefixes pdu b z) f (subst (λ (c : Bool). Prefixes pdu c x) e h)
 
 -- a PDU that carries an announced entry is a prefix of either family, and due in a load
-announces-entry : (pdu : RtrPdu) (x : Record) → carried_by pdu ≡ Carried.Record true x → Prefixes pdu true x × ((kind : LoadKind) (session : ℕ) → is_due (type_of pdu) (Stage.loading kind session) ≡ true)
+announces-entry : (pdu : RtrPdu) (x : Record) → carried_by pdu ≡ Some (true, x) → Prefixes pdu true x × ((kind : LoadKind) (session : ℕ) → is_due (type_of pdu) (Stage.loading kind session) ≡ true)
 unfolding carried_by
 announces-entry (IPv4Prefix p) x e =
     let is : announces p.flags ≡ true = cc in
@@ -67,7 +65,7 @@ announces-entry (ErrorReport p) x e = absurd (let z : ◌≡◌ {A = ℕ} 0 1 = 
 
 module _ (version : RtrProtocolVersion) (piece : List ℕ) (at : ℕ) (pdu : RtrPdu) (consumed : ℕ) (x : Record) (inside : at ≤ length piece)
     (reads : read in_use (drop at piece) ≡ Verdict.accepted pdu consumed) (few : consumed ≤ 32)
-    (spoken : eqb (version_number (version_of pdu)) (version_number version) ≡ true) (carries : carried_by pdu ≡ Carried.Record true x) where
+    (spoken : eqb (version_number (version_of pdu)) (version_number version) ≡ true) (carries : carried_by pdu ≡ Some (true, x)) where
   -- what is left of the piece: the PDU's bytes, and what is behind them
   consumes : (consumed ≡ header_length (drop at piece)) × (8 ≤ consumed) × (consumed ≤ length (drop at piece))
   consumes = read-consumes in_use (drop at piece) pdu consumed reads
@@ -103,7 +101,7 @@ module _ (version : RtrProtocolVersion) (piece : List ℕ) (at : ℕ) (pdu : Rtr
       nothing-more : updates + 0 ≡ updates
       nothing-more = omega arith
 
-  pub entry-announced : AnnouncedAt version piece at (Announced.Entry x (at + consumed))
+  pub entry-announced : AnnouncedAt version piece at (Some (x, (at + consumed)))
   entry-announced = (
     omega (arith, consumes.1),
     omega (arith, consumes.2, length-drop at piece),
@@ -245,14 +243,14 @@ module _ (limit k : ℕ) (version : RtrProtocolVersion) (piece : List ℕ) (at c
       ∙ merge-is limit k (records count working) (records n tail) r.3 s.3 (omega (arith, r.1, s.1, g.within)) (omega (arith, s.1, s.2))
       ∙ ap (λ (m : ℕ). record { says = Said.counted m; left = room limit (join (records count working) (records n tail)) }) (λ i. r.1 i + s.1 i)
 
-  pub merged-run : (a : MergeAnswer) (m : ℕ) → ◌≡◌ {A = Outcome} (record { says = merge_said a; left = working' }) (merged working count tail n) → a ≡ MergeAnswer.Merged m
+  pub merged-run : (a : Result ℕ NotARoom) (m : ℕ) → ◌≡◌ {A = Outcome} (record { says = merge_said a; left = working' }) (merged working count tail n) → a ≡ Ok m
       → TakenTo limit version piece at count working m next working'
   unfolding t u
   merged-run a m e is =
       let r = room-stands limit count working ruled in
       let s = room-stands k n tail g.ruled in
       let came : ◌≡◌ {A = Outcome} (record { says = Said.counted m; left = working' }) (record { says = Said.counted (count + n); left = room limit (join t u) }) =
-      ap (λ (x : MergeAnswer). record { says = merge_said x; left = working' }) (sym is) ∙ e ∙ merges in
+      ap (λ (x : Result ℕ NotARoom). record { says = merge_said x; left = working' }) (sym is) ∙ e ∙ merges in
       let says : Said.counted m ≡ Said.counted (count + n) = ap (λ (o : Outcome). o.says) came in
       let total : m ≡ count + n = cc in
       let left : working' ≡ room limit (join t u) = ap (λ (o : Outcome). o.left) came in
@@ -269,9 +267,9 @@ module _ (limit k : ℕ) (version : RtrProtocolVersion) (piece : List ℕ) (at c
         gathered = subst (Gathers limit version piece at next t) (sym holds) g.gathered;
       }
 
-  pub always-merged : (a : MergeAnswer) → ◌≡◌ {A = Outcome} (record { says = merge_said a; left = working' }) (merged working count tail n) → a ≡ MergeAnswer.NotARoom → ⊥
+  pub always-merged : (a : Result ℕ NotARoom) → ◌≡◌ {A = Outcome} (record { says = merge_said a; left = working' }) (merged working count tail n) → a ≡ Err (record {}) → ⊥
   always-merged a e is =
-      let says : Said.refused_by 22 ≡ Said.counted (count + n) = ap (λ (o : Outcome). o.says) (ap (λ (x : MergeAnswer). record { says = merge_said x; left = working' }) (sym is) ∙ e ∙ merges) in
+      let says : Said.refused_by 22 ≡ Said.counted (count + n) = ap (λ (o : Outcome). o.says) (ap (λ (x : Result ℕ NotARoom). record { says = merge_said x; left = working' }) (sym is) ∙ e ∙ merges) in
       let z : ◌≡◌ {A = ℕ} 0 1 = cc in omega arith
 
 -- ---- The step
@@ -306,7 +304,7 @@ module _ (limit : ℕ) (s : Session) (live working : Rooms) (hold piece : List �
 
     -- a run is a step that goes on
     pub run-steps : (t : Session) → t ≡ record { life = s.life; phase = s.phase; table = s.table; note = s.note; live = s.live; working = record { records = count }; held = s.held } → at < next
-        → SteppedTo limit (feed_here limit s live working hold piece at updates) piece at t next updates live working' hold Then.Again
+        → SteppedTo limit (feed_here limit s live working hold piece at updates) piece at t next updates live working' hold None
     run-steps t is further =
         let shape = shape_of limit s live working hold ready.0 in
         let size = own-size limit s.working.records working shape.working-room in
@@ -317,7 +315,7 @@ module _ (limit : ℕ) (s : Session) (live working : Rooms) (hold piece : List �
         let order : in_order done ≡ true =
         both (tabled done) (cleared done) (first_of (tabled s) (cleared s) shape.order)
         (both (is_loading s.phase || eqb count 0) (not (is_stopped s.phase) || eqb s.held 0) (ap (λ (b : Bool). b || eqb count 0) loads) quiet) in
-        subst (λ (x : Session). SteppedTo limit (feed_here limit s live working hold piece at updates) piece at x next updates live working' hold Then.Again) (sym is) (
+        subst (λ (x : Session). SteppedTo limit (feed_here limit s live working hold piece at updates) piece at x next updates live working' hold None) (sym is) (
           shape_is limit done live working' hold (record { live-room = shape.live-room; working-room = ruled; stream = shape.stream; order = order; limited = shape.limited }),
           ready.1,
           further,

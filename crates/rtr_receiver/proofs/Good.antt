@@ -1,4 +1,5 @@
 -- Receiver shape on tables: what a receiver's parts have to do with each other, kept by every PDU and every stop. Assumes nothing.
+use Rattle.std.specs.Prelude.{Option, Some, None}
 use Rattle.std.proofs.Common.{◌≡◌, ℕ, ◌≤◌, Bool, true, false, cond, eqb, ◌⊎◌, List, [], length, sym, refl, ap, ◌∙◌, inl, inr, arith, le-leb}
 use mathlib.Core.Bool.{false≢true}
 use Rattle.rtr_models.specs.Values.{announces, type_of}
@@ -14,10 +15,9 @@ use Rattle.rtr_receiver.specs.Receiver.{Stage, Receiver, Deed, is_due, session_i
 use Rattle.rtr_receiver.specs.Receiver.Stage.{idle, must_reset, asked_full, asked_change, loading, stopped}
 use Rattle.rtr_receiver.specs.History.{has_table}
 use Rattle.rtr_receiver.specs.Private.{carried_by}
-use Rattle.rtr_receiver.specs.declared.Carried.{Carried}
 use Rattle.rtr_receiver.specs.declared.LoadKind.{LoadKind}
-use Rattle.rtr_receiver.specs.declared.LiveTable.{LiveTable}
 use Rattle.rtr_receiver.proofs.Turns.{prefixes-alike, pdu-by}
+use Rattle.rtr_receiver.specs.declared.Table.{Table}
 
 -- a change is under way; a load is; it stopped
 abbrev pub change_in : Stage → Bool
@@ -84,7 +84,7 @@ reset-not-loading (loading kind session) due = absurd (false≢true due)
 reset-not-loading (stopped number values) due = refl
 
 -- the entry of a prefix whose lengths are in rule is in rule
-pub entry-in-rule : (pdu : RtrPdu) (announced : Bool) (x : Record) → LengthsInRule pdu → carried_by pdu ≡ Carried.Record announced x → in_rule x ≡ true
+pub entry-in-rule : (pdu : RtrPdu) (announced : Bool) (x : Record) → LengthsInRule pdu → carried_by pdu ≡ Some (announced, x) → in_rule x ≡ true
 unfolding carried_by
 entry-in-rule (IPv4Prefix p) announced x l e =
     let same : ipv4_record p.prefix_length p.max_length p.prefix p.asn ≡ x = cc in
@@ -170,9 +170,9 @@ module _ (limit : ℕ) where
   response-good session r g LoadKind.Full = full-good session r g
   response-good session r g LoadKind.Change = table r.table refl
     where
-      table : (t : LiveTable) → r.table ≡ t → Good limit (on_change_response t session r)
-      table LiveTable.NoTable e = stop-good 15 [] r g
-      table (LiveTable.Known t) e = go (eqb session t.session)
+      table : (t : Option Table) → r.table ≡ t → Good limit (on_change_response t session r)
+      table None e = stop-good 15 [] r g
+      table (Some t) e = go (eqb session t.session)
         where
           go : (b : Bool) → Good limit (cond b (start_load LoadKind.Change session r.live r) (stop 15 [] r))
           go true = change-good session r g (ap has_table e)

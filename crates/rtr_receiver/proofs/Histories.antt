@@ -1,6 +1,7 @@
 -- A receiver goes the way that the history's page says: at each of its states there is the place on that page where the connection stands (`At`), and each PDU does what the page says of it, and counts an
 -- update exactly where the page finishes one (`Follows`). So each byte, ask and reconnect leads from receiver and place to receiver and place (`Leads`): the updates that finish between make the new live table, are
 -- as many as a feed counts (`Counts`), and come before those still to come. Assumes nothing.
+use Rattle.std.specs.Prelude.{Option, Some, None}
 use Rattle.std.proofs.Common.{◌≡◌, ℕ, ◌+◌, Bool, true, false, cond, eqb, leb, List, [], ◌∷◌, ◌++◌, length, sym, refl, ap, ◌∙◌, subst, append_assoc, append-nil, arith, length-append}
 use mathlib.Core.Bool.{false≢true}
 use Rattle.rtr_models.specs.Values.{announces, type_of}
@@ -21,7 +22,6 @@ use Rattle.rtr_receiver.specs.History.Next.{goes, finishes}
 use Rattle.rtr_receiver.specs.Runs.{bytes}
 use Rattle.rtr_receiver.specs.declared.LoadKind.{LoadKind}
 use Rattle.rtr_receiver.specs.declared.Table.{Table}
-use Rattle.rtr_receiver.specs.declared.LiveTable.{LiveTable}
 use Rattle.rtr_receiver.proofs.Feeds.{from}
 use Rattle.rtr_receiver.proofs.Kept.{pdu-keeps, told-drops}
 
@@ -77,9 +77,9 @@ module _ (limit H : ℕ) where
   response-follows session r (Place.asked LoadKind.Change) due (at-change e) =
       subst (λ (s : Stage). Follows r (no_update (on_cache_response (kind_in s) session r)) (goes (cond (of_session r.table session) (Place.loading LoadKind.Change session []) (Place.lost 15 [])))) (sym e) (table r.table refl)
     where
-      table : (t : LiveTable) → r.table ≡ t → Follows r (no_update (on_change_response t session r)) (goes (cond (of_session t session) (Place.loading LoadKind.Change session []) (Place.lost 15 [])))
-      table LiveTable.NoTable q = stopped-lost 15 [] r
-      table (LiveTable.Known t) q = go (eqb session t.session)
+      table : (t : Option Table) → r.table ≡ t → Follows r (no_update (on_change_response t session r)) (goes (cond (of_session t session) (Place.loading LoadKind.Change session []) (Place.lost 15 [])))
+      table None q = stopped-lost 15 [] r
+      table (Some t) q = go (eqb session t.session)
         where
           go : (b : Bool) → Follows r (no_update (cond b (start_load LoadKind.Change session r.live r) (stop 15 [] r))) (goes (cond b (Place.loading LoadKind.Change session []) (Place.lost 15 [])))
           go true = onward (at_load refl refl) refl refl
@@ -128,7 +128,7 @@ module _ (limit H : ℕ) where
       go : (b : Bool) →
           Follows r (cond b (record { then = finish q r; updates = 1 }) (no_update (stop 15 [] r)))
           (cond b (finishes (record { kind = kind; records = cs; end = end_says q })) (goes (Place.lost 15 [])))
-      go true = done refl (λ i. record { info = LiveTable.Known (end_says q); records = w i }) refl
+      go true = done refl (λ i. record { info = Some (end_says q); records = w i }) refl
       go false = stopped-lost 15 [] r
   end-follows q r (Place.lost number values) due a = absurd (false≢true due)
 
@@ -377,7 +377,7 @@ module _ (limit H : ℕ) where
       ap (λ (w : Writing). (asked_by w Stage.asked_full r e.out).receiver) (reset-query-says in_use r.version out)
       ∙ written-if (leb 8 (length out)) 8 Stage.asked_full r e.out
 
-  pub change-is : (r : Receiver) (t : Table) (out : List ℕ) → (ask (serial_query (LiveTable.Known t) r) r out).receiver ≡ cond (leb 12 (length out)) (in_stage Stage.asked_change r) r
+  pub change-is : (r : Receiver) (t : Table) (out : List ℕ) → (ask (serial_query (Some t) r) r out).receiver ≡ cond (leb 12 (length out)) (in_stage Stage.asked_change r) r
   change-is r t out =
       let e = encode in_use (SerialQuery (record { version = r.version; session_id = t.session; serial_number = t.serial })) [] out in
       ap (λ (w : Writing). (asked_by w Stage.asked_change r e.out).receiver) (serial-query-says in_use r.version t.session t.serial out)
@@ -416,11 +416,11 @@ module _ (limit H : ℕ) where
   pub change-follows : (r : Receiver) (p : Place) (out : List ℕ) → At r p → Asks r p LoadKind.Change (length out) (ask (change_query r.stage r) r out).receiver
   change-follows r p out (at-idle e) = subst (Asks r p LoadKind.Change (length out)) (sym (asking (λ s. change_query s r) r out e)) (table r.table refl)
     where
-      table : (t : LiveTable) → r.table ≡ t → Asks r Place.idle LoadKind.Change (length out) (ask (serial_query t r) r out).receiver
-      table LiveTable.NoTable q = unasked r _ Place.idle LoadKind.Change _ refl (ap (λ (x : LiveTable). on_ask x Place.idle LoadKind.Change (length out)) q) (at-idle e)
-      table (LiveTable.Known t) q =
+      table : (t : Option Table) → r.table ≡ t → Asks r Place.idle LoadKind.Change (length out) (ask (serial_query t r) r out).receiver
+      table None q = unasked r _ Place.idle LoadKind.Change _ refl (ap (λ (x : Option Table). on_ask x Place.idle LoadKind.Change (length out)) q) (at-idle e)
+      table (Some t) q =
           asked-if (leb 12 (length out)) r _ Place.idle (Place.asked LoadKind.Change) LoadKind.Change _ Stage.asked_change (change-is r t out)
-          (ap (λ (x : LiveTable). on_ask x Place.idle LoadKind.Change (length out)) q) (at-change refl) (at-idle e)
+          (ap (λ (x : Option Table). on_ask x Place.idle LoadKind.Change (length out)) q) (at-change refl) (at-idle e)
   change-follows r p out (at-reset e) = unasked r _ p LoadKind.Change _ (asking (λ s. change_query s r) r out e) refl (at-reset e)
   change-follows r p out (at-full e) = unasked r _ p LoadKind.Change _ (asking (λ s. change_query s r) r out e) refl (at-full e)
   change-follows r p out (at-change e) = unasked r _ p LoadKind.Change _ (asking (λ s. change_query s r) r out e) refl (at-change e)

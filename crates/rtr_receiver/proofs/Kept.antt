@@ -1,5 +1,6 @@
 -- What every PDU keeps, whatever the receiver: its version for life; an empty hold; a stop is by 13 to 19; and the one update that a phase can still give in a feed is given once, since a load begins
 -- by an ask alone. From there what a feed keeps: bytes are taken one by one, a stop takes those up to the one that made it, one update finishes at the most. Assumes nothing.
+use Rattle.std.specs.Prelude.{Option, Some, None}
 use Rattle.std.proofs.Common.{◌≡◌, ℕ, suc, ◌+◌, ◌<◌, ◌≤◌, Bool, true, false, cond, eqb, ◌⊎◌, List, [], ◌∷◌, ◌++◌, length, take, sym, refl, ap, ◌∙◌, subst, inl, inr, arith, le-leb}
 use mathlib.Core.Bool.{false≢true}
 use Rattle.rtr_models.specs.Values.{announces, type_of}
@@ -16,9 +17,9 @@ use Rattle.rtr_room.proofs.Laws.{enter-refuses, leave-refuses}
 use Rattle.rtr_receiver.specs.Receiver.{Stage, Receiver, Deed, Feed, is_stop, is_due, kind_in, session_in, holding, stop, no_update, on_change_response, on_cache_response, changed_to, on_record, finish, on_end_of_data, deed_of, on_pdu, heard, listens, on_byte, on_piece}
 use Rattle.rtr_receiver.specs.Receiver.Stage.{idle, must_reset, asked_full, asked_change, loading, stopped}
 use Rattle.rtr_receiver.specs.declared.LoadKind.{LoadKind}
-use Rattle.rtr_receiver.specs.declared.LiveTable.{LiveTable}
 use Rattle.rtr_receiver.proofs.Feeds.{stopped-takes-none}
 use Rattle.rtr_receiver.proofs.Turns.{pdu-by}
+use Rattle.rtr_receiver.specs.declared.Table.{Table}
 
 -- how many updates a phase can still give before the next ask
 abbrev pub to_come : Stage → ℕ
@@ -90,9 +91,9 @@ response-keeps session r LoadKind.Change c = table r.table
         record { version = refl; held = λ h. h; spends = omega arith; rightly = λ _. refl; clears = λ on off. absurd (let z : ◌≡◌ {A = ℕ} 0 1 = cc in omega arith) }
     go false = stop-keeps 15 [] r refl
 
-    table : (t : LiveTable) → Keeps r (no_update (on_change_response t session r))
-    table LiveTable.NoTable = stop-keeps 15 [] r refl
-    table (LiveTable.Known t) = go (eqb session t.session)
+    table : (t : Option Table) → Keeps r (no_update (on_change_response t session r))
+    table None = stop-keeps 15 [] r refl
+    table (Some t) = go (eqb session t.session)
 
 module _ (limit : ℕ) where
   changed-keeps : (c : Change) (r : Receiver) → ((n : ℕ) → c ≡ Change.refused n → is_stop n ≡ true) → Keeps r (no_update (changed_to c r))

@@ -1,6 +1,7 @@
 -- The laws that higher crates and readers cite of the receiver's calls, over every limit: a refused call changes nothing, and when a start is refused; every call keeps receiver shape and the version; what a feed takes and counts;
 -- a stop clears and repeats. Each is about the promises of specs/Promises.antt, but the last two: the table that records make (specs/History.antt).
 -- Assumes nothing.
+use Rattle.std.specs.Prelude.{Option, Some, None}
 use Rattle.std.proofs.Common.{◌≡◌, ℕ, suc, ◌*◌, ◌<◌, ◌≤◌, Bool, true, false, cond, ◌&&◌, eqb, leb, ◌↔◌, List, [], ◌∷◌, ◌++◌, length, take, sym, refl, ap, ◌∙◌, subst, append-nil, arith, eq-eqb, eqb-true, le-leb, leb-true}
 use Rattle.rtr_models.specs.declared.RtrProtocolVersion.{RtrProtocolVersion}
 use Rattle.rtr_encode.specs.Encode.{Writing, encode}
@@ -16,7 +17,6 @@ use Rattle.rtr_receiver.specs.Promises.{Left, Ending, FeedSays, StartSays, AskSa
 use Rattle.rtr_receiver.specs.History.{Event, Changed, Update, applied, kept, with_all, finished}
 use Rattle.rtr_receiver.specs.Runs.{Call, Memory, Step, Run, bytes, history_of}
 use Rattle.rtr_receiver.specs.declared.LoadKind.{LoadKind}
-use Rattle.rtr_receiver.specs.declared.LiveTable.{LiveTable}
 use Rattle.rtr_receiver.specs.declared.Session.{Session}
 use Rattle.rtr_receiver.proofs.Feeds.{from, stopped-takes-none}
 use Rattle.rtr_receiver.proofs.Memory.{limit_is, limit-of, standing}
@@ -24,6 +24,7 @@ use Rattle.rtr_receiver.proofs.Steps.{shape_of, good_of}
 use Rattle.rtr_receiver.proofs.Kept.{to_come, stops_rightly, Cleared, piece-keeps, Through, through}
 use Rattle.rtr_receiver.proofs.Histories.{with-one-more, piece-follows, onward-by, all-between}
 use Rattle.rtr_receiver.proofs.Runs.{Stands, after, run_along, in-shape, is-receiver, step-stands, history-snoc}
+use Rattle.rtr_receiver.specs.declared.Table.{Table}
 
 -- ---- A refused call changes nothing
 
@@ -322,9 +323,9 @@ full-rightly asked_change r = refl
 full-rightly (loading kind session) r = refl
 full-rightly (stopped n x) r = refl
 
-serial-rightly : (t : LiveTable) (r : Receiver) → leads_rightly (serial_query t r) ≡ true
-serial-rightly LiveTable.NoTable r = refl
-serial-rightly (LiveTable.Known t) r = refl
+serial-rightly : (t : Option Table) (r : Receiver) → leads_rightly (serial_query t r) ≡ true
+serial-rightly None r = refl
+serial-rightly (Some t) r = refl
 
 change-rightly : (stage : Stage) (r : Receiver) → leads_rightly (change_query stage r) ≡ true
 change-rightly idle r = serial-rightly r.table r

@@ -1,4 +1,5 @@
 -- A PDU by what it is: what the definition makes of each kind, and that the code decides the same. By the cases of the PDU. Assumes nothing.
+use Rattle.std.specs.Prelude.{Option, ⊤, Some, None, Result}
 use Rattle.std.proofs.Common.{◌≡◌, ℕ, ◌+◌, Bool, true, false, cond, eqb, [], ◌∷◌, sym, refl, ap, ◌∙◌, ap₂}
 use mathlib.Core.Bool.{false≢true}
 use denote.Enum.Declared.{tag_of}
@@ -23,16 +24,15 @@ use Rattle.rtr_room.specs.Table.{ipv4_record, ipv6_record}
 use Rattle.rtr_receiver.specs.Receiver.{Receiver, Deed, is_due, stop, on_serial_notify, on_record, no_update, deed_of, on_kind, of_version, on_pdu, listens}
 use Rattle.rtr_receiver.specs.Promises.{is_loading}
 use Rattle.rtr_receiver.specs.Private.{response_in, record_in, key_in, reset_in, end_in, carried_by, carried_out, placed, Decides, Updates, goes_on_in, after_pdu}
-use Rattle.rtr_receiver.specs.declared.Carried.{Carried}
 use Rattle.rtr_receiver.specs.declared.Doing.{Doing}
 use Rattle.rtr_receiver.specs.declared.Stop.{Stop}
-use Rattle.rtr_receiver.specs.declared.LiveTable.{LiveTable}
 use Rattle.rtr_receiver.specs.declared.Phase.{Phase}
-use Rattle.rtr_receiver.specs.declared.Then.{Then}
 use Rattle.rtr_receiver.specs.declared.DeedDone.{DeedDone}
 use Rattle.rtr_receiver.specs.contracts.Phase as phase-enum
 use Rattle.rtr_receiver.specs.contracts.Doing as doing-enum
 use Rattle.rtr_receiver.proofs.Turns.{notify-due, never-due, prefixes-alike, load-turn}
+use Rattle.rtr_receiver.specs.declared.Table.{Table}
+use Rattle.rtr_receiver.specs.declared.FeedError.{FeedError}
 
 -- no update either way
 no-update-either : (b : Bool) (x y : Receiver) → cond b (no_update x) (no_update y) ≡ no_update (cond b x y)
@@ -70,16 +70,16 @@ module _ (limit : ℕ) (r : Receiver) (pdu : RtrPdu) where
 -- what `carried_by` makes of a PDU
 module _ (pdu : RtrPdu) where
   pub carried-ipv4 : (p : RtrIPv4Prefix) → pdu ≡ IPv4Prefix p → (announced : Bool) → announced ≡ announces p.flags →
-      (x : Record) → x ≡ ipv4_record p.prefix_length p.max_length p.prefix p.asn → Carried.Record announced x ≡ carried_by pdu
+      (x : Record) → x ≡ ipv4_record p.prefix_length p.max_length p.prefix p.asn → Some (announced, x) ≡ carried_by pdu
   unfolding carried_by
-  carried-ipv4 p e announced f x g = ap₂ (λ (b : Bool) (y : Record). Carried.Record b y) f g ∙ ap carried_by (sym e)
+  carried-ipv4 p e announced f x g = ap₂ (λ (b : Bool) (y : Record). Some (b, y)) f g ∙ ap carried_by (sym e)
 
   pub carried-ipv6 : (p : RtrIPv6Prefix) → pdu ≡ IPv6Prefix p → (announced : Bool) → announced ≡ announces p.flags →
-      (x : Record) → x ≡ ipv6_record p.prefix_length p.max_length p.prefix.w0 p.prefix.w1 p.prefix.w2 p.prefix.w3 p.asn → Carried.Record announced x ≡ carried_by pdu
+      (x : Record) → x ≡ ipv6_record p.prefix_length p.max_length p.prefix.w0 p.prefix.w1 p.prefix.w2 p.prefix.w3 p.asn → Some (announced, x) ≡ carried_by pdu
   unfolding carried_by
-  carried-ipv6 p e announced f x g = ap₂ (λ (b : Bool) (y : Record). Carried.Record b y) f g ∙ ap carried_by (sym e)
+  carried-ipv6 p e announced f x g = ap₂ (λ (b : Bool) (y : Record). Some (b, y)) f g ∙ ap carried_by (sym e)
 
-pub carried_none : (pdu : RtrPdu) → OneOf (0 ∷ 1 ∷ 2 ∷ 3 ∷ 6 ∷ 7 ∷ 8 ∷ 9 ∷ []) (tag_of pdu-enum.the_type pdu) → Carried.Nothing ≡ carried_by pdu
+pub carried_none : (pdu : RtrPdu) → OneOf (0 ∷ 1 ∷ 2 ∷ 3 ∷ 6 ∷ 7 ∷ 8 ∷ 9 ∷ []) (tag_of pdu-enum.the_type pdu) → None ≡ carried_by pdu
 unfolding carried_by
 carried_none (SerialNotify p) h = refl
 carried_none (SerialQuery p) h = refl
@@ -93,9 +93,9 @@ carried_none (RouterKey p) h = refl
 carried_none (ErrorReport p) h = refl
 
 -- what the definition makes of a PDU that carries a record
-deed-of : ℕ → Receiver → Deed → Carried → Deed
-deed-of limit r deed (Carried.Record announced x) = no_update (record_in limit r.stage announced x r)
-deed-of limit r deed Carried.Nothing = deed
+deed-of : ℕ → Receiver → Deed → Option (Bool × Record) → Deed
+deed-of limit r deed (Some (announced, x)) = no_update (record_in limit r.stage announced x r)
+deed-of limit r deed None = deed
 
 -- an IPv6 prefix is due where an IPv4 one is
 ipv6-turn : (r to : Receiver) → cond (is_due RtrPduType.IPv6Prefix r.stage) (no_update to) (no_update (stop 13 [] r)) ≡ no_update (cond (is_due RtrPduType.IPv4Prefix r.stage) to (stop 13 [] r))
@@ -117,17 +117,17 @@ kind-carried limit r (CacheReset p) = refl
 kind-carried limit r (RouterKey p) = refl
 kind-carried limit r (ErrorReport p) = refl
 
-pub kind-record : (limit : ℕ) (r : Receiver) (pdu : RtrPdu) (announced : Bool) (x : Record) → carried_by pdu ≡ Carried.Record announced x →
+pub kind-record : (limit : ℕ) (r : Receiver) (pdu : RtrPdu) (announced : Bool) (x : Record) → carried_by pdu ≡ Some (announced, x) →
     on_kind limit pdu r ≡ no_update (record_in limit r.stage announced x r)
 unfolding deed-of
 kind-record limit r pdu announced x e = kind-carried limit r pdu ∙ ap (deed-of limit r (on_kind limit pdu r)) e
 
 -- what a cache never sends a router
-carries-none : Carried → Bool
-carries-none (Carried.Record announced x) = false
-carries-none Carried.Nothing = true
+carries-none : Option (Bool × Record) → Bool
+carries-none (Some (announced, x)) = false
+carries-none None = true
 
-pub kind-out : (limit : ℕ) (r : Receiver) (pdu : RtrPdu) → OneOf (1 ∷ 2 ∷ 4 ∷ 5 ∷ 9 ∷ []) (tag_of pdu-enum.the_type pdu) → carried_by pdu ≡ Carried.Nothing →
+pub kind-out : (limit : ℕ) (r : Receiver) (pdu : RtrPdu) → OneOf (1 ∷ 2 ∷ 4 ∷ 5 ∷ 9 ∷ []) (tag_of pdu-enum.the_type pdu) → carried_by pdu ≡ None →
     on_kind limit pdu r ≡ no_update (stop 13 [] r)
 unfolding on_kind deed_of carried_by carries-none
 kind-out limit r (SerialNotify p) h e = absurd (miss (1 ∷ 2 ∷ 4 ∷ 5 ∷ 9 ∷ []) 0 tt h)
@@ -172,8 +172,8 @@ in-turn limit r doing to true e = e
 in-turn limit r doing to false e = refl
 
 -- a record, and a Router Key, in a load and out of one
-module _ (phase : Phase) (table : LiveTable) (pdu : RtrPdu) (d : Doing) where
-  pub takes-record : (announced : Bool) (x : Record) → carried_by pdu ≡ Carried.Record announced x → d ≡ cond (is_loading phase) (Doing.Takes announced x) (Doing.Stops Stop.OutOfTurn) →
+module _ (phase : Phase) (table : Option Table) (pdu : RtrPdu) (d : Doing) where
+  pub takes-record : (announced : Bool) (x : Record) → carried_by pdu ≡ Some (announced, x) → d ≡ cond (is_loading phase) (Doing.Takes announced x) (Doing.Stops Stop.OutOfTurn) →
       Decides phase table d (λ limit r. on_kind limit pdu r)
   takes-record announced x e f limit r =
       let q = placed phase table r in
@@ -204,7 +204,7 @@ none-finished (Doing.Finishes p) h limit r = absurd (miss (0 ∷ 1 ∷ 2 ∷ 3 �
 -- ---- after a PDU
 
 -- every phase but Stopped goes on
-pub goes_on : (p : Phase) → OneOf (0 ∷ 1 ∷ 2 ∷ 3 ∷ 4 ∷ []) (tag_of phase-enum.the_type p) → goes_on_in p ≡ Then.Again
+pub goes_on : (p : Phase) → OneOf (0 ∷ 1 ∷ 2 ∷ 3 ∷ 4 ∷ []) (tag_of phase-enum.the_type p) → goes_on_in p ≡ None
 goes_on Phase.Idle h = refl
 goes_on Phase.MustReset h = refl
 goes_on Phase.AskedFull h = refl
@@ -212,5 +212,5 @@ goes_on Phase.AskedChange h = refl
 goes_on (Phase.Loading kind session) h = refl
 goes_on (Phase.Stopped why) h = absurd (miss (0 ∷ 1 ∷ 2 ∷ 3 ∷ 4 ∷ []) 5 tt h)
 
-pub step_is : (d : DeedDone) (next updates : ℕ) (then : Then) → then ≡ goes_on_in d.session.phase → record { session = d.session; next = next; updates = updates + d.updates; then = then } ≡ after_pdu d next updates
-step_is d next updates then e = ap (λ (x : Then). record { session = d.session; next = next; updates = updates + d.updates; then = x }) e
+pub step_is : (d : DeedDone) (next updates : ℕ) (then : Option (Result ⊤ FeedError)) → then ≡ goes_on_in d.session.phase → record { session = d.session; next = next; updates = updates + d.updates; then = then } ≡ after_pdu d next updates
+step_is d next updates then e = ap (λ (x : Option (Result ⊤ FeedError)). record { session = d.session; next = next; updates = updates + d.updates; then = x }) e

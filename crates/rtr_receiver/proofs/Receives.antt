@@ -1,6 +1,7 @@
 -- The whole state from the history. Along every run memory is `in_memory` of the receiver that the history's events lead to, step by step of Receiver's page (`memory-is`): so the same bytes cut elsewhere leave the same
 -- state (`state-cut-anywhere`), and what a feed, an ask, a reconnect and the notify comparison say is that receiver's (`feed-is`, `full-ask-is`, `change-ask-is`, `reconnect-is`, `notify-is`). After every history that receiver's
 -- table, updates, phase with its stop and working table are what History's page says, which knows nothing of these steps (`receives-history`). Assumes nothing.
+use Rattle.std.specs.Prelude.{Option, Some, None}
 use Rattle.std.proofs.Common.{◌≡◌, ℕ, ◌+◌, ◌-◌, Bool, true, false, cond, leb, ◌⊎◌, List, [], ◌∷◌, ◌++◌, length, replicate, sym, refl, ap, ◌∙◌, subst, inl, inr, append-nil, arith, length-append}
 use lib.ListN.{length-replicate}
 use Rattle.rtr_models.specs.declared.RtrProtocolVersion.{RtrProtocolVersion}
@@ -13,12 +14,12 @@ use Rattle.rtr_receiver.specs.Promises.{Left, FeedSays, NotifySays, receiver_of,
 use Rattle.rtr_receiver.specs.Receives.{asking, on_event, on_events, receives, stage_at, working_at}
 use Rattle.rtr_receiver.specs.Runs.{Call, Memory, Run, bytes, history_of, left_in}
 use Rattle.rtr_receiver.specs.declared.LoadKind.{LoadKind}
-use Rattle.rtr_receiver.specs.declared.LiveTable.{LiveTable}
 use Rattle.rtr_receiver.proofs.Feeds.{from}
 use Rattle.rtr_receiver.proofs.Good.{fresh-good, loading_in}
 use Rattle.rtr_receiver.proofs.Histories.{At, Leads, live_of, onward-by, all-between, ends_there, full_is, change-is, byte-follows, full-follows, change-follows, reconnect-follows, Quietly}
 use Rattle.rtr_receiver.proofs.Runs.{Sound, Stands, after, start-stands, in-shape, is-receiver, step-stands, history-snoc, byte-sound, full-sound, change-sound, reconnect-sound}
 use Rattle.rtr_receiver.proofs.Shaped.{shaped-feed, shaped-full-ask, shaped-change-ask, shaped-reconnect, shaped-notify}
+use Rattle.rtr_receiver.specs.declared.Table.{Table}
 
 module _ (limit H : ℕ) where
   -- ---- Of an ask's output only the space counts
@@ -32,9 +33,9 @@ module _ (limit H : ℕ) where
   full-by-space r out out' e (Stage.loading kind session) = refl
   full-by-space r out out' e (Stage.stopped number values) = refl
 
-  serial-by-space : (r : Receiver) (out out' : List ℕ) → length out ≡ length out' → (t : LiveTable) → (ask (serial_query t r) r out).receiver ≡ (ask (serial_query t r) r out').receiver
-  serial-by-space r out out' e LiveTable.NoTable = refl
-  serial-by-space r out out' e (LiveTable.Known t) = change-is limit H r t out ∙ ap (λ (k : ℕ). cond (leb 12 k) (in_stage Stage.asked_change r) r) e ∙ sym (change-is limit H r t out')
+  serial-by-space : (r : Receiver) (out out' : List ℕ) → length out ≡ length out' → (t : Option Table) → (ask (serial_query t r) r out).receiver ≡ (ask (serial_query t r) r out').receiver
+  serial-by-space r out out' e None = refl
+  serial-by-space r out out' e (Some t) = change-is limit H r t out ∙ ap (λ (k : ℕ). cond (leb 12 k) (in_stage Stage.asked_change r) r) e ∙ sym (change-is limit H r t out')
 
   change-by-space : (r : Receiver) (out out' : List ℕ) → length out ≡ length out' → (stage : Stage) → (ask (change_query stage r) r out).receiver ≡ (ask (change_query stage r) r out').receiver
   change-by-space r out out' e Stage.idle = serial-by-space r out out' e r.table

@@ -1,5 +1,6 @@
 -- Demand 3. Along a run memory keeps receiver shape, stands for a receiver that goes the history's way, and so holds the table that the updates make which
 -- finished in that history (`history`); cuts change nothing (`cut-anywhere`), and there is no table exactly where none has finished (`no_table_lem`). Assumes nothing.
+use Rattle.std.specs.Prelude.{Option, Some, None, Ok, Result, Err, ⊤}
 use Rattle.std.proofs.Common.{◌≡◌, ℕ, ◌+◌, ◌*◌, ◌≤◌, Bool, true, false, cond, ◌&&◌, eqb, leb, ◌⊎◌, ◌↔◌, List, [], ◌∷◌, ◌++◌, length, take, sym, refl, ap, ◌∙◌, subst, inl, inr, append_assoc, append-nil, arith, leb-true}
 use Rattle.rtr_models.specs.declared.RtrProtocolVersion.{RtrProtocolVersion}
 use Rattle.rtr_models.specs.declared.RtrPdu.TheVariants.{ResetQuery, SerialQuery}
@@ -14,15 +15,14 @@ use Rattle.rtr_receiver.specs.History.{Event, Update, Live, Place, no_table, wit
 use Rattle.rtr_receiver.specs.Promises.{Left, StartSays, AskSays, ReconnectSays, receiver_of, is_limit, is_receiver, leaves, in_memory, fed_to, feed_says, fed_said_by, start_says, start_said, asked_to, full_ask_says, change_ask_says, reconnect_says}
 use Rattle.rtr_receiver.specs.Runs.{Call, Memory, Step, Run, bytes, history_of, live_in}
 use Rattle.rtr_receiver.specs.declared.LoadKind.{LoadKind}
-use Rattle.rtr_receiver.specs.declared.LiveTable.{LiveTable}
 use Rattle.rtr_receiver.specs.declared.Done.{Done}
-use Rattle.rtr_receiver.specs.declared.FeedAnswer.{FeedAnswer}
-use Rattle.rtr_receiver.specs.declared.StartAnswer.{StartAnswer}
 use Rattle.rtr_receiver.proofs.Feeds.{from}
 use Rattle.rtr_receiver.proofs.Good.{Good, fresh-good, stop-good, pdu-good, change_in, loading_in, stopped_in}
 use Rattle.rtr_receiver.proofs.Steps.{shape_is, shape-of-good, stands-for}
 use Rattle.rtr_receiver.proofs.Kept.{told-drops}
 use Rattle.rtr_receiver.proofs.Histories.{At, Leads, live_of, onward-by, all-between, piece-follows, full-follows, change-follows, reconnect-follows}
+use Rattle.rtr_receiver.specs.declared.Table.{Table}
+use Rattle.rtr_receiver.specs.declared.FeedError.{FeedError}
 
 module _ (limit H : ℕ) where
   -- ---- every call keeps the shape
@@ -136,9 +136,9 @@ module _ (limit H : ℕ) where
   pub change-sound : (r : Receiver) (out : List ℕ) → Sound r → (stage : Stage) → r.stage ≡ stage → Sound (ask (change_query stage r) r out).receiver
   change-sound r out sound Stage.idle e = table r.table refl
     where
-      table : (t : LiveTable) → r.table ≡ t → Sound (ask (serial_query t r) r out).receiver
-      table LiveTable.NoTable q = sound
-      table (LiveTable.Known t) q = let w = encode in_use (SerialQuery (record { version = r.version; session_id = t.session; serial_number = t.serial })) [] out in by-writing w.says Stage.asked_change r w.out sound (asked-sound r Stage.asked_change sound (ap loading_in e) (inl (ap has_table q)) refl)
+      table : (t : Option Table) → r.table ≡ t → Sound (ask (serial_query t r) r out).receiver
+      table None q = sound
+      table (Some t) q = let w = encode in_use (SerialQuery (record { version = r.version; session_id = t.session; serial_number = t.serial })) [] out in by-writing w.says Stage.asked_change r w.out sound (asked-sound r Stage.asked_change sound (ap loading_in e) (inl (ap has_table q)) refl)
   change-sound r out sound Stage.must_reset e = sound
   change-sound r out sound Stage.asked_full e = sound
   change-sound r out sound Stage.asked_change e = sound
@@ -191,10 +191,10 @@ module _ (limit H : ℕ) where
   fed-left : (done : Done) (l : Left) (hold : List ℕ) (f : Feed) → fed_said_by done.answer done.taken done.updates l hold ≡ fed_to limit f → l ≡ in_memory limit f.receiver
   fed-left done l hold f e = go done.answer e
     where
-      go : (a : FeedAnswer) → fed_said_by a done.taken done.updates l hold ≡ fed_to limit f → l ≡ in_memory limit f.receiver
-      go FeedAnswer.GoesOn q = cc
-      go (FeedAnswer.Stopped why) q = cc
-      go FeedAnswer.NotAReceiver q = absurd (let z : ◌≡◌ {A = ℕ} 0 1 = cc in omega arith)
+      go : (a : Result ⊤ FeedError) → fed_said_by a done.taken done.updates l hold ≡ fed_to limit f → l ≡ in_memory limit f.receiver
+      go (Ok tt) q = cc
+      go (Err (FeedError.Stopped why)) q = cc
+      go (Err FeedError.NotAReceiver) q = absurd (let z : ◌≡◌ {A = ℕ} 0 1 = cc in omega arith)
 
   feed-said : (m : Memory) (piece : List ℕ) → is_receiver limit m.session m.live m.working m.hold ≡ true → feed_says limit m.session m.live m.working m.hold piece ≡ fed_to limit (feed limit (length m.hold) (receiver_of m.session m.live m.working m.hold) piece)
   unfolding feed_says
@@ -289,7 +289,7 @@ module _ (limit H : ℕ) where
   history-snoc (Call.reconnect ∷ calls) call = ap (λ (x : List Event). Event.reconnect ∷ x) (history-snoc calls call)
 
   -- a start stands for a fresh receiver
-  pub start-stands : (v : RtrProtocolVersion) (m : Memory) (live working : List ℕ) → length m.hold ≡ H → start_said (StartAnswer.Started m.session) m.live m.working m.hold ≡ start_says limit v live working m.hold → Stands m (fresh v)
+  pub start-stands : (v : RtrProtocolVersion) (m : Memory) (live working : List ℕ) → length m.hold ≡ H → start_said (Ok m.session) m.live m.working m.hold ≡ start_says limit v live working m.hold → Stands m (fresh v)
   unfolding start_says
   start-stands v m live working size e = go (is_limit limit) (eqb (length live) (6 * limit)) (eqb (length working) (6 * limit)) (leb 8 (length m.hold)) refl refl e
     where
@@ -311,7 +311,7 @@ module _ (limit H : ℕ) where
       go true false b c w t q = absurd (let z : ◌≡◌ {A = ℕ} 0 1 = cc in omega arith)
       go false a b c w t q = absurd (let z : ◌≡◌ {A = ℕ} 0 1 = cc in omega arith)
 
-  start-along : (v : RtrProtocolVersion) (m : Memory) (live working : List ℕ) → length m.hold ≡ H → start_said (StartAnswer.Started m.session) m.live m.working m.hold ≡ start_says limit v live working m.hold → Along v [] m
+  start-along : (v : RtrProtocolVersion) (m : Memory) (live working : List ℕ) → length m.hold ≡ H → start_said (Ok m.session) m.live m.working m.hold ≡ start_says limit v live working m.hold → Along v [] m
   unfolding history_of with_updates
   start-along v m live working size e =
       record {
@@ -362,10 +362,10 @@ known-stays limit [] live e = e
 known-stays limit (u ∷ us) live e = known-stays limit us (updated limit live u) refl
 
 -- there is no table exactly where no update has finished
-pub no_table_lem : (limit H : ℕ) (v : RtrProtocolVersion) (calls : List Call) (m : Memory) → Run limit v H calls m → ((live_in m).info ≡ LiveTable.NoTable) ↔ (finished limit H v (history_of calls) ≡ [])
+pub no_table_lem : (limit H : ℕ) (v : RtrProtocolVersion) (calls : List Call) (m : Memory) → Run limit v H calls m → ((live_in m).info ≡ None) ↔ (finished limit H v (history_of calls) ≡ [])
 unfolding with_updates
 no_table_lem limit H v calls m run = (λ e. go (finished limit H v (history_of calls)) (sym (ap (λ (l : Live). l.info) (history limit H v calls m run)) ∙ e), λ e. ap (λ (l : Live). l.info) (history limit H v calls m run) ∙ ap (λ (us : List Update). (table_of limit us).info) e)
   where
-    go : (us : List Update) → (table_of limit us).info ≡ LiveTable.NoTable → us ≡ []
+    go : (us : List Update) → (table_of limit us).info ≡ None → us ≡ []
     go [] e = refl
     go (u ∷ us) e = absurd (let z : true ≡ false = sym (known-stays limit us (updated limit no_table u) refl) ∙ ap has_table e in let o : ◌≡◌ {A = ℕ} 0 1 = cc in omega arith)

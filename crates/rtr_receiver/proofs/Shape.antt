@@ -1,4 +1,5 @@
 -- 22 is given exactly where document 01 says: receiver shape is missing where one of its reasons holds, and nowhere else. Assumes nothing.
+use Rattle.std.specs.Prelude.{Option, Some, None}
 use Rattle.std.proofs.Common.{◌≡◌, ℕ, ◌*◌, ◌<◌, ◌≤◌, Bool, true, false, not, ◌&&◌, ◌||◌, eqb, leb, ◌⊎◌, ◌↔◌, List, length, take, sym, refl, ap, ◌∙◌, inl, inr, true≢false, arith, eqb-true, leb-false, leb-true}
 use borrow.Author.Tests.{eqb-false, not-true, not-false}
 use Rattle.rtr_codec.specs.Reading.{in_use}
@@ -12,9 +13,9 @@ use Rattle.rtr_receiver.specs.Contents.{Rooms, BreaksRules}
 use Rattle.rtr_receiver.specs.History.{has_table}
 use Rattle.rtr_receiver.specs.Promises.{change_under_way, is_loading, is_stopped, in_order, has_limit, is_receiver, Reason}
 use Rattle.rtr_receiver.specs.Promises.Reason.{live_size, working_size, hold_size, live_over, working_over, held_over, live_rules, working_rules, records_without_table, change_without_table, working_outside_loading, held_in_stopped, held_pdu, held_refusal, other_limit}
-use Rattle.rtr_receiver.specs.declared.LiveTable.{LiveTable}
 use Rattle.rtr_receiver.specs.declared.Session.{Session}
 use Rattle.rtr_receiver.proofs.Memory.{room-size, shape_is, not-shape-limit, not-shape-live, not-shape-working, not-shape-hold, not-shape-order}
+use Rattle.rtr_receiver.specs.declared.Table.{Table}
 
 -- ---- Tests
 
@@ -30,9 +31,9 @@ or-other : (a b : Bool) → a || b ≡ true → a ≡ false → b ≡ true
 or-other true b e q = absurd (true≢false q)
 or-other false b e q = e
 
-no_table : (t : LiveTable) → has_table t ≡ false → t ≡ LiveTable.NoTable
-no_table LiveTable.NoTable e = refl
-no_table (LiveTable.Known t) e = absurd (true≢false e)
+no_table : (t : Option Table) → has_table t ≡ false → t ≡ None
+no_table None e = refl
+no_table (Some t) e = absurd (true≢false e)
 
 above_zero : (n : ℕ) → eqb n 0 ≡ false → 0 < n
 above_zero n e = let h : n ≡ 0 → ⊥ = eqb-false n 0 e in omega arith
@@ -57,8 +58,8 @@ room-keeps limit count s e breaks = let r = (rules-exactly limit count s).0 e in
 
 -- what a session in order has
 record InOrder (s : Session) : Type 0 where
-  pub records : s.table ≡ LiveTable.NoTable → s.live.records ≡ 0
-  pub change : s.table ≡ LiveTable.NoTable → change_under_way s.phase ≡ false
+  pub records : s.table ≡ None → s.live.records ≡ 0
+  pub change : s.table ≡ None → change_under_way s.phase ≡ false
   pub working : is_loading s.phase ≡ false → s.working.records ≡ 0
   pub held : is_stopped s.phase ≡ true → s.held ≡ 0
 
@@ -109,7 +110,7 @@ module _ (limit : ℕ) (s : Session) (live working : Rooms) (hold : List ℕ) wh
   by_order : in_order s ≡ false → Reason limit s live working hold
   by_order e = go (and-fails (has_table s.table || (eqb s.live.records 0 && not (change_under_way s.phase))) _ e)
     where
-      table : s.table ≡ LiveTable.NoTable → (eqb s.live.records 0 ≡ false) ⊎ (not (change_under_way s.phase) ≡ false) → Reason limit s live working hold
+      table : s.table ≡ None → (eqb s.live.records 0 ≡ false) ⊎ (not (change_under_way s.phase) ≡ false) → Reason limit s live working hold
       table t (inl q) = records_without_table t (above_zero s.live.records q)
       table t (inr q) = change_without_table t (not-false _ q)
 

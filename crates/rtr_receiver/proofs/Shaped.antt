@@ -1,5 +1,6 @@
 -- What receiver shape decides of each call, over every limit. Without it the call is refused by 22 and keeps everything (`shapeless-..`; of a feed `refused-keeps-feed`, proofs/Laws.antt); with it the call is the receiver's step (`shaped-..`),
 -- and 22 is for nothing else (`stops-not-22`, `shaped-not-refused`, `full-ask-not-22`, `change-ask-not-22`). Shape and feed read the hold's length and its bytes up to the held count, and nothing past them (`shape-alike`, `feed-alike`). Assumes nothing.
+use Rattle.std.specs.Prelude.{Option, Some, None}
 use Rattle.std.proofs.Common.{◌≡◌, ℕ, Bool, true, false, cond, ◌&&◌, leb, ◌⊎◌, List, [], ◌∷◌, length, take, sym, refl, ap, ◌∙◌, inl, inr, arith}
 use Rattle.rtr_codec.specs.Reading.{in_use}
 use Rattle.rtr_codec.specs.declared.RtrError.TheVariants.{IncompletePdu, InvalidProtocolVersion, InvalidPduType, InvalidLength, RouterKeyInV0, InvalidPrefixLength, InvalidErrorCode, InvalidUtf8}
@@ -15,10 +16,10 @@ use Rattle.rtr_receiver.specs.Receiver.Stage.{idle, must_reset, asked_full, aske
 use Rattle.rtr_receiver.specs.Promises.{Left, Ending, FeedSays, AskSays, NotifySays, stage_of, in_order, has_limit, is_receiver, receiver_of, leaves, in_memory, fed_to, feed_says, asked_to, ask_says, full_ask_says, change_ask_says, reconnect_says, notify_says}
 use Rattle.rtr_receiver.specs.declared.Stop.{Stop}
 use Rattle.rtr_receiver.specs.declared.Phase.{Phase}
-use Rattle.rtr_receiver.specs.declared.LiveTable.{LiveTable}
 use Rattle.rtr_receiver.specs.declared.Session.{Session}
 use Rattle.rtr_receiver.proofs.Kept.{stops_rightly}
 use Rattle.rtr_receiver.proofs.Laws.{fed-means, stops-are, stop-repeats}
+use Rattle.rtr_receiver.specs.declared.Table.{Table}
 
 -- ---- Without receiver shape: 22, and everything is kept
 
@@ -125,9 +126,9 @@ module _ (r : Receiver) (out : List ℕ) where
   full-never-22 (stopped k x) q = omega arith
 
   -- a change ask in Idle, by the table
-  serial-never-22 : (table : LiveTable) → number_of (ask (serial_query table r) r out).says ≡ 22 → ⊥
-  serial-never-22 LiveTable.NoTable q = omega arith
-  serial-never-22 (LiveTable.Known t) q = by-space (leb 12 (length out)) 12 (sym (ap number_of (asked-says _ asked_change r _ ∙ serial-query-says in_use r.version t.session t.serial out)) ∙ q)
+  serial-never-22 : (table : Option Table) → number_of (ask (serial_query table r) r out).says ≡ 22 → ⊥
+  serial-never-22 None q = omega arith
+  serial-never-22 (Some t) q = by-space (leb 12 (length out)) 12 (sym (ap number_of (asked-says _ asked_change r _ ∙ serial-query-says in_use r.version t.session t.serial out)) ∙ q)
 
   change-never-22 : (stage : Stage) → number_of (ask (change_query stage r) r out).says ≡ 22 → ⊥
   change-never-22 idle q = serial-never-22 r.table q

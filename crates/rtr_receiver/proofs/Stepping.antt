@@ -1,4 +1,5 @@
 -- What a step of a feed comes to, by what the search found. Assumes nothing.
+use Rattle.std.specs.Prelude.{Ok, Err, ⊤, Result, Option, Some, None}
 use Rattle.std.proofs.Common.{◌≡◌, ℕ, ◌+◌, ◌-◌, ◌<◌, ◌≤◌, true, false, eqb, List, [], ◌∷◌, length, take, drop, replicate, sym, refl, ap, ◌∙◌, inr, arith, length-drop, drop-drop}
 use denote.Enum.Declared.{tag_of}
 use types.Run.{OneOf, miss}
@@ -10,7 +11,6 @@ use Rattle.rtr_stream.specs.Stream.{judge}
 use Rattle.rtr_stream.specs.Search.{End, Search, Outcome, is_stream, search_from, search, says_of, outcome_of, stream_refusal, stops_by, said_by, search_said, bytes_of}
 use Rattle.rtr_stream.specs.declared.StreamError.{StreamError}
 use Rattle.rtr_stream.specs.declared.Lies.{Lies}
-use Rattle.rtr_stream.specs.declared.StreamAnswer.{StreamAnswer}
 use Rattle.rtr_stream.specs.declared.Searched.{Searched}
 use Rattle.rtr_stream.proofs.Told.{more-told, stop-told, pdu-told, never-told}
 use Rattle.rtr_stream.proofs.Laws.{stream-has, stream-exactly, search_is, search-takes, search-moves, found-is-read, nothing-waits}
@@ -24,7 +24,6 @@ use Rattle.rtr_receiver.specs.Private.{Did, feed_here, SteppedTo, stopped_sessio
 use Rattle.rtr_receiver.specs.declared.Stop.{Stop}
 use Rattle.rtr_receiver.specs.declared.Phase.{Phase}
 use Rattle.rtr_receiver.specs.declared.Session.{Session}
-use Rattle.rtr_receiver.specs.declared.FeedAnswer.{FeedAnswer}
 use Rattle.rtr_receiver.specs.declared.DeedDone.{DeedDone}
 use Rattle.rtr_receiver.specs.contracts.Phase as phase-enum
 use Rattle.rtr_receiver.proofs.Feeds.{from, stopped-takes-none, fed-more, fed-pdu, fed-stop}
@@ -32,6 +31,8 @@ use Rattle.rtr_receiver.proofs.Good.{Good, pdu-good}
 use Rattle.rtr_room.proofs.Laws.Tests.{second-of}
 use Rattle.rtr_receiver.proofs.Steps.{Shape, shape_is, good_of, shape-of-good, stands-for, stopped-stage}
 use Rattle.rtr_receiver.proofs.Memory.{room-stands, room-size, with-limit, with-records, left-alike, limit_is, standing, stop-says}
+use Rattle.rtr_stream.specs.declared.SearchError.{SearchError}
+use Rattle.rtr_receiver.specs.declared.FeedError.{FeedError}
 
 -- a receiver that listens has no stop to tell
 goes_on_lem : (stage : Stage) → listens stage ≡ true → ending_of stage ≡ Ending.goes_on
@@ -86,49 +87,49 @@ module _ (limit : ℕ) (s : Session) (live working : Rooms) (hold piece : List �
         ap (λ (n : ℕ). replicate n 0) (room-size limit s.working.records working shape.working-room).0 ∙ (empty-is limit).0
 
     pub step-more
-        : r.answer ≡ StreamAnswer.More →
-        fed_said_by FeedAnswer.GoesOn r.next updates
+        : r.answer ≡ Ok None →
+        fed_said_by (Ok tt) r.next updates
         (leaves (record { life = s.life; phase = s.phase; table = s.table; note = s.note; live = s.live; working = s.working; held = r.stream.held }) live working hold')
         hold'
         ≡ fed_to limit (feed_here limit s live working hold piece at updates)
     step-more a =
-        let end : ended.end ≡ End.more = more-told s.held at ended.end (sym (ap (λ (x : StreamAnswer). said_by x hold' piece) a) ∙ says_is) in
+        let end : ended.end ≡ End.more = more-told s.held at ended.end (sym (ap (λ (x : Result (Option (RtrPdu × Lies)) SearchError). said_by x hold' piece) a) ∙ says_is) in
         let fed : feed_here limit s live working hold piece at updates ≡ from (holding ended.held here) ended.next updates =
         fed-more limit (length hold) here updates on (drop at piece) at (take s.held hold) end in
         let on-goes : Ending.goes_on ≡ ending_of (stage_of s.phase) = sym (goes_on_lem (stage_of s.phase) on) in
         let left = left-alike {b = in_memory limit (holding ended.held here)} limited refl refl refl (with-records live-long) (with-records working-long) count-is live-is working-is held-is in
         (λ i. FeedSays.fed (next-is i) updates (on-goes i) (left i)) ∙ sym (ap (fed_to limit) fed)
 
-    pub step-never : r.answer ≡ StreamAnswer.NotAStream → ⊥
-    step-never a = never-told s.held at hold' ended.end (sym (ap (λ (x : StreamAnswer). said_by x hold' piece) a) ∙ says_is)
+    pub step-never : r.answer ≡ Err SearchError.NotAStream → ⊥
+    step-never a = never-told s.held at hold' ended.end (sym (ap (λ (x : Result (Option (RtrPdu × Lies)) SearchError). said_by x hold' piece) a) ∙ says_is)
 
     pub step-stop
         : (error : StreamError) (t : Session) (working' : List ℕ) →
-        r.answer ≡ StreamAnswer.Refused error →
+        r.answer ≡ Err (SearchError.Refused error) →
         t ≡ stopped_session s (Stop.Stream error) →
         working' ≡ replicate (length working) 0 →
-        fed_said_by (FeedAnswer.Stopped (Stop.Stream error)) r.next updates (leaves t live working' hold') hold'
+        fed_said_by (Err (FeedError.Stopped (Stop.Stream error))) r.next updates (leaves t live working' hold') hold'
         ≡ fed_to limit (feed_here limit s live working hold piece at updates)
     step-stop error t working' a stopping emptied =
         let told = stop-says (Stop.Stream error) in
         let k : ℕ = told.0 in
         let x : List ℕ = told.1 in
         let end : ended.end ≡ End.stop k x =
-        stop-told s.held at k x ended.end (sym (ap stops_by told.2) ∙ sym (ap (λ (y : StreamAnswer). said_by y hold' piece) a) ∙ says_is) in
+        stop-told s.held at k x ended.end (sym (ap stops_by told.2) ∙ sym (ap (λ (y : Result (Option (RtrPdu × Lies)) SearchError). said_by y hold' piece) a) ∙ says_is) in
         let fed : feed_here limit s live working hold piece at updates ≡ from (stop k x here) ended.next updates =
         fed-stop limit (length hold) here updates on (drop at piece) at (take s.held hold) k x end in
         let stage : stopped_by (stream_refusal error) ≡ stopped k x = ap stopped_by told.2 in
         let left = left-alike {a = leaves (stopped_session s (Stop.Stream error)) live working' hold'} {b = in_memory limit (stop k x here)} limited stage refl refl (with-records live-long) refl refl live-is (emptied ∙ zeros) refl in
-        ap (λ (y : Session). fed_said_by (FeedAnswer.Stopped (Stop.Stream error)) r.next updates (leaves y live working' hold') hold') stopping
+        ap (λ (y : Session). fed_said_by (Err (FeedError.Stopped (Stop.Stream error))) r.next updates (leaves y live working' hold') hold') stopping
         ∙ (λ i. FeedSays.fed (next-is i) updates (ending_of (stage i)) (left i))
         ∙ sym (ap (fed_to limit) fed)
 
-    module _ (pdu : RtrPdu) (lies : Lies) (found : r.answer ≡ StreamAnswer.Found pdu lies) where
+    module _ (pdu : RtrPdu) (lies : Lies) (found : r.answer ≡ Ok (Some (pdu, lies))) where
       abbrev bytes : List ℕ
       bytes = bytes_of lies hold' piece
 
       end_is : ended.end ≡ End.found pdu bytes
-      end_is = pdu-told s.held at pdu lies bytes ended.end (sym (ap (λ (x : StreamAnswer). said_by x hold' piece) found) ∙ says_is)
+      end_is = pdu-told s.held at pdu lies bytes ended.end (sym (ap (λ (x : Result (Option (RtrPdu × Lies)) SearchError). said_by x hold' piece) found) ∙ says_is)
 
       abbrev deed : Deed
       deed = on_pdu limit pdu (holding [] here)
@@ -200,7 +201,7 @@ module _ (limit : ℕ) (s : Session) (live working : Rooms) (hold piece : List �
           counted : updates + d.updates ≡ updates + deed.updates
           counted = ap (λ (n : ℕ). updates + n) did.1
 
-          over : (why : Stop) → d.session.phase ≡ Phase.Stopped why → fed_said_by (FeedAnswer.Stopped why) r.next (updates + d.updates) (leaves d.session live' working' hold') hold' ≡ fed_to limit (feed_here limit s live working hold piece at updates)
+          over : (why : Stop) → d.session.phase ≡ Phase.Stopped why → fed_said_by (Err (FeedError.Stopped why)) r.next (updates + d.updates) (leaves d.session live' working' hold') hold' ≡ fed_to limit (feed_here limit s live working hold piece at updates)
           over why e =
               let stage : stage_of (Phase.Stopped why) ≡ deed.then.stage = sym (ap stage_of e) ∙ stage_is in
               let deaf : listens deed.then.stage ≡ false = sym (ap listens (sym (stopped-stage why) ∙ stage)) in

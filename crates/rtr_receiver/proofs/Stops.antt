@@ -1,6 +1,7 @@
 -- Demand 1 on lent memory. What the feed that stops leaves of it (`stop-in-memory`): the working room all zeros, nothing held, and live room, table and note as they were before the byte that stopped. And one statement
 -- over all later calls up to the next reconnect (`stop-holds`): memory stays as it is (the hold past the held count is anyone's), every feed takes nothing and says the same stop, every ask is refused by 20 and leaves its output. `refused-full-keeps`, `refused-change-keeps`:
 -- what a refused ask of a run leaves. Assumes nothing.
+use Rattle.std.specs.Prelude.{Result, Ok, Err, ⊤}
 use Rattle.std.proofs.Common.{◌≡◌, ℕ, suc, ◌*◌, ◌<◌, true, false, List, [], ◌∷◌, ◌++◌, length, take, replicate, sym, refl, ap, ◌∙◌, arith}
 use Rattle.rtr_models.specs.declared.RtrProtocolVersion.{RtrProtocolVersion}
 use Rattle.rtr_encode.specs.Encode.{Writing}
@@ -13,14 +14,14 @@ use Rattle.rtr_receiver.specs.Receives.{receives}
 use Rattle.rtr_receiver.specs.Runs.{Call, Memory, Step, Steps, Run, history_of, left_in, reconnects}
 use Rattle.rtr_receiver.specs.declared.LoadKind.{LoadKind}
 use Rattle.rtr_receiver.specs.declared.Session.{Session}
-use Rattle.rtr_receiver.specs.declared.AskAnswer.{AskAnswer}
-use Rattle.rtr_receiver.specs.declared.FeedAnswer.{FeedAnswer}
 use Rattle.rtr_receiver.proofs.Feeds.{from}
 use Rattle.rtr_receiver.proofs.Memory.{standing}
 use Rattle.rtr_receiver.proofs.Kept.{Cleared, piece-keeps}
 use Rattle.rtr_receiver.proofs.Laws.{keeps-shape, stop-clears, stop-repeats, refused-keeps-full, refused-keeps-change}
 use Rattle.rtr_receiver.proofs.Receives.{memory-is, receives-piece, piece-after}
 use Rattle.rtr_receiver.proofs.Shaped.{shaped-full-ask, shaped-change-ask}
+use Rattle.rtr_receiver.specs.declared.FeedError.{FeedError}
+use Rattle.rtr_receiver.specs.declared.AskError.{AskError}
 
 -- ---- What a stop leaves
 
@@ -126,10 +127,10 @@ module _ (limit n : ℕ) (x : List ℕ) where
       }
 
   -- what a feed that was not refused leaves
-  left-fed : (answer : FeedAnswer) (taken updates : ℕ) (l l' : Left) (hold : List ℕ) → fed_said_by answer taken updates l hold ≡ FeedSays.fed 0 0 (Ending.stops n x) l' → l ≡ l'
-  left-fed FeedAnswer.GoesOn taken updates l l' hold e = cc
-  left-fed (FeedAnswer.Stopped why) taken updates l l' hold e = cc
-  left-fed FeedAnswer.NotAReceiver taken updates l l' hold e = absurd (let z : ◌≡◌ {A = ℕ} 0 1 = cc in omega arith)
+  left-fed : (answer : Result ⊤ FeedError) (taken updates : ℕ) (l l' : Left) (hold : List ℕ) → fed_said_by answer taken updates l hold ≡ FeedSays.fed 0 0 (Ending.stops n x) l' → l ≡ l'
+  left-fed (Ok tt) taken updates l l' hold e = cc
+  left-fed (Err (FeedError.Stopped why)) taken updates l l' hold e = cc
+  left-fed (Err FeedError.NotAReceiver) taken updates l l' hold e = absurd (let z : ◌≡◌ {A = ℕ} 0 1 = cc in omega arith)
 
   -- so a call that is no reconnect leaves memory
   still-step : (call : Call) (m m' m'' : Memory) → Still limit n x m m' → Step limit m' call m'' → reconnects (call ∷ []) ≡ false → left_in m'' ≡ left_in m
@@ -164,7 +165,7 @@ module _ (limit n : ℕ) (x : List ℕ) where
 
 -- ---- A refused ask of a run leaves memory and output
 
-module _ (limit : ℕ) (m : Memory) (out : List ℕ) (s : Session) (answer : AskAnswer) (out' : List ℕ) (k : ℕ) (x : List ℕ) (refused : ask_writing answer ≡ Writing.refused k x) where
+module _ (limit : ℕ) (m : Memory) (out : List ℕ) (s : Session) (answer : Result ℕ AskError) (out' : List ℕ) (k : ℕ) (x : List ℕ) (refused : ask_writing answer ≡ Writing.refused k x) where
   pub refused-full-keeps :
       ask_said (record { session = s; answer = answer }) m.live m.working m.hold out' ≡ full_ask_says limit m.session m.live m.working m.hold out →
       (out' ≡ out) × (leaves s m.live m.working m.hold ≡ left_in m)

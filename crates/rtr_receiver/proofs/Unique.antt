@@ -1,17 +1,16 @@
 -- What each public call promises leaves one result and one content of lent memory, of the hold up to the held count (document 01, "How tight the promises
 -- are"). A session record is told from what it leaves: the phase by its name, a stop by its number and values. Assumes nothing.
+use Rattle.std.specs.Prelude.{Option, Some, None, Result, Ok, Err, ⊤}
 use Rattle.std.proofs.Common.{◌≡◌, ℕ, cond, eqb, List, [], get_or, take, sym, refl, ap, ◌∙◌}
 use Rattle.rtr_base.proofs.Unique.{only_one, only-this}
 use Rattle.rtr_models.specs.Codes.{code_found, code_number}
 use Rattle.rtr_models.specs.declared.RtrErrorCode.{RtrErrorCode}
 use Rattle.rtr_models.specs.declared.RtrErrorCode.TheVariants.{CorruptData, InternalError, NoDataAvailable, InvalidRequest, UnsupportedProtocolVersion, UnsupportedPduType, WithdrawalOfUnknownRecord, DuplicateAnnouncementReceived, UnexpectedProtocolVersion}
-use Rattle.rtr_models.specs.declared.CodeFound.{CodeFound}
 use Rattle.rtr_codec.specs.declared.RtrError.TheVariants.{IncompletePdu, InvalidProtocolVersion, InvalidPduType, InvalidLength, RouterKeyInV0, InvalidPrefixLength, InvalidErrorCode, InvalidUtf8}
 use Rattle.rtr_encode.specs.Encode.{Writing}
 use Rattle.rtr_encode.specs.declared.EncodeError.{EncodeError}
 use Rattle.rtr_stream.specs.Search.{Says}
 use Rattle.rtr_stream.specs.declared.StreamError.{StreamError}
-use Rattle.rtr_stream.specs.declared.StreamAnswer.{StreamAnswer}
 use Rattle.rtr_stream.proofs.Unique.{saying, answer-told}
 use Rattle.rtr_receiver.specs.Contents.{Rooms}
 use Rattle.rtr_receiver.specs.Receiver.{Stage, Notified}
@@ -19,15 +18,10 @@ use Rattle.rtr_receiver.specs.Promises.{Left, Ending, FeedSays, StartSays, AskSa
 use Rattle.rtr_receiver.specs.declared.Stop.{Stop}
 use Rattle.rtr_receiver.specs.declared.Phase.{Phase}
 use Rattle.rtr_receiver.specs.declared.Session.{Session}
-use Rattle.rtr_receiver.specs.declared.StartAnswer.{StartAnswer}
 use Rattle.rtr_receiver.specs.declared.AskError.{AskError}
-use Rattle.rtr_receiver.specs.declared.AskAnswer.{AskAnswer}
 use Rattle.rtr_receiver.specs.declared.AskedSession.{AskedSession}
-use Rattle.rtr_receiver.specs.declared.FeedAnswer.{FeedAnswer}
 use Rattle.rtr_receiver.specs.declared.Fed.{Fed}
-use Rattle.rtr_receiver.specs.declared.ReconnectAnswer.{ReconnectAnswer}
 use Rattle.rtr_receiver.specs.declared.Reconnected.{Reconnected}
-use Rattle.rtr_receiver.specs.declared.NotifyAnswer.{NotifyAnswer}
 use Rattle.rtr_receiver.proofs.Memory.{stop-says}
 use Rattle.rtr_receiver.proofs.Steps.{stopped-stage}
 use Rattle.rtr_receiver.proofs.start.Reads as start-reads
@@ -39,17 +33,23 @@ use Rattle.rtr_receiver.proofs.notify.Reads as notify-reads
 use Rattle.rtr_receiver.proofs.Stop.number.Reads as number-reads
 use Rattle.rtr_receiver.proofs.is_limit.Reads as limit-reads
 use Rattle.rtr_receiver.proofs.is_receiver.Reads as receiver-reads
+use Rattle.rtr_models.specs.declared.RtrPdu.{RtrPdu}
+use Rattle.rtr_stream.specs.declared.SearchError.{SearchError}
+use Rattle.rtr_stream.specs.declared.Lies.{Lies}
+use Rattle.rtr_receiver.specs.declared.FeedError.{FeedError}
+use Rattle.rtr_receiver.specs.declared.NotAReceiver.{NotAReceiver}
+use Rattle.rtr_receiver.specs.declared.Comparison.{Comparison}
 
 -- the stop that has a number and values
-error_in : StreamAnswer → StreamError
-error_in (StreamAnswer.Refused error) = error
-error_in (StreamAnswer.Found pdu lies) = StreamError.OverHold 0
-error_in StreamAnswer.More = StreamError.OverHold 0
-error_in StreamAnswer.NotAStream = StreamError.OverHold 0
+error_in : Result (Option (RtrPdu × Lies)) SearchError → StreamError
+error_in (Err (SearchError.Refused error)) = error
+error_in (Ok (Some (pdu, lies))) = StreamError.OverHold 0
+error_in (Ok None) = StreamError.OverHold 0
+error_in (Err SearchError.NotAStream) = StreamError.OverHold 0
 
-code_in : CodeFound → RtrErrorCode
-code_in (CodeFound.Known c) = c
-code_in CodeFound.Unknown = CorruptData
+code_in : Option RtrErrorCode → RtrErrorCode
+code_in (Some c) = c
+code_in None = CorruptData
 
 stop_of : ℕ → List ℕ → Stop
 stop_of k x =
@@ -72,15 +72,15 @@ phase_of (Stage.stopped k x) = Phase.Stopped (stop_of k x)
 -- a stream's refusal is told from its number and values
 stream-back : (e : StreamError) → phase_of (stage_of (Phase.Stopped (Stop.Stream e))) ≡ Phase.Stopped (Stop.Stream e)
 unfolding phase_of stop_of error_in
-stream-back (StreamError.OverHold n) = ap (λ (a : StreamAnswer). Phase.Stopped (Stop.Stream (error_in a))) (answer-told [] [] (StreamAnswer.Refused (StreamError.OverHold n)))
-stream-back (StreamError.Read (IncompletePdu a n)) = ap (λ (a : StreamAnswer). Phase.Stopped (Stop.Stream (error_in a))) (answer-told [] [] (StreamAnswer.Refused (StreamError.Read (IncompletePdu a n))))
-stream-back (StreamError.Read (InvalidPduType t)) = ap (λ (a : StreamAnswer). Phase.Stopped (Stop.Stream (error_in a))) (answer-told [] [] (StreamAnswer.Refused (StreamError.Read (InvalidPduType t))))
-stream-back (StreamError.Read (InvalidProtocolVersion v)) = ap (λ (a : StreamAnswer). Phase.Stopped (Stop.Stream (error_in a))) (answer-told [] [] (StreamAnswer.Refused (StreamError.Read (InvalidProtocolVersion v))))
-stream-back (StreamError.Read (InvalidErrorCode c)) = ap (λ (a : StreamAnswer). Phase.Stopped (Stop.Stream (error_in a))) (answer-told [] [] (StreamAnswer.Refused (StreamError.Read (InvalidErrorCode c))))
-stream-back (StreamError.Read (InvalidLength e a t)) = ap (λ (a : StreamAnswer). Phase.Stopped (Stop.Stream (error_in a))) (answer-told [] [] (StreamAnswer.Refused (StreamError.Read (InvalidLength e a t))))
-stream-back (StreamError.Read (InvalidPrefixLength l m b)) = ap (λ (a : StreamAnswer). Phase.Stopped (Stop.Stream (error_in a))) (answer-told [] [] (StreamAnswer.Refused (StreamError.Read (InvalidPrefixLength l m b))))
-stream-back (StreamError.Read InvalidUtf8) = ap (λ (a : StreamAnswer). Phase.Stopped (Stop.Stream (error_in a))) (answer-told [] [] (StreamAnswer.Refused (StreamError.Read InvalidUtf8)))
-stream-back (StreamError.Read RouterKeyInV0) = ap (λ (a : StreamAnswer). Phase.Stopped (Stop.Stream (error_in a))) (answer-told [] [] (StreamAnswer.Refused (StreamError.Read RouterKeyInV0)))
+stream-back (StreamError.OverHold n) = ap (λ (a : Result (Option (RtrPdu × Lies)) SearchError). Phase.Stopped (Stop.Stream (error_in a))) (answer-told [] [] (Err (SearchError.Refused (StreamError.OverHold n))))
+stream-back (StreamError.Read (IncompletePdu a n)) = ap (λ (a : Result (Option (RtrPdu × Lies)) SearchError). Phase.Stopped (Stop.Stream (error_in a))) (answer-told [] [] (Err (SearchError.Refused (StreamError.Read (IncompletePdu a n)))))
+stream-back (StreamError.Read (InvalidPduType t)) = ap (λ (a : Result (Option (RtrPdu × Lies)) SearchError). Phase.Stopped (Stop.Stream (error_in a))) (answer-told [] [] (Err (SearchError.Refused (StreamError.Read (InvalidPduType t)))))
+stream-back (StreamError.Read (InvalidProtocolVersion v)) = ap (λ (a : Result (Option (RtrPdu × Lies)) SearchError). Phase.Stopped (Stop.Stream (error_in a))) (answer-told [] [] (Err (SearchError.Refused (StreamError.Read (InvalidProtocolVersion v)))))
+stream-back (StreamError.Read (InvalidErrorCode c)) = ap (λ (a : Result (Option (RtrPdu × Lies)) SearchError). Phase.Stopped (Stop.Stream (error_in a))) (answer-told [] [] (Err (SearchError.Refused (StreamError.Read (InvalidErrorCode c)))))
+stream-back (StreamError.Read (InvalidLength e a t)) = ap (λ (a : Result (Option (RtrPdu × Lies)) SearchError). Phase.Stopped (Stop.Stream (error_in a))) (answer-told [] [] (Err (SearchError.Refused (StreamError.Read (InvalidLength e a t)))))
+stream-back (StreamError.Read (InvalidPrefixLength l m b)) = ap (λ (a : Result (Option (RtrPdu × Lies)) SearchError). Phase.Stopped (Stop.Stream (error_in a))) (answer-told [] [] (Err (SearchError.Refused (StreamError.Read (InvalidPrefixLength l m b)))))
+stream-back (StreamError.Read InvalidUtf8) = ap (λ (a : Result (Option (RtrPdu × Lies)) SearchError). Phase.Stopped (Stop.Stream (error_in a))) (answer-told [] [] (Err (SearchError.Refused (StreamError.Read InvalidUtf8))))
+stream-back (StreamError.Read RouterKeyInV0) = ap (λ (a : Result (Option (RtrPdu × Lies)) SearchError). Phase.Stopped (Stop.Stream (error_in a))) (answer-told [] [] (Err (SearchError.Refused (StreamError.Read RouterKeyInV0))))
 
 report-back : (c : RtrErrorCode) → code_in (code_found (code_number c)) ≡ c
 unfolding code_in
@@ -134,33 +134,33 @@ stop-back stop =
     let e : Phase.Stopped (stop_of (stop-says stop).0 (stop-says stop).1) ≡ Phase.Stopped stop = sym (ap phase_of (stopped-stage stop)) ∙ phase-back (Phase.Stopped stop) in
     cc
 
-answer_in : Ending → FeedAnswer
-answer_in Ending.goes_on = FeedAnswer.GoesOn
-answer_in (Ending.stops k x) = FeedAnswer.Stopped (stop_of k x)
+answer_in : Ending → Result ⊤ FeedError
+answer_in Ending.goes_on = Ok tt
+answer_in (Ending.stops k x) = Err (FeedError.Stopped (stop_of k x))
 
 fed_of : FeedSays → Fed
 fed_of (FeedSays.fed taken updates ending left) = record { session = session_of left; done = record { taken = taken; updates = updates; answer = answer_in ending } }
-fed_of (FeedSays.refused_feed number taken updates left hold) = record { session = session_of left; done = record { taken = taken; updates = updates; answer = FeedAnswer.NotAReceiver } }
+fed_of (FeedSays.refused_feed number taken updates left hold) = record { session = session_of left; done = record { taken = taken; updates = updates; answer = Err FeedError.NotAReceiver } }
 
 left_in : FeedSays → Left
 left_in (FeedSays.fed taken updates ending left) = left
 left_in (FeedSays.refused_feed number taken updates left hold) = left
 
-left_in_lem : (a : FeedAnswer) (taken updates : ℕ) (left : Left) (hold : List ℕ) → left_in (fed_said_by a taken updates left hold) ≡ left
+left_in_lem : (a : Result ⊤ FeedError) (taken updates : ℕ) (left : Left) (hold : List ℕ) → left_in (fed_said_by a taken updates left hold) ≡ left
 unfolding left_in
-left_in_lem FeedAnswer.GoesOn taken updates left hold = refl
-left_in_lem (FeedAnswer.Stopped stop) taken updates left hold = refl
-left_in_lem FeedAnswer.NotAReceiver taken updates left hold = refl
+left_in_lem (Ok tt) taken updates left hold = refl
+left_in_lem (Err (FeedError.Stopped stop)) taken updates left hold = refl
+left_in_lem (Err FeedError.NotAReceiver) taken updates left hold = refl
 
-answer_back : (stop : Stop) → answer_in (ending_of (stopped_by (stop_said stop))) ≡ FeedAnswer.Stopped stop
+answer_back : (stop : Stop) → answer_in (ending_of (stopped_by (stop_said stop))) ≡ Err (FeedError.Stopped stop)
 unfolding answer_in
-answer_back stop = ap (λ (s : Stage). answer_in (ending_of s)) (stopped-stage stop) ∙ ap FeedAnswer.Stopped (stop-back stop)
+answer_back stop = ap (λ (s : Stage). answer_in (ending_of s)) (stopped-stage stop) ∙ ap Err (FeedError.Stopped (stop-back stop))
 
-fed_by : (a : FeedAnswer) (taken updates : ℕ) (s : Session) (live working : Rooms) (hold : List ℕ) → fed_of (fed_said_by a taken updates (leaves s live working hold) hold) ≡ record { session = s; done = record { taken = taken; updates = updates; answer = a } }
+fed_by : (a : Result ⊤ FeedError) (taken updates : ℕ) (s : Session) (live working : Rooms) (hold : List ℕ) → fed_of (fed_said_by a taken updates (leaves s live working hold) hold) ≡ record { session = s; done = record { taken = taken; updates = updates; answer = a } }
 unfolding fed_of answer_in
-fed_by FeedAnswer.GoesOn taken updates s live working hold = λ i. record { session = session-back s live working hold i; done = record { taken = taken; updates = updates; answer = FeedAnswer.GoesOn } }
-fed_by (FeedAnswer.Stopped stop) taken updates s live working hold = λ i. record { session = session-back s live working hold i; done = record { taken = taken; updates = updates; answer = answer_back stop i } }
-fed_by FeedAnswer.NotAReceiver taken updates s live working hold = λ i. record { session = session-back s live working hold i; done = record { taken = taken; updates = updates; answer = FeedAnswer.NotAReceiver } }
+fed_by (Ok tt) taken updates s live working hold = λ i. record { session = session-back s live working hold i; done = record { taken = taken; updates = updates; answer = Ok tt } }
+fed_by (Err (FeedError.Stopped stop)) taken updates s live working hold = λ i. record { session = session-back s live working hold i; done = record { taken = taken; updates = updates; answer = answer_back stop i } }
+fed_by (Err FeedError.NotAReceiver) taken updates s live working hold = λ i. record { session = session-back s live working hold i; done = record { taken = taken; updates = updates; answer = Err FeedError.NotAReceiver } }
 
 one-fed : (r r' : Fed) (live live' working working' hold hold' : List ℕ) (given : FeedSays) →
     fed_said r live working hold ≡ given →
@@ -185,11 +185,11 @@ hold_in : FeedSays → List ℕ
 hold_in (FeedSays.fed taken updates ending left) = []
 hold_in (FeedSays.refused_feed number taken updates left hold) = hold
 
-hold-in : (a : FeedAnswer) (taken updates : ℕ) (left : Left) (hold : List ℕ) → a ≡ FeedAnswer.NotAReceiver → hold_in (fed_said_by a taken updates left hold) ≡ hold
+hold-in : (a : Result ⊤ FeedError) (taken updates : ℕ) (left : Left) (hold : List ℕ) → a ≡ Err FeedError.NotAReceiver → hold_in (fed_said_by a taken updates left hold) ≡ hold
 unfolding hold_in
-hold-in a taken updates left hold e = ap (λ (x : FeedAnswer). hold_in (fed_said_by x taken updates left hold)) e
+hold-in a taken updates left hold e = ap (λ (x : Result ⊤ FeedError). hold_in (fed_said_by x taken updates left hold)) e
 
-pub feed-unique-refused : (κs : _) (a : _) (r r' : _) (s s' : _) → feed-reads.Post κs a r s → feed-reads.Post κs a r' s' → r.done.answer ≡ FeedAnswer.NotAReceiver → s.1.1.1.0.now ≡ s'.1.1.1.0.now
+pub feed-unique-refused : (κs : _) (a : _) (r r' : _) (s s' : _) → feed-reads.Post κs a r s → feed-reads.Post κs a r' s' → r.done.answer ≡ Err FeedError.NotAReceiver → s.1.1.1.0.now ≡ s'.1.1.1.0.now
 feed-unique-refused κs a r r' s s' p q e =
     let same : r ≡ r' = (feed-unique κs a r r' s s' p q).0 in
     sym (hold-in r.done.answer r.done.taken r.done.updates (leaves r.session s.1.0.now s.1.1.0.now s.1.1.1.0.now) s.1.1.1.0.now e)
@@ -198,9 +198,9 @@ feed-unique-refused κs a r r' s s' p q e =
 
 -- ---- start
 
-start_of : StartSays → StartAnswer
-start_of (StartSays.started left) = StartAnswer.Started (session_of left)
-start_of (StartSays.refused_start number live working) = StartAnswer.NotAReceiver
+start_of : StartSays → Result Session NotAReceiver
+start_of (StartSays.started left) = Ok (session_of left)
+start_of (StartSays.refused_start number live working) = Err (record {})
 
 live_in : StartSays → List ℕ
 live_in (StartSays.started left) = left.live
@@ -210,10 +210,10 @@ working_in : StartSays → List ℕ
 working_in (StartSays.started left) = left.working
 working_in (StartSays.refused_start number live working) = working
 
-start_back : (r : StartAnswer) (live working hold : List ℕ) → (start_of (start_said r live working hold) ≡ r) × (live_in (start_said r live working hold) ≡ live) × (working_in (start_said r live working hold) ≡ working)
+start_back : (r : Result Session NotAReceiver) (live working hold : List ℕ) → (start_of (start_said r live working hold) ≡ r) × (live_in (start_said r live working hold) ≡ live) × (working_in (start_said r live working hold) ≡ working)
 unfolding start_of live_in working_in
-start_back (StartAnswer.Started s) live working hold = (ap StartAnswer.Started (session-back s live working hold), refl, refl)
-start_back StartAnswer.NotAReceiver live working hold = (refl, refl, refl)
+start_back (Ok s) live working hold = (ap Ok (session-back s live working hold), refl, refl)
+start_back (Err refusal) live working hold = (refl, refl, refl)
 
 pub start-unique : (κs : _) (a : _) (r r' : _) (s s' : _) → start-reads.Post κs a r s → start-reads.Post κs a r' s' → (r ≡ r') × (s.1.0.now ≡ s'.1.0.now) × (s.1.1.0.now ≡ s'.1.1.0.now)
 start-unique κs a r r' s s' p q =
@@ -223,13 +223,13 @@ start-unique κs a r r' s s' p q =
 
 -- ---- reconnect and notify
 
-connected_of : ℕ → ReconnectAnswer
-connected_of n = cond (eqb n 22) ReconnectAnswer.NotAReceiver ReconnectAnswer.Connected
+connected_of : ℕ → Result ⊤ NotAReceiver
+connected_of n = cond (eqb n 22) (Err (record {})) (Ok tt)
 
-connected-back : (r : ReconnectAnswer) → connected_of (reconnect_number r) ≡ r
+connected-back : (r : Result ⊤ NotAReceiver) → connected_of (reconnect_number r) ≡ r
 unfolding connected_of
-connected-back ReconnectAnswer.Connected = refl
-connected-back ReconnectAnswer.NotAReceiver = refl
+connected-back (Ok tt) = refl
+connected-back (Err refusal) = refl
 
 one-connected : (r r' : Reconnected) (live working working' hold : List ℕ) (given : ReconnectSays) → reconnect_said r live working hold ≡ given → reconnect_said r' live working' hold ≡ given → (r ≡ r') × (working ≡ working')
 one-connected r r' live working working' hold given p q =
@@ -252,20 +252,20 @@ error_of k x =
     (cond (eqb k 8) (AskError.Encoding EncodeError.InvalidUtf8)
     (cond (eqb k 10) (AskError.Encoding EncodeError.TooLong) (AskError.Encoding (EncodeError.OutputShort (get_or x 0 0))))))))
 
-ask_of : Writing → AskAnswer
-ask_of (Writing.written n) = AskAnswer.Written n
-ask_of (Writing.refused k x) = AskAnswer.Refused (error_of k x)
+ask_of : Writing → Result ℕ AskError
+ask_of (Writing.written n) = Ok n
+ask_of (Writing.refused k x) = Err (error_of k x)
 
-ask-back : (a : AskAnswer) → ask_of (ask_writing a) ≡ a
+ask-back : (a : Result ℕ AskError) → ask_of (ask_writing a) ≡ a
 unfolding ask_of error_of
-ask-back (AskAnswer.Written n) = refl
-ask-back (AskAnswer.Refused AskError.NotAReceiver) = refl
-ask-back (AskAnswer.Refused AskError.WrongPhase) = refl
-ask-back (AskAnswer.Refused AskError.NoTable) = refl
-ask-back (AskAnswer.Refused (AskError.Encoding EncodeError.PlaceOutside)) = refl
-ask-back (AskAnswer.Refused (AskError.Encoding EncodeError.InvalidUtf8)) = refl
-ask-back (AskAnswer.Refused (AskError.Encoding EncodeError.TooLong)) = refl
-ask-back (AskAnswer.Refused (AskError.Encoding (EncodeError.OutputShort n))) = refl
+ask-back (Ok n) = refl
+ask-back (Err AskError.NotAReceiver) = refl
+ask-back (Err AskError.WrongPhase) = refl
+ask-back (Err AskError.NoTable) = refl
+ask-back (Err (AskError.Encoding EncodeError.PlaceOutside)) = refl
+ask-back (Err (AskError.Encoding EncodeError.InvalidUtf8)) = refl
+ask-back (Err (AskError.Encoding EncodeError.TooLong)) = refl
+ask-back (Err (AskError.Encoding (EncodeError.OutputShort n))) = refl
 
 one-asked : (r r' : AskedSession) (live working hold out out' : List ℕ) (given : AskSays) → ask_said r live working hold out ≡ given → ask_said r' live working hold out' ≡ given → (r ≡ r') × (out ≡ out')
 one-asked r r' live working hold out out' given p q =
@@ -279,24 +279,24 @@ full-ask-unique κs a r r' s s' p q = one-asked r r' _ _ _ s.1.1.1.1.0.now s'.1.
 pub change-ask-unique : (κs : _) (a : _) (r r' : _) (s s' : _) → change-reads.Post κs a r s → change-reads.Post κs a r' s' → (r ≡ r') × (s.1.1.1.1.0.now ≡ s'.1.1.1.1.0.now)
 change-ask-unique κs a r r' s s' p q = one-asked r r' _ _ _ s.1.1.1.1.0.now s'.1.1.1.1.0.now _ p q
 
-notify_of : NotifySays → NotifyAnswer
-notify_of (NotifySays.refused_notify number) = NotifyAnswer.NotAReceiver
-notify_of (NotifySays.compares Notified.none) = NotifyAnswer.None
-notify_of (NotifySays.compares Notified.other_session) = NotifyAnswer.OtherSession
-notify_of (NotifySays.compares Notified.same) = NotifyAnswer.Same
-notify_of (NotifySays.compares Notified.newer) = NotifyAnswer.Newer
-notify_of (NotifySays.compares Notified.older) = NotifyAnswer.Older
-notify_of (NotifySays.compares Notified.undefined) = NotifyAnswer.Undefined
+notify_of : NotifySays → Result Comparison NotAReceiver
+notify_of (NotifySays.refused_notify number) = Err (record {})
+notify_of (NotifySays.compares Notified.none) = Ok Comparison.None
+notify_of (NotifySays.compares Notified.other_session) = Ok Comparison.OtherSession
+notify_of (NotifySays.compares Notified.same) = Ok Comparison.Same
+notify_of (NotifySays.compares Notified.newer) = Ok Comparison.Newer
+notify_of (NotifySays.compares Notified.older) = Ok Comparison.Older
+notify_of (NotifySays.compares Notified.undefined) = Ok Comparison.Undefined
 
-notify-back : (r : NotifyAnswer) → notify_of (notify_said r) ≡ r
+notify-back : (r : Result Comparison NotAReceiver) → notify_of (notify_said r) ≡ r
 unfolding notify_of
-notify-back NotifyAnswer.None = refl
-notify-back NotifyAnswer.OtherSession = refl
-notify-back NotifyAnswer.Same = refl
-notify-back NotifyAnswer.Newer = refl
-notify-back NotifyAnswer.Older = refl
-notify-back NotifyAnswer.Undefined = refl
-notify-back NotifyAnswer.NotAReceiver = refl
+notify-back (Ok Comparison.None) = refl
+notify-back (Ok Comparison.OtherSession) = refl
+notify-back (Ok Comparison.Same) = refl
+notify-back (Ok Comparison.Newer) = refl
+notify-back (Ok Comparison.Older) = refl
+notify-back (Ok Comparison.Undefined) = refl
+notify-back (Err refusal) = refl
 
 pub notify-unique : (κs : _) (a : _) (r r' : _) (s s' : _) → notify-reads.Post κs a r s → notify-reads.Post κs a r' s' → r ≡ r'
 notify-unique κs a r r' s s' p q = only_one notify_said notify_of notify-back r r' _ p q

@@ -1,6 +1,7 @@
 -- Two laws of every update that finishes in a history, by History's page alone. Each of its records applied to the table that the ones before it made, the first to nothing or to the table before the update
 -- (`records-applied`): no record of a finished update was refused. And in version 0 it has the default intervals (`version-zero-defaults`, of the live table of a run `version-zero-table`). Both by what holds at
 -- each place of a connection and of each item (`each`). Assumes nothing.
+use Rattle.std.specs.Prelude.{Option, Some, None, ⊤}
 use Rattle.std.proofs.Common.{◌≡◌, ℕ, Bool, true, false, cond, ◌&&◌, eqb, leb, List, [], ◌∷◌, ◌++◌, sym, refl, ap, ◌∙◌, subst, arith}
 use Rattle.rtr_models.specs.Codes.{type_number, version_number}
 use Rattle.rtr_models.specs.Values.{announces, seconds_or, type_of}
@@ -23,7 +24,6 @@ use Rattle.rtr_receiver.specs.History.Next.{goes, finishes}
 use Rattle.rtr_receiver.specs.Runs.{Call, Memory, Run, history_of}
 use Rattle.rtr_receiver.specs.declared.LoadKind.{LoadKind}
 use Rattle.rtr_receiver.specs.declared.Table.{Table}
-use Rattle.rtr_receiver.specs.declared.LiveTable.{LiveTable}
 use Rattle.rtr_receiver.proofs.Runs.{history}
 
 -- ---- What holds at each place and of each item holds of each update
@@ -252,15 +252,15 @@ module _ (limit H : ℕ) where
       one_of limit V0 AnyPlace OfDefaults WasRead before u later no_table (subst (Each limit V0 AnyPlace OfDefaults WasRead no_table) e (zero-each es))
 
   -- so has the live table of a run
-  abbrev TableDefaults : LiveTable → Type 0
-  TableDefaults LiveTable.NoTable = Unit {0}
-  TableDefaults (LiveTable.Known t) = Defaults t
+  abbrev TableDefaults : Option Table → Type 0
+  TableDefaults None = Unit {0}
+  TableDefaults (Some t) = Defaults t
 
   last-defaults : (us : List Update) (live : Live) → TableDefaults live.info → Each limit V0 AnyPlace OfDefaults WasRead live us → TableDefaults (with_updates limit live us).info
   unfolding with_updates
   last-defaults [] live d all = d
   last-defaults (u ∷ us) live d all = last-defaults us (updated limit live u) all.0 all.1
 
-  pub version-zero-table : (calls : List Call) (m : Memory) (t : Table) → Run limit V0 H calls m → m.session.table ≡ LiveTable.Known t → Defaults t
+  pub version-zero-table : (calls : List Call) (m : Memory) (t : Table) → Run limit V0 H calls m → m.session.table ≡ Some t → Defaults t
   version-zero-table calls m t run e =
       subst TableDefaults (sym (ap (λ (l : Live). l.info) (history limit H V0 calls m run)) ∙ e) (last-defaults (finished limit H V0 (history_of calls)) no_table tt (zero-each (history_of calls)))

@@ -15,7 +15,7 @@
 --
 -- One update has finished, and the table holds that prefix under session 4660 and serial 7. Cut off before its last byte the history has no fourth item and no update, and there is no
 -- table; with another session in the End of Data there is none either, and the connection is lost by 15. proofs/Examples.antt has these computed, and a change that is refused half-way.
-use Rattle.std.specs.Prelude.{ℕ, Bool, true, false, cond, ◌&&◌, List, [], ◌∷◌, ◌++◌, ◌==◌, nat_le}
+use Rattle.std.specs.Prelude.{ℕ, Bool, true, false, cond, ◌&&◌, List, [], ◌∷◌, ◌++◌, ◌==◌, nat_le, Option, Some, None}
 use Rattle.rtr_models.specs.Codes.{code_number, found, type_number, version_number}
 use Rattle.rtr_models.specs.Values.{announces, seconds_or, type_of, version_of}
 use Rattle.rtr_models.specs.declared.RtrProtocolVersion.{RtrProtocolVersion}
@@ -30,7 +30,6 @@ use Rattle.rtr_room.specs.Table.{Change, ipv4_record, ipv6_record}
 use Rattle.rtr_receiver.specs.Contents.{Contents, Entry, nothing, enter_in, leave_in}
 use Rattle.rtr_receiver.specs.declared.LoadKind.{LoadKind}
 use Rattle.rtr_receiver.specs.declared.Table.{Table}
-use Rattle.rtr_receiver.specs.declared.LiveTable.{LiveTable}
 
 -- what happened, in order: a byte came, an ask was made with so much space for its query, a new connection began. Where pieces were cut is forgotten.
 pub data Event : Type 0 where
@@ -53,12 +52,12 @@ pub record Update : Type 0 where
 
 -- the live table: its session, serial and intervals, if there is one, and its records
 pub record Live : Type 0 where
-  pub info : LiveTable
+  pub info : Option Table
   pub records : Contents
 
 -- before an update has finished
 abbrev pub no_table : Live
-no_table = record { info = LiveTable.NoTable; records = nothing }
+no_table = record { info = None; records = nothing }
 
 -- what one record comes to; `Change` says 16, 17 or 18 where it does not apply
 abbrev pub applied : ℕ → Contents → Bool → Entry → Change
@@ -82,7 +81,7 @@ base LoadKind.Change t = t
 
 -- the table after one more update: what its End of Data said, and its records
 abbrev pub updated : ℕ → Live → Update → Live
-updated limit live u = record { info = LiveTable.Known u.end; records = with_all limit (base u.kind live.records) u.records }
+updated limit live u = record { info = Some u.end; records = with_all limit (base u.kind live.records) u.records }
 
 -- the table after some more
 unfoldable pub with_updates : ℕ → Live → List Update → Live
@@ -131,13 +130,13 @@ pub data Next : Type 0 where
   finishes : Update → Next
 
 -- an update has finished
-abbrev pub has_table : LiveTable → Bool
-has_table LiveTable.NoTable = false
-has_table (LiveTable.Known t) = true
+abbrev pub has_table : Option Table → Bool
+has_table None = false
+has_table (Some t) = true
 
 -- a full ask from idle or after a Cache Reset, a change ask from idle with a table, each where there is space for its query (8 bytes, or 12); others are refused and
 -- change nothing
-abbrev pub on_ask : LiveTable → Place → LoadKind → ℕ → Place
+abbrev pub on_ask : Option Table → Place → LoadKind → ℕ → Place
 on_ask info idle LoadKind.Full space = cond (nat_le 8 space) (asked LoadKind.Full) idle
 on_ask info idle LoadKind.Change space = cond (has_table info && nat_le 12 space) (asked LoadKind.Change) idle
 on_ask info must_reset LoadKind.Full space = cond (nat_le 8 space) (asked LoadKind.Full) must_reset
@@ -147,9 +146,9 @@ on_ask info (loading k session cs) kind space = loading k session cs
 on_ask info (lost number values) kind space = lost number values
 
 -- a change's answer is of the table's session
-abbrev pub of_session : LiveTable → ℕ → Bool
-of_session LiveTable.NoTable session = false
-of_session (LiveTable.Known t) session = session == t.session
+abbrev pub of_session : Option Table → ℕ → Bool
+of_session None session = false
+of_session (Some t) session = session == t.session
 
 -- which PDU is due at which place; any other loses the connection (13)
 abbrev pub due_at : Place → List RtrPduType
@@ -175,7 +174,7 @@ abbrev pub records_at : Place → List Changed
 records_at = elim [ idle ↦ [] | must_reset ↦ [] | asked kind ↦ [] | loading kind session cs ↦ cs | lost number values ↦ [] ]
 
 -- Cache Response: the load begins, for a change only of the table's session, else 15
-abbrev pub on_response : LiveTable → LoadKind → ℕ → Place
+abbrev pub on_response : Option Table → LoadKind → ℕ → Place
 on_response info LoadKind.Full session = loading LoadKind.Full session []
 on_response info LoadKind.Change session = cond (of_session info session) (loading LoadKind.Change session []) (lost 15 [])
 

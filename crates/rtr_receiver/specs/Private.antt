@@ -1,5 +1,5 @@
 -- What the private functions of src/lib.rt promise each other; no public promise rests on this page.
-use Rattle.std.specs.Prelude.{◌≡◌, ℕ, ◌+◌, ◌<◌, ◌≤◌, Bool, true, false, cond, ◌&&◌, ◌⊎◌, List, [], length, drop, replicate, ◌==◌, nat_le}
+use Rattle.std.specs.Prelude.{◌≡◌, ℕ, ◌+◌, ◌<◌, ◌≤◌, Bool, true, false, cond, ◌&&◌, ◌⊎◌, List, [], length, drop, replicate, ◌==◌, nat_le, Option, Some, None, Result, Ok, Err}
 use Rattle.rtr_models.specs.Values.{announces}
 use Rattle.rtr_models.specs.declared.RtrEndOfData.{RtrEndOfData}
 use Rattle.rtr_models.specs.declared.RtrProtocolVersion.{RtrProtocolVersion}
@@ -13,23 +13,19 @@ use Rattle.rtr_room.specs.declared.Record.{Record}
 use Rattle.rtr_receiver.specs.Receiver.{Stage, Receiver, Deed, Feed, is_due, kind_in, session_in, in_stage, stop, on_serial_notify, start_load, on_cache_response, on_record, finish, no_update, on_end_of_data, on_pdu, listens, on_piece, changed_to}
 use Rattle.rtr_receiver.specs.Receiver.Stage.{must_reset}
 use Rattle.rtr_receiver.specs.Promises.{stop_said, stopped_by, stage_of, is_loading, receiver_of, is_receiver, leaves, in_memory, fed_to, fed_said_by}
-use Rattle.rtr_encode.specs.declared.EncodeAnswer.{EncodeAnswer}
 use Rattle.rtr_receiver.specs.declared.LoadKind.{LoadKind}
 use Rattle.rtr_receiver.specs.declared.Stop.{Stop}
 use Rattle.rtr_receiver.specs.declared.Phase.{Phase}
-use Rattle.rtr_receiver.specs.declared.LiveTable.{LiveTable}
 use Rattle.rtr_receiver.specs.declared.Counts.{Counts}
 use Rattle.rtr_receiver.specs.declared.Session.{Session}
 use Rattle.rtr_receiver.specs.declared.AskError.{AskError}
-use Rattle.rtr_receiver.specs.declared.AskAnswer.{AskAnswer}
 use Rattle.rtr_receiver.specs.declared.AskedSession.{AskedSession}
-use Rattle.rtr_receiver.specs.declared.Carried.{Carried}
-use Rattle.rtr_receiver.specs.declared.Announced.{Announced}
 use Rattle.rtr_receiver.specs.declared.Doing.{Doing}
 use Rattle.rtr_receiver.specs.declared.DeedDone.{DeedDone}
-use Rattle.rtr_receiver.specs.declared.FeedAnswer.{FeedAnswer}
-use Rattle.rtr_receiver.specs.declared.Then.{Then}
 use Rattle.rtr_receiver.specs.declared.Step.{Step}
+use Rattle.rtr_encode.specs.declared.EncodeError.{EncodeError}
+use Rattle.rtr_receiver.specs.declared.Table.{Table}
+use Rattle.rtr_receiver.specs.declared.FeedError.{FeedError}
 
 -- both rooms keep the rules, nothing is held (a whole PDU has just been taken out of the hold), the receiver has not stopped, and the
 -- limit is the session's
@@ -69,18 +65,18 @@ abbrev pub end_in : Stage → RtrEndOfData → Receiver → Deed
 end_in stage p r = cond (is_due RtrPduType.EndOfData stage) (on_end_of_data (session_in stage) p r) (no_update (stop 13 [] r))
 
 -- the record that a PDU carries, and whether it is announced
-unfoldable pub carried_by : RtrPdu → Carried
-carried_by (SerialNotify p) = Carried.Nothing
-carried_by (SerialQuery p) = Carried.Nothing
-carried_by (ResetQuery p) = Carried.Nothing
-carried_by (CacheResponse p) = Carried.Nothing
-carried_by (IPv4Prefix p) = Carried.Record (announces p.flags) (ipv4_record p.prefix_length p.max_length p.prefix p.asn)
+unfoldable pub carried_by : RtrPdu → Option (Bool × Record)
+carried_by (SerialNotify p) = None
+carried_by (SerialQuery p) = None
+carried_by (ResetQuery p) = None
+carried_by (CacheResponse p) = None
+carried_by (IPv4Prefix p) = Some ((announces p.flags), (ipv4_record p.prefix_length p.max_length p.prefix p.asn))
 carried_by (IPv6Prefix p) =
-    Carried.Record (announces p.flags) (ipv6_record p.prefix_length p.max_length p.prefix.w0 p.prefix.w1 p.prefix.w2 p.prefix.w3 p.asn)
-carried_by (EndOfData p) = Carried.Nothing
-carried_by (CacheReset p) = Carried.Nothing
-carried_by (RouterKey p) = Carried.Nothing
-carried_by (ErrorReport p) = Carried.Nothing
+    Some ((announces p.flags), (ipv6_record p.prefix_length p.max_length p.prefix.w0 p.prefix.w1 p.prefix.w2 p.prefix.w3 p.asn))
+carried_by (EndOfData p) = None
+carried_by (CacheReset p) = None
+carried_by (RouterKey p) = None
+carried_by (ErrorReport p) = None
 
 -- a load begun: the working table starts empty, or as the live one
 abbrev pub begun : LoadKind → ℕ → Receiver → Receiver
@@ -106,12 +102,12 @@ abbrev pub Updates : Doing → ℕ → Type 0
 Updates doing n = (limit : ℕ) (r : Receiver) → n ≡ (carried_out limit doing r).updates
 
 -- the receiver in a phase of the session record, with a table of it
-abbrev pub placed : Phase → LiveTable → Receiver → Receiver
+abbrev pub placed : Phase → Option Table → Receiver → Receiver
 placed phase table r =
     record { version = r.version; stage = stage_of phase; table = table; note = r.note; live = r.live; working = r.working; held = r.held }
 
 -- in this phase and with this table the decision is what the definition does, whatever else the receiver has
-abbrev pub Decides : Phase → LiveTable → Doing → (ℕ → Receiver → Deed) → Type 0
+abbrev pub Decides : Phase → Option Table → Doing → (ℕ → Receiver → Deed) → Type 0
 Decides phase table doing to = (limit : ℕ) (r : Receiver) → carried_out limit doing (placed phase table r) ≡ to limit (placed phase table r)
 
 -- on this session the decision is what the definition does with the PDU, whatever is in the rooms
@@ -130,10 +126,10 @@ feed_here limit s live working hold piece at updates =
     on_piece limit (length hold) (record { receiver = receiver_of s live working hold; taken = at; updates = updates }) (drop at piece)
 
 -- one step: the feed is over, as the definition has it, or goes on from further in the piece to the same end
-abbrev pub SteppedTo : ℕ → Feed → List ℕ → ℕ → Session → ℕ → ℕ → Rooms → Rooms → List ℕ → Then → Type 0
-SteppedTo limit f piece at s next updates live working hold (Then.Done answer) =
+abbrev pub SteppedTo : ℕ → Feed → List ℕ → ℕ → Session → ℕ → ℕ → Rooms → Rooms → List ℕ → Option (Result ⊤ FeedError) → Type 0
+SteppedTo limit f piece at s next updates live working hold (Some answer) =
     fed_said_by answer next updates (leaves s live working hold) hold ≡ fed_to limit f
-SteppedTo limit f piece at s next updates live working hold Then.Again =
+SteppedTo limit f piece at s next updates live working hold None =
     (is_receiver limit s live working hold ≡ true)
     × (listens (stage_of s.phase) ≡ true)
     × (at < next)
@@ -158,10 +154,10 @@ abbrev pub may_gather : Session → ℕ → Bool
 may_gather s H = s.held == 0 && (nat_le 32 H && is_loading s.phase)
 
 -- the next PDU of a piece announces an entry, which enters any table that lacks it and has space; of anything else nothing is said
-abbrev pub AnnouncedAt : RtrProtocolVersion → List ℕ → ℕ → Announced → Type 0
-AnnouncedAt version piece at (Announced.Entry x next) =
+abbrev pub AnnouncedAt : RtrProtocolVersion → List ℕ → ℕ → Option (Record × ℕ) → Type 0
+AnnouncedAt version piece at (Some (x, next)) =
     (at < next) × (next ≤ length piece) × (in_rule x ≡ true) × ((limit : ℕ) (t : Contents) → is_in x t ≡ false → length t < limit → Gathers limit version piece at next t (insert x t))
-AnnouncedAt version piece at Announced.Other = Unit {0}
+AnnouncedAt version piece at None = Unit {0}
 
 -- one announcement more stands in the tail, and it is in neither table; or nothing was taken
 abbrev pub GatheredOne : RtrProtocolVersion → Rooms → ℕ → List ℕ → ℕ → ℕ → Rooms → Rooms → ℕ → Type 0
@@ -196,13 +192,13 @@ stopped_session s stop =
     record { life = s.life; phase = Phase.Stopped stop; table = s.table; note = s.note; live = s.live; working = record { records = 0 }; held = 0 }
 
 -- an ask whose query was written, or refused
-abbrev pub asked_for : Session → EncodeAnswer → Phase → AskedSession
-asked_for s (EncodeAnswer.Written n) phase =
+abbrev pub asked_for : Session → Result ℕ EncodeError → Phase → AskedSession
+asked_for s (Ok n) phase =
     record {
       session = record { life = s.life; phase = phase; table = s.table; note = s.note; live = s.live; working = s.working; held = s.held };
-      answer = AskAnswer.Written n;
+      answer = Ok n;
     }
-asked_for s (EncodeAnswer.Refused error) phase = record { session = s; answer = AskAnswer.Refused (AskError.Encoding error) }
+asked_for s (Err error) phase = record { session = s; answer = Err (AskError.Encoding error) }
 
 -- what a step asks: receiver shape, listening, a place in the piece, and no more updates than bytes
 abbrev pub StepAsks : ℕ → Session → Rooms → Rooms → List ℕ → List ℕ → ℕ → ℕ → Type 0
@@ -213,13 +209,13 @@ StepAsks limit s live working hold piece at updates =
     × (updates ≤ at)
 
 -- after a PDU the feed goes on, unless it stopped
-abbrev pub goes_on_in : Phase → Then
-goes_on_in Phase.Idle = Then.Again
-goes_on_in Phase.MustReset = Then.Again
-goes_on_in Phase.AskedFull = Then.Again
-goes_on_in Phase.AskedChange = Then.Again
-goes_on_in (Phase.Loading kind session) = Then.Again
-goes_on_in (Phase.Stopped stop) = Then.Done (FeedAnswer.Stopped stop)
+abbrev pub goes_on_in : Phase → Option (Result ⊤ FeedError)
+goes_on_in Phase.Idle = None
+goes_on_in Phase.MustReset = None
+goes_on_in Phase.AskedFull = None
+goes_on_in Phase.AskedChange = None
+goes_on_in (Phase.Loading kind session) = None
+goes_on_in (Phase.Stopped stop) = Some (Err (FeedError.Stopped stop))
 
 abbrev pub after_pdu : DeedDone → ℕ → ℕ → Step
 after_pdu d next updates =

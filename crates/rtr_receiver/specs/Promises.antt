@@ -1,7 +1,7 @@
 -- A session record and lent memory stand for a receiver; what each call promises of them: document 01, "Refusal numbers" (22) and "How tight the
 -- promises are". Definitions are over any record limit, and the calls promise them of the limit that the session record holds. 22 asks that a receiver may have that limit (`is_limit`): of
 -- any other, what supposes receiver shape says nothing.
-use Rattle.std.specs.Prelude.{◌≡◌, ℕ, ◌<◌, Bool, true, false, cond, not, ◌&&◌, ◌||◌, List, [], ◌∷◌, length, take, ◌==◌, nat_le}
+use Rattle.std.specs.Prelude.{◌≡◌, ℕ, ◌<◌, Bool, true, false, cond, not, ◌&&◌, ◌||◌, List, [], ◌∷◌, length, take, ◌==◌, nat_le, Option, None, Result, Ok, Err, ⊤}
 use Rattle.rtr_models.specs.Codes.{code_number}
 use Rattle.rtr_models.specs.declared.RtrProtocolVersion.{RtrProtocolVersion}
 use Rattle.rtr_models.specs.declared.RtrPdu.{RtrPdu}
@@ -18,20 +18,17 @@ use Rattle.rtr_receiver.specs.Receiver.Stage.{idle, must_reset, asked_full, aske
 use Rattle.rtr_receiver.specs.declared.LoadKind.{LoadKind}
 use Rattle.rtr_receiver.specs.declared.Stop.{Stop}
 use Rattle.rtr_receiver.specs.declared.Phase.{Phase}
-use Rattle.rtr_receiver.specs.declared.LiveTable.{LiveTable}
-use Rattle.rtr_receiver.specs.declared.Note.{Note}
 use Rattle.rtr_receiver.specs.declared.Life.{Life}
 use Rattle.rtr_receiver.specs.declared.Counts.{Counts}
 use Rattle.rtr_receiver.specs.declared.Session.{Session}
-use Rattle.rtr_receiver.specs.declared.StartAnswer.{StartAnswer}
 use Rattle.rtr_receiver.specs.declared.AskError.{AskError}
-use Rattle.rtr_receiver.specs.declared.AskAnswer.{AskAnswer}
 use Rattle.rtr_receiver.specs.declared.AskedSession.{AskedSession}
-use Rattle.rtr_receiver.specs.declared.FeedAnswer.{FeedAnswer}
 use Rattle.rtr_receiver.specs.declared.Fed.{Fed}
-use Rattle.rtr_receiver.specs.declared.ReconnectAnswer.{ReconnectAnswer}
 use Rattle.rtr_receiver.specs.declared.Reconnected.{Reconnected}
-use Rattle.rtr_receiver.specs.declared.NotifyAnswer.{NotifyAnswer}
+use Rattle.rtr_receiver.specs.declared.Table.{Table}
+use Rattle.rtr_receiver.specs.declared.FeedError.{FeedError}
+use Rattle.rtr_receiver.specs.declared.NotAReceiver.{NotAReceiver}
+use Rattle.rtr_receiver.specs.declared.Comparison.{Comparison}
 
 -- document 01's number and values of a stop
 abbrev pub stop_said : Stop → Verdict
@@ -138,8 +135,8 @@ pub data Reason (limit : ℕ) (s : Session) (live working : Rooms) (hold : List 
   held_over : length hold < s.held → Reason limit s live working hold
   live_rules : BreaksRules limit s.live live → Reason limit s live working hold
   working_rules : BreaksRules limit s.working working → Reason limit s live working hold
-  records_without_table : s.table ≡ LiveTable.NoTable → Used s.live → Reason limit s live working hold
-  change_without_table : s.table ≡ LiveTable.NoTable → change_under_way s.phase ≡ true → Reason limit s live working hold
+  records_without_table : s.table ≡ None → Used s.live → Reason limit s live working hold
+  change_without_table : s.table ≡ None → change_under_way s.phase ≡ true → Reason limit s live working hold
   working_outside_loading : is_loading s.phase ≡ false → Used s.working → Reason limit s live working hold
   held_in_stopped : is_stopped s.phase ≡ true → 0 < s.held → Reason limit s live working hold
   held_pdu : (pdu : RtrPdu) → judge in_use (length hold) (take s.held hold) ≡ Heard.whole pdu → Reason limit s live working hold
@@ -149,8 +146,8 @@ pub data Reason (limit : ℕ) (s : Session) (live working : Rooms) (hold : List 
 pub record Left : Type 0 where
   pub life : Life
   pub stage : Stage
-  pub table : LiveTable
-  pub note : Note
+  pub table : Option Table
+  pub note : Option (ℕ × ℕ)
   pub live_count : Counts
   pub working_count : Counts
   pub held_count : ℕ
@@ -218,10 +215,10 @@ feed_says limit s live working hold piece =
     (refused_feed 22 0 0 (leaves s live working hold) hold)
 
 -- what the code's answer says, given the memory that it leaves
-abbrev pub fed_said_by : FeedAnswer → ℕ → ℕ → Left → List ℕ → FeedSays
-fed_said_by FeedAnswer.GoesOn taken updates left hold = fed taken updates goes_on left
-fed_said_by (FeedAnswer.Stopped stop) taken updates left hold = fed taken updates (ending_of (stopped_by (stop_said stop))) left
-fed_said_by FeedAnswer.NotAReceiver taken updates left hold = refused_feed 22 taken updates left hold
+abbrev pub fed_said_by : Result ⊤ FeedError → ℕ → ℕ → Left → List ℕ → FeedSays
+fed_said_by (Ok tt) taken updates left hold = fed taken updates goes_on left
+fed_said_by (Err (FeedError.Stopped stop)) taken updates left hold = fed taken updates (ending_of (stopped_by (stop_said stop))) left
+fed_said_by (Err FeedError.NotAReceiver) taken updates left hold = refused_feed 22 taken updates left hold
 
 abbrev pub fed_said : Fed → Rooms → Rooms → List ℕ → FeedSays
 fed_said r live working hold = fed_said_by r.done.answer r.done.taken r.done.updates (leaves r.session live working hold) hold
@@ -242,9 +239,9 @@ start_says limit version live working hold =
     (started (in_memory limit (fresh version)))
     (refused_start 22 live working)
 
-abbrev pub start_said : StartAnswer → Rooms → Rooms → List ℕ → StartSays
-start_said (StartAnswer.Started s) live working hold = started (leaves s live working hold)
-start_said StartAnswer.NotAReceiver live working hold = refused_start 22 live working
+abbrev pub start_said : Result Session NotAReceiver → Rooms → Rooms → List ℕ → StartSays
+start_said (Ok s) live working hold = started (leaves s live working hold)
+start_said (Err refusal) live working hold = refused_start 22 live working
 
 -- ---- the asks: 22, 20, 21, 9; what was written or the refusal, the output, and what is left
 pub record AskSays : Type 0 where
@@ -273,9 +270,9 @@ ask_error AskError.WrongPhase = Writing.refused 20 []
 ask_error AskError.NoTable = Writing.refused 21 []
 ask_error (AskError.Encoding error) = encode_refusal error
 
-abbrev pub ask_writing : AskAnswer → Writing
-ask_writing (AskAnswer.Written n) = Writing.written n
-ask_writing (AskAnswer.Refused error) = ask_error error
+abbrev pub ask_writing : Result ℕ AskError → Writing
+ask_writing (Ok n) = Writing.written n
+ask_writing (Err error) = ask_error error
 
 abbrev pub ask_said : AskedSession → Rooms → Rooms → List ℕ → List ℕ → AskSays
 ask_said r live working hold out =
@@ -292,9 +289,9 @@ reconnect_says limit s live working hold =
     (record { number = 0; left = in_memory limit (reconnected (receiver_of s live working hold)) })
     (record { number = 22; left = leaves s live working hold })
 
-abbrev pub reconnect_number : ReconnectAnswer → ℕ
-reconnect_number ReconnectAnswer.Connected = 0
-reconnect_number ReconnectAnswer.NotAReceiver = 22
+abbrev pub reconnect_number : Result ⊤ NotAReceiver → ℕ
+reconnect_number (Ok tt) = 0
+reconnect_number (Err refusal) = 22
 
 abbrev pub reconnect_said : Reconnected → Rooms → Rooms → List ℕ → ReconnectSays
 reconnect_said r live working hold = record { number = reconnect_number r.answer; left = leaves r.session live working hold }
@@ -307,11 +304,11 @@ pub data NotifySays : Type 0 where
 unfoldable pub notify_says : ℕ → Session → Rooms → Rooms → List ℕ → NotifySays
 notify_says limit s live working hold = cond (is_receiver limit s live working hold) (compares (notified s.table s.note)) (refused_notify 22)
 
-abbrev pub notify_said : NotifyAnswer → NotifySays
-notify_said NotifyAnswer.None = compares Notified.none
-notify_said NotifyAnswer.OtherSession = compares Notified.other_session
-notify_said NotifyAnswer.Same = compares Notified.same
-notify_said NotifyAnswer.Newer = compares Notified.newer
-notify_said NotifyAnswer.Older = compares Notified.older
-notify_said NotifyAnswer.Undefined = compares Notified.undefined
-notify_said NotifyAnswer.NotAReceiver = refused_notify 22
+abbrev pub notify_said : Result Comparison NotAReceiver → NotifySays
+notify_said (Ok Comparison.None) = compares Notified.none
+notify_said (Ok Comparison.OtherSession) = compares Notified.other_session
+notify_said (Ok Comparison.Same) = compares Notified.same
+notify_said (Ok Comparison.Newer) = compares Notified.newer
+notify_said (Ok Comparison.Older) = compares Notified.older
+notify_said (Ok Comparison.Undefined) = compares Notified.undefined
+notify_said (Err refusal) = refused_notify 22

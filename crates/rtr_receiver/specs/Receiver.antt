@@ -1,6 +1,6 @@
 -- The receiver, byte by byte and PDU by PDU, on tables: document 01, "Stream and receiver". No memory, no room and no hold buffer is spoken of here. `due_in` is the table of turns, `deed_of` says what each PDU
 -- does in its turn, `on_pdu` has the tests before that in document 01's order; then come bytes and pieces, the asks, the new connection and the notify comparison.
-use Rattle.std.specs.Prelude.{ℕ, ◌+◌, ◌-◌, Bool, true, false, cond, ◌&&◌, ◌||◌, List, [], ◌∷◌, ◌++◌, ◌==◌, nat_le, nat_lt}
+use Rattle.std.specs.Prelude.{ℕ, ◌+◌, ◌-◌, Bool, true, false, cond, ◌&&◌, ◌||◌, List, [], ◌∷◌, ◌++◌, ◌==◌, nat_le, nat_lt, Option, Some, None}
 use Rattle.rtr_models.specs.Codes.{code_number, found, type_number, version_number}
 use Rattle.rtr_models.specs.Values.{announces, type_of, version_of}
 use Rattle.rtr_models.specs.declared.RtrProtocolVersion.{RtrProtocolVersion}
@@ -16,8 +16,7 @@ use Rattle.rtr_room.specs.Table.{Change, ipv4_record, ipv6_record}
 use Rattle.rtr_receiver.specs.Contents.{Contents, Entry, nothing, enter_in, leave_in}
 use Rattle.rtr_receiver.specs.History.{end_says}
 use Rattle.rtr_receiver.specs.declared.LoadKind.{LoadKind}
-use Rattle.rtr_receiver.specs.declared.LiveTable.{LiveTable}
-use Rattle.rtr_receiver.specs.declared.Note.{Note}
+use Rattle.rtr_receiver.specs.declared.Table.{Table}
 
 -- the phases; a load holds its kind and its session, a stop its number and values (document 01, "Refusal numbers")
 pub data Stage : Type 0 where
@@ -58,15 +57,15 @@ session_in = elim [ idle ↦ 0 | must_reset ↦ 0 | asked_full ↦ 0 | asked_cha
 pub record Receiver : Type 0 where
   pub version : RtrProtocolVersion
   pub stage : Stage
-  pub table : LiveTable
-  pub note : Note
+  pub table : Option Table
+  pub note : Option (ℕ × ℕ)
   pub live : Contents
   pub working : Contents
   pub held : List ℕ
 
 -- "Start .. gives the fresh state: Idle, no table, nothing held or noted"
 abbrev pub fresh : RtrProtocolVersion → Receiver
-fresh v = record { version = v; stage = idle; table = LiveTable.NoTable; note = Note.NoNote; live = nothing; working = nothing; held = [] }
+fresh v = record { version = v; stage = idle; table = None; note = None; live = nothing; working = nothing; held = [] }
 
 -- the same in another phase
 abbrev pub in_stage : Stage → Receiver → Receiver
@@ -88,7 +87,7 @@ on_serial_notify session serial r =
       version = r.version;
       stage = r.stage;
       table = r.table;
-      note = Note.Noted session serial;
+      note = Some (session, serial);
       live = r.live;
       working = r.working;
       held = r.held;
@@ -100,9 +99,9 @@ start_load kind session working r =
     record { version = r.version; stage = loading kind session; table = r.table; note = r.note; live = r.live; working = working; held = r.held }
 
 -- for a change the session must be the table's (15); where there is no table it is nobody's
-abbrev pub on_change_response : LiveTable → ℕ → Receiver → Receiver
-on_change_response LiveTable.NoTable session r = stop 15 [] r
-on_change_response (LiveTable.Known t) session r = cond (session == t.session) (start_load LoadKind.Change session r.live r) (stop 15 [] r)
+abbrev pub on_change_response : Option Table → ℕ → Receiver → Receiver
+on_change_response None session r = stop 15 [] r
+on_change_response (Some t) session r = cond (session == t.session) (start_load LoadKind.Change session r.live r) (stop 15 [] r)
 
 -- "Cache Response in an Asked phase begins Loading"
 abbrev pub on_cache_response : LoadKind → ℕ → Receiver → Receiver
@@ -126,7 +125,7 @@ finish p r =
     record {
       version = r.version;
       stage = idle;
-      table = LiveTable.Known (end_says p);
+      table = Some (end_says p);
       note = r.note;
       live = r.working;
       working = nothing;
@@ -239,9 +238,9 @@ full_query asked_change r = refused 20
 full_query (loading kind session) r = refused 20
 full_query (stopped number values) r = refused 20
 
-abbrev pub serial_query : LiveTable → Receiver → Query
-serial_query LiveTable.NoTable r = refused 21
-serial_query (LiveTable.Known t) r =
+abbrev pub serial_query : Option Table → Receiver → Query
+serial_query None r = refused 21
+serial_query (Some t) r =
     query (SerialQuery (record { version = r.version; session_id = t.session; serial_number = t.serial })) asked_change
 
 abbrev pub change_query : Stage → Receiver → Query
@@ -269,7 +268,7 @@ ask (refused number) r out = record { receiver = r; says = Writing.refused numbe
 -- "Reconnect: Idle; held bytes, working room and note cleared; table kept"
 abbrev pub reconnected : Receiver → Receiver
 reconnected r =
-    record { version = r.version; stage = idle; table = r.table; note = Note.NoNote; live = r.live; working = nothing; held = [] }
+    record { version = r.version; stage = idle; table = r.table; note = None; live = r.live; working = nothing; held = [] }
 
 -- RFC 1982, section 3.2, over 32 bits: a serial n beside the table's t
 pub data Notified : Type 0 where
@@ -291,7 +290,7 @@ abbrev pub compared : ℕ → ℕ → Notified
 compared n t = cond (n == t) same (cond (is_newer n t) newer (cond (is_newer t n) older undefined))
 
 -- "None comes first, without a note or a table"
-abbrev pub notified : LiveTable → Note → Notified
-notified LiveTable.NoTable note = none
-notified (LiveTable.Known t) Note.NoNote = none
-notified (LiveTable.Known t) (Note.Noted session serial) = cond (session == t.session) (compared serial t.serial) other_session
+abbrev pub notified : Option Table → Option (ℕ × ℕ) → Notified
+notified None note = none
+notified (Some t) None = none
+notified (Some t) (Some (session, serial)) = cond (session == t.session) (compared serial t.serial) other_session

@@ -1,16 +1,15 @@
 -- Demand 3's other side (the design, section 5): calls one after another, each meeting its promise, from a fresh start. `notify` changes nothing, a refused start begins no run, a second start
 -- begins a new one; H is the same throughout. What a call leaves of the hold past the held count is anything. proofs/Coded.antt: the code's calls are these steps.
-use Rattle.std.specs.Prelude.{◌≡◌, ℕ, Bool, true, false, List, [], ◌∷◌, ◌++◌, length}
+use Rattle.std.specs.Prelude.{◌≡◌, ℕ, Bool, true, false, List, [], ◌∷◌, ◌++◌, length, Result, Ok}
 use Rattle.rtr_models.specs.declared.RtrProtocolVersion.{RtrProtocolVersion}
 use Rattle.rtr_receiver.specs.Contents.{Rooms, contents}
 use Rattle.rtr_receiver.specs.History.{Event, Live}
 use Rattle.rtr_receiver.specs.Promises.{Left, leaves, fed_said, feed_says, start_said, start_says, ask_said, full_ask_says, change_ask_says, reconnect_said, reconnect_says}
 use Rattle.rtr_receiver.specs.declared.LoadKind.{LoadKind}
 use Rattle.rtr_receiver.specs.declared.Session.{Session}
-use Rattle.rtr_receiver.specs.declared.StartAnswer.{StartAnswer}
-use Rattle.rtr_receiver.specs.declared.AskAnswer.{AskAnswer}
 use Rattle.rtr_receiver.specs.declared.Done.{Done}
-use Rattle.rtr_receiver.specs.declared.ReconnectAnswer.{ReconnectAnswer}
+use Rattle.rtr_receiver.specs.declared.NotAReceiver.{NotAReceiver}
+use Rattle.rtr_receiver.specs.declared.AskError.{AskError}
 
 -- a call: a piece fed, an ask with the output lent for it, a new connection
 pub data Call : Type 0 where
@@ -51,13 +50,13 @@ pub data Step (limit : ℕ) (m : Memory) : Call → Memory → Type 0 where
       length hold ≡ length m.hold →
       fed_said (record { session = s; done = done }) live working hold ≡ feed_says limit m.session m.live m.working m.hold piece →
       Step limit m (feed piece) (record { session = s; live = live; working = working; hold = hold })
-  asked_full : {out : List ℕ} (s : Session) (answer : AskAnswer) (out' : List ℕ) →
+  asked_full : {out : List ℕ} (s : Session) (answer : Result ℕ AskError) (out' : List ℕ) →
       ask_said (record { session = s; answer = answer }) m.live m.working m.hold out' ≡ full_ask_says limit m.session m.live m.working m.hold out →
       Step limit m (ask LoadKind.Full out) (record { session = s; live = m.live; working = m.working; hold = m.hold })
-  asked_change : {out : List ℕ} (s : Session) (answer : AskAnswer) (out' : List ℕ) →
+  asked_change : {out : List ℕ} (s : Session) (answer : Result ℕ AskError) (out' : List ℕ) →
       ask_said (record { session = s; answer = answer }) m.live m.working m.hold out' ≡ change_ask_says limit m.session m.live m.working m.hold out →
       Step limit m (ask LoadKind.Change out) (record { session = s; live = m.live; working = m.working; hold = m.hold })
-  connected : (s : Session) (answer : ReconnectAnswer) (working : Rooms) →
+  connected : (s : Session) (answer : Result ⊤ NotAReceiver) (working : Rooms) →
       reconnect_said (record { session = s; answer = answer }) m.live working m.hold ≡ reconnect_says limit m.session m.live m.working m.hold →
       Step limit m reconnect (record { session = s; live = m.live; working = working; hold = m.hold })
 
@@ -65,7 +64,7 @@ pub data Step (limit : ℕ) (m : Memory) : Call → Memory → Type 0 where
 pub data Run (limit : ℕ) (version : RtrProtocolVersion) (H : ℕ) : List Call → Memory → Type 0 where
   started : (m : Memory) (live working : Rooms) →
       length m.hold ≡ H →
-      start_said (StartAnswer.Started m.session) m.live m.working m.hold ≡ start_says limit version live working m.hold →
+      start_said (Ok m.session) m.live m.working m.hold ≡ start_says limit version live working m.hold →
       Run limit version H [] m
   next : {calls : List Call} {call : Call} {m m' : Memory} → Run limit version H calls m → Step limit m call m' → Run limit version H (calls ++ call ∷ []) m'
 

@@ -12,14 +12,14 @@ ghost use Rattle.rtr_receiver.specs.Receiver.{changed_to, finish, no_update, on_
 ghost use Rattle.rtr_receiver.specs.Promises.{NotifySays, stop_said, change_under_way, is_loading, stage_of, receiver_of, in_order, is_receiver, FedAs, start_says, start_said, full_ask_says, change_ask_says, ask_said, reconnect_says, reconnect_said, notify_says, notify_said, record_limit, is_limit, tabled, cleared};
 ghost use Rattle.rtr_receiver.specs.Private.{AnnouncedAt, GatheredOne, GatheredTo, TakenTo, may_gather, BothRooms, Stands, Did, response_in, reset_in, end_in, carried_by, carried_out, Makes, Updates, Decides, DecidesOn, Filled, stopped_session, asked_for, after_pdu, feed_here, StepAsks, Stepped};
 
-use rtr_codec::{ReadAnswer, parse_rtr_pdu};
-use rtr_encode::{EncodeAnswer, EncodeError, encode_reset_query, encode_serial_query};
+use rtr_codec::{parse_rtr_pdu};
+use rtr_encode::{EncodeError, encode_reset_query, encode_serial_query};
 use rtr_models::*;
 use rtr_room::{
-    CopyAnswer, EnterAnswer, LeaveAnswer, LookUp, MergeAnswer, Record, copy, empty, enter, leave,
+    Record, copy, empty, enter, leave,
     look_up, merge, rules,
 };
-use rtr_stream::{Stream, StreamAnswer, StreamError, is_stream, search};
+use rtr_stream::{Stream, StreamError, is_stream, search};
 
 // How many records a room has at the most.
 pub const RECORD_LIMIT: usize = 1024;
@@ -70,19 +70,6 @@ pub struct Table {
     pub expire: u32,
 }
 
-#[derive(Clone, Copy)]
-pub enum LiveTable {
-    NoTable,
-    Known(Table),
-}
-
-// The last Serial Notify: session and serial.
-#[derive(Clone, Copy)]
-pub enum Note {
-    NoNote,
-    Noted(u16, u32),
-}
-
 // What is fixed for a receiver's life: its version, and how many records a room has at the most.
 #[derive(Clone, Copy)]
 pub struct Life {
@@ -101,20 +88,14 @@ pub struct Counts {
 pub struct Session {
     pub life: Life,
     pub phase: Phase,
-    pub table: LiveTable,
-    pub note: Note,
+    pub table: Option<Table>,
+    pub note: Option<(u16, u32)>,
     pub live: Counts,
     pub working: Counts,
     pub held: usize,
 }
 
 // ---- Answers
-
-#[derive(Clone, Copy)]
-pub enum StartAnswer {
-    Started(Session),
-    NotAReceiver,
-}
 
 #[derive(Clone, Copy)]
 pub enum AskError {
@@ -124,24 +105,10 @@ pub enum AskError {
     Encoding(EncodeError),
 }
 
-// How many bytes of the output are the query.
-#[derive(Clone, Copy)]
-pub enum AskAnswer {
-    Written(usize),
-    Refused(AskError),
-}
-
 #[derive(Clone, Copy)]
 pub struct AskedSession {
     pub session: Session,
-    pub answer: AskAnswer,
-}
-
-#[derive(Clone, Copy)]
-pub enum FeedAnswer {
-    GoesOn,
-    Stopped(Stop),
-    NotAReceiver,
+    pub answer: Result<usize, AskError>,
 }
 
 // What a feed did: bytes taken, updates finished, and whether it goes on.
@@ -149,7 +116,7 @@ pub enum FeedAnswer {
 pub struct Done {
     pub taken: usize,
     pub updates: usize,
-    pub answer: FeedAnswer,
+    pub answer: Result<(), FeedError>,
 }
 
 #[derive(Clone, Copy)]
@@ -159,27 +126,9 @@ pub struct Fed {
 }
 
 #[derive(Clone, Copy)]
-pub enum ReconnectAnswer {
-    Connected,
-    NotAReceiver,
-}
-
-#[derive(Clone, Copy)]
 pub struct Reconnected {
     pub session: Session,
-    pub answer: ReconnectAnswer,
-}
-
-// A Serial Notify beside the table's serial.
-#[derive(Clone, Copy)]
-pub enum NotifyAnswer {
-    None,
-    OtherSession,
-    Same,
-    Newer,
-    Older,
-    Undefined,
-    NotAReceiver,
+    pub answer: Result<(), NotAReceiver>,
 }
 
 impl Stop {
@@ -221,8 +170,8 @@ fn is_tabled(s: Session) -> bool
 {
     let table = s.table;
     match table {
-        LiveTable::Known(_) => true,
-        LiveTable::NoTable => {
+        Some(_) => true,
+        None => {
             let live = s.live;
             if live.records == 0 {
                 let phase = s.phase;
@@ -292,28 +241,28 @@ pub fn start(
     live: &mut [u32],
     working: &mut [u32],
     hold: &[u8],
-) -> StartAnswer
+) -> Result<Session, NotAReceiver>
     ensures { start_said result live.new working.new hold.now ≡ start_says record_limit version live.old working.old hold.now }
 {
     if live.len() != 6 * RECORD_LIMIT {
-        return StartAnswer::NotAReceiver;
+        return Err(NotAReceiver);
     }
     if working.len() != 6 * RECORD_LIMIT {
-        return StartAnswer::NotAReceiver;
+        return Err(NotAReceiver);
     }
     if hold.len() < 8 {
-        return StartAnswer::NotAReceiver;
+        return Err(NotAReceiver);
     }
     empty(live);
     empty(working);
-    StartAnswer::Started(Session {
+    Ok(Session {
         life: Life {
             version,
             limit: RECORD_LIMIT,
         },
         phase: Phase::Idle,
-        table: LiveTable::NoTable,
-        note: Note::NoNote,
+        table: None,
+        note: None,
         live: Counts { records: 0 },
         working: Counts { records: 0 },
         held: 0,
@@ -341,27 +290,27 @@ fn in_phase(s: Session, phase: Phase) -> Session
 }
 
 // What an ask that wrote its query, or could not, answers.
-fn asked(s: Session, answer: EncodeAnswer, phase: Phase) -> AskedSession
+fn asked(s: Session, answer: Result<usize, EncodeError>, phase: Phase) -> AskedSession
     ensures { result ≡ asked_for s answer phase }
 {
     match answer {
-        EncodeAnswer::Written(n) => AskedSession {
+        Ok(n) => AskedSession {
             session: in_phase(s, phase),
-            answer: AskAnswer::Written(n),
+            answer: Ok(n),
         },
-        EncodeAnswer::Refused(error) => AskedSession {
+        Err(error) => AskedSession {
             session: s,
-            answer: AskAnswer::Refused(AskError::Encoding(error)),
+            answer: Err(AskError::Encoding(error)),
         },
     }
 }
 
 fn ask_refused(s: Session, error: AskError) -> AskedSession
-    ensures { result ≡ record { session = s; answer = AskAnswer.Refused error } }
+    ensures { result ≡ record { session = s; answer = Err error } }
 {
     AskedSession {
         session: s,
-        answer: AskAnswer::Refused(error),
+        answer: Err(error),
     }
 }
 
@@ -412,8 +361,8 @@ pub fn change_ask(
         Phase::Idle => {
             let table = s.table;
             match table {
-                LiveTable::NoTable => ask_refused(s, AskError::NoTable),
-                LiveTable::Known(t) => {
+                None => ask_refused(s, AskError::NoTable),
+                Some(t) => {
                     let life = s.life;
                     let version = life.version;
                     let answer = encode_serial_query(
@@ -439,7 +388,7 @@ pub fn reconnect(s: Session, live: &[u32], working: &mut [u32], hold: &[u8]) -> 
     if !is_receiver(s, live, working, hold) {
         return Reconnected {
             session: s,
-            answer: ReconnectAnswer::NotAReceiver,
+            answer: Err(NotAReceiver),
         };
     }
     empty(working);
@@ -451,48 +400,48 @@ pub fn reconnect(s: Session, live: &[u32], working: &mut [u32], hold: &[u8]) -> 
             life,
             phase: Phase::Idle,
             table,
-            note: Note::NoNote,
+            note: None,
             live: in_live,
             working: Counts { records: 0 },
             held: 0,
         },
-        answer: ReconnectAnswer::Connected,
+        answer: Ok(()),
     }
 }
 
 // A serial beside the table's, by RFC 1982 over 32 bits that wrap: how far it is ahead decides.
-fn compare(serial: u32, table: u32) -> NotifyAnswer
+fn compare(serial: u32, table: u32) -> Result<Comparison, NotAReceiver>
     ensures { notify_said result ≡ NotifySays.compares (compared serial table) }
 {
     let ahead = std::num::wrapping_sub_u32(serial, table);
     if ahead == 0 {
-        return NotifyAnswer::Same;
+        return Ok(Comparison::Same);
     }
     if ahead < 2147483648 {
-        return NotifyAnswer::Newer;
+        return Ok(Comparison::Newer);
     }
     if ahead == 2147483648 {
-        return NotifyAnswer::Undefined;
+        return Ok(Comparison::Undefined);
     }
-    NotifyAnswer::Older
+    Ok(Comparison::Older)
 }
 
 // Whether the last Serial Notify tells of something newer than the table.
-pub fn notify(s: Session, live: &[u32], working: &[u32], hold: &[u8]) -> NotifyAnswer
+pub fn notify(s: Session, live: &[u32], working: &[u32], hold: &[u8]) -> Result<Comparison, NotAReceiver>
     ensures { notify_said result ≡ notify_says s.life.limit s live.now working.now hold.now }
 {
     if !is_receiver(s, live, working, hold) {
-        return NotifyAnswer::NotAReceiver;
+        return Err(NotAReceiver);
     }
     let table = s.table;
     let note = s.note;
     match table {
-        LiveTable::NoTable => NotifyAnswer::None,
-        LiveTable::Known(t) => match note {
-            Note::NoNote => NotifyAnswer::None,
-            Note::Noted(session, serial) => {
+        None => Ok(Comparison::None),
+        Some(t) => match note {
+            None => Ok(Comparison::None),
+            Some((session, serial)) => {
                 if session != t.session {
-                    return NotifyAnswer::OtherSession;
+                    return Ok(Comparison::OtherSession);
                 }
                 compare(serial, t.serial)
             }
@@ -530,7 +479,7 @@ fn stop_with(s: Session, working: &mut [u32], stop: Stop) -> Session
 }
 
 fn on_serial_notify(s: Session, session_id: u16, serial_number: u32) -> Session
-    ensures { result ≡ record { life = s.life; phase = s.phase; table = s.table; note = Note.Noted session_id serial_number; live = s.live; working = s.working; held = s.held } }
+    ensures { result ≡ record { life = s.life; phase = s.phase; table = s.table; note = Some (session_id, serial_number); live = s.live; working = s.working; held = s.held } }
 {
     let life = s.life;
     let phase = s.phase;
@@ -541,7 +490,7 @@ fn on_serial_notify(s: Session, session_id: u16, serial_number: u32) -> Session
         life,
         phase,
         table,
-        note: Note::Noted(session_id, serial_number),
+        note: Some((session_id, serial_number)),
         live,
         working,
         held: s.held,
@@ -595,10 +544,10 @@ fn on_announcement(s: Session, live: &[u32], working: &mut [u32], r: Record) -> 
     let in_working = s.working;
     let answer = enter(working, in_working.records, r);
     match answer {
-        EnterAnswer::Entered(count) => with_working(s, count),
-        EnterAnswer::AlreadyIn => stop_with(s, working, Stop::AlreadyIn),
-        EnterAnswer::Full => stop_with(s, working, Stop::RoomFull),
-        EnterAnswer::NotARoom => stop_with(s, working, Stop::RoomFull),
+        Ok(count) => with_working(s, count),
+        Err(EnterError::AlreadyIn) => stop_with(s, working, Stop::AlreadyIn),
+        Err(EnterError::Full) => stop_with(s, working, Stop::RoomFull),
+        Err(EnterError::NotARoom) => stop_with(s, working, Stop::RoomFull),
     }
 }
 
@@ -610,9 +559,9 @@ fn on_withdrawal(s: Session, live: &[u32], working: &mut [u32], r: Record) -> Se
     let in_working = s.working;
     let answer = leave(working, in_working.records, r);
     match answer {
-        LeaveAnswer::Left(count) => with_working(s, count),
-        LeaveAnswer::NotIn => stop_with(s, working, Stop::NotIn),
-        LeaveAnswer::NotARoom => stop_with(s, working, Stop::NotIn),
+        Ok(count) => with_working(s, count),
+        Err(LeaveError::NotIn) => stop_with(s, working, Stop::NotIn),
+        Err(LeaveError::NotARoom) => stop_with(s, working, Stop::NotIn),
     }
 }
 
@@ -629,7 +578,7 @@ fn finish(s: Session, live: &mut [u32], working: &mut [u32], p: RtrEndOfData) ->
     Session {
         life,
         phase: Phase::Idle,
-        table: LiveTable::Known(Table {
+        table: Some(Table {
             session: p.session_id,
             serial: p.serial_number,
             refresh: p.refresh_interval_or_default(),
@@ -649,20 +598,13 @@ fn is_version(a: RtrProtocolVersion, b: RtrProtocolVersion) -> bool
     a.to_u8() == b.to_u8()
 }
 
-// The record that a PDU carries, and whether it is announced.
-#[derive(Clone, Copy)]
-enum Carried {
-    Record(bool, Record),
-    Nothing,
-}
-
-fn carried_by(pdu: RtrPdu) -> Carried
+fn carried_by(pdu: RtrPdu) -> Option<(bool, Record)>
     ensures { result ≡ carried_by pdu }
 {
     match pdu {
         RtrPdu::IPv4Prefix(p) => {
             let record = Record::ipv4(p.prefix_length, p.max_length, p.prefix, p.asn);
-            Carried::Record(p.is_announcement(), record)
+            Some((p.is_announcement(), record))
         }
         RtrPdu::IPv6Prefix(p) => {
             let prefix = p.prefix;
@@ -675,9 +617,9 @@ fn carried_by(pdu: RtrPdu) -> Carried
                 prefix.w3,
                 p.asn,
             );
-            Carried::Record(p.is_announcement(), record)
+            Some((p.is_announcement(), record))
         }
-        _ => Carried::Nothing,
+        _ => None,
     }
 }
 
@@ -705,14 +647,14 @@ fn in_load(phase: Phase, doing: Doing) -> Doing
 }
 
 // A change's response must be of the table's session.
-fn at_response(phase: Phase, table: LiveTable, session_id: u16) -> Doing
+fn at_response(phase: Phase, table: Option<Table>, session_id: u16) -> Doing
     ensures { Decides phase table result (λ limit r. no_update (response_in (stage_of phase) session_id r)) }
 {
     match phase {
         Phase::AskedFull => Doing::Begins(LoadKind::Full, session_id),
         Phase::AskedChange => match table {
-            LiveTable::NoTable => Doing::Stops(Stop::OtherSession),
-            LiveTable::Known(t) => {
+            None => Doing::Stops(Stop::OtherSession),
+            Some(t) => {
                 if session_id != t.session {
                     return Doing::Stops(Stop::OtherSession);
                 }
@@ -748,8 +690,8 @@ fn at_end_of_data(phase: Phase, p: RtrEndOfData) -> Doing
 }
 
 // A PDU that carries no record: by what it is.
-fn decide_other(phase: Phase, table: LiveTable, pdu: RtrPdu) -> Doing
-    requires { (listens (stage_of phase) ≡ true) × (carried_by pdu ≡ Carried.Nothing) }
+fn decide_other(phase: Phase, table: Option<Table>, pdu: RtrPdu) -> Doing
+    requires { (listens (stage_of phase) ≡ true) × (carried_by pdu ≡ None) }
     ensures { Decides phase table result (λ limit r. on_kind limit pdu r) }
 {
     match pdu {
@@ -763,14 +705,14 @@ fn decide_other(phase: Phase, table: LiveTable, pdu: RtrPdu) -> Doing
 }
 
 // A PDU of the receiver's version that is no Error Report: a record of either family in one place, any other by what it is.
-fn decide_kind(phase: Phase, table: LiveTable, pdu: RtrPdu) -> Doing
+fn decide_kind(phase: Phase, table: Option<Table>, pdu: RtrPdu) -> Doing
     requires { listens (stage_of phase) ≡ true }
     ensures { Decides phase table result (λ limit r. on_kind limit pdu r) }
 {
     let carried = carried_by(pdu);
     match carried {
-        Carried::Record(announced, record) => in_load(phase, Doing::Takes(announced, record)),
-        Carried::Nothing => decide_other(phase, table, pdu),
+        Some((announced, record)) => in_load(phase, Doing::Takes(announced, record)),
+        None => decide_other(phase, table, pdu),
     }
 }
 
@@ -863,19 +805,12 @@ fn on_pdu(s: Session, live: &mut [u32], working: &mut [u32], pdu: RtrPdu) -> Dee
 
 // ---- Feed
 
-// What is to be done after a step of a feed.
-#[derive(Clone, Copy)]
-enum Then {
-    Again,
-    Done(FeedAnswer),
-}
-
 #[derive(Clone, Copy)]
 struct Step {
     session: Session,
     next: usize,
     updates: usize,
-    then: Then,
+    then: Option<Result<(), FeedError>>,
 }
 
 // The session with another count in the hold.
@@ -911,13 +846,13 @@ fn after_pdu(d: DeedDone, next: usize, updates: usize) -> Step
             session,
             next,
             updates: updates + d.updates,
-            then: Then::Done(FeedAnswer::Stopped(stop)),
+            then: Some(Err(FeedError::Stopped(stop))),
         },
         _ => Step {
             session,
             next,
             updates: updates + d.updates,
-            then: Then::Again,
+            then: None,
         },
     }
 }
@@ -940,27 +875,27 @@ fn one_step(
     let stream = searched.stream;
     let answer = searched.answer;
     match answer {
-        StreamAnswer::Found(pdu, _) => {
+        Ok(Some((pdu, _))) => {
             let d = on_pdu(with_held(s, 0), live, working, pdu);
             after_pdu(d, next, updates)
         }
-        StreamAnswer::Refused(error) => Step {
+        Err(SearchError::Refused(error)) => Step {
             session: stop_with(s, working, Stop::Stream(error)),
             next,
             updates,
-            then: Then::Done(FeedAnswer::Stopped(Stop::Stream(error))),
+            then: Some(Err(FeedError::Stopped(Stop::Stream(error)))),
         },
-        StreamAnswer::More => Step {
+        Ok(None) => Step {
             session: with_held(s, stream.held),
             next,
             updates,
-            then: Then::Done(FeedAnswer::GoesOn),
+            then: Some(Ok(())),
         },
-        StreamAnswer::NotAStream => Step {
+        Err(SearchError::NotAStream) => Step {
             session: s,
             next,
             updates,
-            then: Then::Done(FeedAnswer::NotAReceiver),
+            then: Some(Err(FeedError::NotAReceiver)),
         },
     }
 }
@@ -968,37 +903,30 @@ fn one_step(
 // ---- The run step: announcements that stand one after another in a piece gather in a sorted tail and are merged into the working room together.
 // At anything else it breaks off before that PDU, and `one_step` decides it.
 
-// The next PDU of a piece, where it is an announced prefix: its record, and where it ends.
-#[derive(Clone, Copy)]
-enum Announced {
-    Entry(Record, usize),
-    Other,
-}
-
 // A prefix has 32 bytes at the most: a longer PDU is left alone, and with a hold of 32 bytes no prefix is too long (12).
-fn announced_at(version: RtrProtocolVersion, piece: &[u8], at: usize) -> Announced
+fn announced_at(version: RtrProtocolVersion, piece: &[u8], at: usize) -> Option<(Record, usize)>
     requires { at ≤ length piece.now }
     ensures { AnnouncedAt version piece.now at result }
 {
     let answer = parse_rtr_pdu(&piece[at..]);
     match answer {
-        ReadAnswer::Refused(_) => Announced::Other,
-        ReadAnswer::Read(pdu, consumed) => {
+        Err(_) => None,
+        Ok((pdu, consumed)) => {
             if consumed > 32 {
-                return Announced::Other;
+                return None;
             }
             let spoken = pdu.version();
             if !is_version(spoken, version) {
-                return Announced::Other;
+                return None;
             }
             let carried = carried_by(pdu);
             match carried {
-                Carried::Nothing => Announced::Other,
-                Carried::Record(is_announced, record) => {
+                None => None,
+                Some((is_announced, record)) => {
                     if is_announced {
-                        return Announced::Entry(record, at + consumed);
+                        return Some((record, at + consumed));
                     }
-                    Announced::Other
+                    None
                 }
             }
         }
@@ -1037,13 +965,13 @@ fn gather_one(
 {
     let found = announced_at(version, piece, at);
     match found {
-        Announced::Other => at,
-        Announced::Entry(record, next) => match look_up(working, count, record) {
-            LookUp::Missing(_) => match enter(tail, n, record) {
-                EnterAnswer::Entered(_) => next,
-                EnterAnswer::AlreadyIn => at,
-                EnterAnswer::Full => at,
-                EnterAnswer::NotARoom => at,
+        None => at,
+        Some((record, next)) => match look_up(working, count, record) {
+            Ok(Position::Missing(_)) => match enter(tail, n, record) {
+                Ok(_) => next,
+                Err(EnterError::AlreadyIn) => at,
+                Err(EnterError::Full) => at,
+                Err(EnterError::NotARoom) => at,
             },
             _ => at,
         },
@@ -1104,18 +1032,18 @@ fn take_run(
     ensures { TakenTo (limit_of working.old) version piece.now at count working.old result.count result.next working.new }
 {
     let first = announced_at(version, piece, at);
-    if let Announced::Other = first {
+    if let None = first {
         return Taken { count, next: at };
     }
     let mut tail = [0u32; 6 * RUN_LIMIT];
     let run = gather(version, working, count, &mut tail, piece, at);
     let next = run.next;
     match merge(working, count, &tail, run.count) {
-        MergeAnswer::Merged(merged) => Taken {
+        Ok(merged) => Taken {
             count: merged,
             next,
         },
-        MergeAnswer::NotARoom => Taken { count, next: at },
+        Err(_) => Taken { count, next: at },
     }
 }
 
@@ -1144,7 +1072,7 @@ fn next_step(
             session: with_working(s, run.count),
             next: run.next,
             updates,
-            then: Then::Again,
+            then: None,
         };
     }
     one_step(s, live, working, hold, piece, at, updates)
@@ -1160,7 +1088,7 @@ pub fn feed(s: Session, live: &mut [u32], working: &mut [u32], hold: &mut [u8], 
             done: Done {
                 taken: 0,
                 updates: 0,
-                answer: FeedAnswer::NotAReceiver,
+                answer: Err(FeedError::NotAReceiver),
             },
         };
     }
@@ -1171,7 +1099,7 @@ pub fn feed(s: Session, live: &mut [u32], working: &mut [u32], hold: &mut [u8], 
             done: Done {
                 taken: 0,
                 updates: 0,
-                answer: FeedAnswer::Stopped(stop),
+                answer: Err(FeedError::Stopped(stop)),
             },
         };
     }
@@ -1184,7 +1112,7 @@ pub fn feed(s: Session, live: &mut [u32], working: &mut [u32], hold: &mut [u8], 
         at = step.next;
         updates = step.updates;
         let then = step.then;
-        if let Then::Done(done) = then {
+        if let Some(done) = then {
             break done;
         }
     };

@@ -12,6 +12,7 @@ pub mod Kept
 pub mod Keys
 pub mod Last
 pub mod Joins
+use Rattle.std.specs.Prelude.{Some, None}
 use Prim.Native.Nat.{ℕ, suc, ◌+◌, ◌*◌, ◌<◌, ◌≤◌}
 use mathlib.Core.Bool.{true, false, cond, not, ◌&&◌, ◌||◌}
 use mathlib.Core.List.{List, [], ◌∷◌, ◌++◌}
@@ -26,7 +27,6 @@ use Rattle.rtr_room.specs.Room.{room, record_from, record_at, record_found, reco
 use Rattle.rtr_room.specs.Room.Found.{stands_at, missing_at}
 use Rattle.rtr_room.specs.Room.Said.{counted, refused_by}
 use Rattle.rtr_room.specs.declared.Record.{Record}
-use Rattle.rtr_room.specs.declared.RecordFound.{RecordFound}
 use Rattle.rtr_room.proofs.Laws.Records as made
 use Rattle.rtr_room.proofs.Laws.Order as order
 use Rattle.rtr_room.proofs.Laws.Tables as tables
@@ -293,10 +293,10 @@ pub records-length : (n : ℕ) (s : List ℕ) → length (records n s) ≡ n
 records-length = rooms.records-length
 
 -- record i is found where its six numbers are all there, and nowhere else
-pub found_inside : (s : List ℕ) (i : ℕ) → 6 * i + 6 ≤ length s → record_found s i ≡ RecordFound.Found (record_at s i)
+pub found_inside : (s : List ℕ) (i : ℕ) → 6 * i + 6 ≤ length s → record_found s i ≡ Some (record_at s i)
 found_inside = rooms.found_inside
 
-pub found-outside : (s : List ℕ) (i : ℕ) → length s < 6 * i + 6 → record_found s i ≡ RecordFound.Outside
+pub found-outside : (s : List ℕ) (i : ℕ) → length s < 6 * i + 6 → record_found s i ≡ None
 found-outside = rooms.found-outside
 
 -- no two tables have one room

@@ -1,5 +1,6 @@
 -- What each public function promises leaves one result and one content of the lent room. `Post` is the contract as Rattle reads it off the
 -- source, and `s` the parameters as the function returns. Assumes nothing.
+use Rattle.std.specs.Prelude.{Result, Ok, Err, ⊤}
 use Prim.Native.Nat.{ℕ}
 use mathlib.Core.Bool.{cond}
 use mathlib.Core.List.{List}
@@ -9,11 +10,6 @@ use Rattle.rtr_base.proofs.Unique.{only_one, only-this}
 use Rattle.rtr_room.specs.Room.{Found, Said, Outcome, found, enter_said, leave_said, merge_said, copy_said}
 use Rattle.rtr_room.specs.Room.Found.{stands_at, missing_at, refused}
 use Rattle.rtr_room.specs.Room.Said.{counted, refused_by}
-use Rattle.rtr_room.specs.declared.LookUp.{LookUp}
-use Rattle.rtr_room.specs.declared.EnterAnswer.{EnterAnswer}
-use Rattle.rtr_room.specs.declared.LeaveAnswer.{LeaveAnswer}
-use Rattle.rtr_room.specs.declared.MergeAnswer.{MergeAnswer}
-use Rattle.rtr_room.specs.declared.CopyAnswer.{CopyAnswer}
 use Rattle.rtr_room.proofs.Record.ipv4.Reads as ipv4
 use Rattle.rtr_room.proofs.Record.ipv6.Reads as ipv6
 use Rattle.rtr_room.proofs.Record.family.Reads as family
@@ -27,56 +23,60 @@ use Rattle.rtr_room.proofs.leave.Reads as leave
 use Rattle.rtr_room.proofs.merge.Reads as merge
 use Rattle.rtr_room.proofs.empty.Reads as empty
 use Rattle.rtr_room.proofs.copy.Reads as copy
+use Rattle.rtr_room.specs.declared.NotARoom.{NotARoom}
+use Rattle.rtr_room.specs.declared.Position.{Position}
+use Rattle.rtr_room.specs.declared.EnterError.{EnterError}
+use Rattle.rtr_room.specs.declared.LeaveError.{LeaveError}
 
 -- the answers that say so
-look_up_of : Found → LookUp
-look_up_of (stands_at at) = LookUp.At at
-look_up_of (missing_at at) = LookUp.Missing at
-look_up_of (refused k) = LookUp.NotARoom
+look_up_of : Found → Result Position NotARoom
+look_up_of (stands_at at) = Ok (Position.At at)
+look_up_of (missing_at at) = Ok (Position.Missing at)
+look_up_of (refused k) = Err (record {})
 
-enter_of : Said → EnterAnswer
-enter_of (counted n) = EnterAnswer.Entered n
-enter_of (refused_by k) = cond (eqb k 17) EnterAnswer.AlreadyIn (cond (eqb k 18) EnterAnswer.Full EnterAnswer.NotARoom)
+enter_of : Said → Result ℕ EnterError
+enter_of (counted n) = Ok n
+enter_of (refused_by k) = cond (eqb k 17) (Err EnterError.AlreadyIn) (cond (eqb k 18) (Err EnterError.Full) (Err EnterError.NotARoom))
 
-leave_of : Said → LeaveAnswer
-leave_of (counted n) = LeaveAnswer.Left n
-leave_of (refused_by k) = cond (eqb k 16) LeaveAnswer.NotIn LeaveAnswer.NotARoom
+leave_of : Said → Result ℕ LeaveError
+leave_of (counted n) = Ok n
+leave_of (refused_by k) = cond (eqb k 16) (Err LeaveError.NotIn) (Err LeaveError.NotARoom)
 
-merge_of : Said → MergeAnswer
-merge_of (counted n) = MergeAnswer.Merged n
-merge_of (refused_by k) = MergeAnswer.NotARoom
+merge_of : Said → Result ℕ NotARoom
+merge_of (counted n) = Ok n
+merge_of (refused_by k) = Err (record {})
 
-copy_of : ℕ → CopyAnswer
-copy_of k = cond (eqb k 0) CopyAnswer.Copied CopyAnswer.NotARoom
+copy_of : ℕ → Result ⊤ NotARoom
+copy_of k = cond (eqb k 0) (Ok tt) (Err (record {}))
 
-look-up-back : (a : LookUp) → look_up_of (found a) ≡ a
+look-up-back : (a : Result Position NotARoom) → look_up_of (found a) ≡ a
 unfolding look_up_of
-look-up-back (LookUp.At at) = refl
-look-up-back (LookUp.Missing at) = refl
-look-up-back LookUp.NotARoom = refl
+look-up-back (Ok (Position.At at)) = refl
+look-up-back (Ok (Position.Missing at)) = refl
+look-up-back (Err refusal) = refl
 
-enter-back : (a : EnterAnswer) → enter_of (enter_said a) ≡ a
+enter-back : (a : Result ℕ EnterError) → enter_of (enter_said a) ≡ a
 unfolding enter_of
-enter-back (EnterAnswer.Entered n) = refl
-enter-back EnterAnswer.AlreadyIn = refl
-enter-back EnterAnswer.Full = refl
-enter-back EnterAnswer.NotARoom = refl
+enter-back (Ok n) = refl
+enter-back (Err EnterError.AlreadyIn) = refl
+enter-back (Err EnterError.Full) = refl
+enter-back (Err EnterError.NotARoom) = refl
 
-leave-back : (a : LeaveAnswer) → leave_of (leave_said a) ≡ a
+leave-back : (a : Result ℕ LeaveError) → leave_of (leave_said a) ≡ a
 unfolding leave_of
-leave-back (LeaveAnswer.Left n) = refl
-leave-back LeaveAnswer.NotIn = refl
-leave-back LeaveAnswer.NotARoom = refl
+leave-back (Ok n) = refl
+leave-back (Err LeaveError.NotIn) = refl
+leave-back (Err LeaveError.NotARoom) = refl
 
-merge-back : (a : MergeAnswer) → merge_of (merge_said a) ≡ a
+merge-back : (a : Result ℕ NotARoom) → merge_of (merge_said a) ≡ a
 unfolding merge_of
-merge-back (MergeAnswer.Merged n) = refl
-merge-back MergeAnswer.NotARoom = refl
+merge-back (Ok n) = refl
+merge-back (Err refusal) = refl
 
-copy-back : (a : CopyAnswer) → copy_of (copy_said a) ≡ a
+copy-back : (a : Result ⊤ NotARoom) → copy_of (copy_said a) ≡ a
 unfolding copy_of
-copy-back CopyAnswer.Copied = refl
-copy-back CopyAnswer.NotARoom = refl
+copy-back (Ok tt) = refl
+copy-back (Err refusal) = refl
 
 one-outcome : {A : Type 0} (said : A → Said) (undone : Said → A) → ((a : A) → undone (said a) ≡ a) → (r r' : A) (l l' : List ℕ) (given : Outcome)
     → record { says = said r; left = l } ≡ given → record { says = said r'; left = l' } ≡ given → (r ≡ r') × (l ≡ l')

@@ -1,15 +1,13 @@
 -- A room: a table as numbers, six for a record, with zeros behind (document 01, "Stream and receiver"), and what each call makes of ANY
 -- numbers and count, by its "Refusal numbers". On the room of a table these are the table's own `enter`, `leave` and `join`: proofs/Laws.antt.
-use Rattle.std.specs.Prelude.{ℕ, zero, suc, ◌+◌, ◌-◌, ◌*◌, ◌/◌, Bool, true, cond, ◌&&◌, List, [], ◌∷◌, ◌++◌, length, get_or, take, drop, replicate, leb, ltb, eqb}
+use Rattle.std.specs.Prelude.{ℕ, zero, suc, ◌+◌, ◌-◌, ◌*◌, ◌/◌, Bool, true, cond, ◌&&◌, List, [], ◌∷◌, ◌++◌, length, get_or, take, drop, replicate, leb, ltb, eqb, Option, Some, None, Result, Ok, Err, ⊤}
 use Rattle.rtr_room.specs.Table.{before, same, is_table, Change}
 use Rattle.rtr_room.specs.Table.Change.{changed}
 use Rattle.rtr_room.specs.declared.Record.{Record}
-use Rattle.rtr_room.specs.declared.RecordFound.{RecordFound}
-use Rattle.rtr_room.specs.declared.LookUp.{LookUp}
-use Rattle.rtr_room.specs.declared.EnterAnswer.{EnterAnswer}
-use Rattle.rtr_room.specs.declared.LeaveAnswer.{LeaveAnswer}
-use Rattle.rtr_room.specs.declared.MergeAnswer.{MergeAnswer}
-use Rattle.rtr_room.specs.declared.CopyAnswer.{CopyAnswer}
+use Rattle.rtr_room.specs.declared.NotARoom.{NotARoom}
+use Rattle.rtr_room.specs.declared.Position.{Position}
+use Rattle.rtr_room.specs.declared.EnterError.{EnterError}
+use Rattle.rtr_room.specs.declared.LeaveError.{LeaveError}
 
 -- ---- rooms: "A room is 6,144 numbers of 32 bits, six per record, at most 1,024 records. .. Spare numbers are 0", here over any limit
 
@@ -36,8 +34,8 @@ unfoldable pub record_at : List ℕ → ℕ → Record
 record_at s i = record_from s (6 * i)
 
 -- record i where its six numbers are all there
-unfoldable pub record_found : List ℕ → ℕ → RecordFound
-record_found s i = cond (leb (6 * i + 6) (length s)) (RecordFound.Found (record_at s i)) RecordFound.Outside
+unfoldable pub record_found : List ℕ → ℕ → Option Record
+record_found s i = cond (leb (6 * i + 6) (length s)) (Some (record_at s i)) None
 
 -- the first so many records of some numbers
 unfoldable pub records : ℕ → List ℕ → List Record
@@ -101,10 +99,10 @@ look_up s count r =
     cond (leb count (limit_of s)) (cond (stands s count r) (stands_at (place s count r)) (missing_at (place s count r))) (refused 22)
 
 -- what the code's look-up says
-abbrev pub found : LookUp → Found
-found (LookUp.At at) = stands_at at
-found (LookUp.Missing at) = missing_at at
-found LookUp.NotARoom = refused 22
+abbrev pub found : Result Position NotARoom → Found
+found (Ok (Position.At at)) = stands_at at
+found (Ok (Position.Missing at)) = missing_at at
+found (Err refusal) = refused 22
 
 -- what entering or leaving says: the count after it, or a refusal's number
 pub data Said : Type 0 where
@@ -157,22 +155,22 @@ outcome_of limit t (changed t') = record { says = counted (length t'); left = ro
 outcome_of limit t (Change.refused number) = keeps number (room limit t)
 
 -- what the code's answer to entering says
-abbrev pub enter_said : EnterAnswer → Said
-enter_said (EnterAnswer.Entered count) = counted count
-enter_said EnterAnswer.AlreadyIn = refused_by 17
-enter_said EnterAnswer.Full = refused_by 18
-enter_said EnterAnswer.NotARoom = refused_by 22
+abbrev pub enter_said : Result ℕ EnterError → Said
+enter_said (Ok count) = counted count
+enter_said (Err EnterError.AlreadyIn) = refused_by 17
+enter_said (Err EnterError.Full) = refused_by 18
+enter_said (Err EnterError.NotARoom) = refused_by 22
 
 -- what the code's answer to leaving says
-abbrev pub leave_said : LeaveAnswer → Said
-leave_said (LeaveAnswer.Left count) = counted count
-leave_said LeaveAnswer.NotIn = refused_by 16
-leave_said LeaveAnswer.NotARoom = refused_by 22
+abbrev pub leave_said : Result ℕ LeaveError → Said
+leave_said (Ok count) = counted count
+leave_said (Err LeaveError.NotIn) = refused_by 16
+leave_said (Err LeaveError.NotARoom) = refused_by 22
 
 -- what the code's answer to merging says
-abbrev pub merge_said : MergeAnswer → Said
-merge_said (MergeAnswer.Merged count) = counted count
-merge_said MergeAnswer.NotARoom = refused_by 22
+abbrev pub merge_said : Result ℕ NotARoom → Said
+merge_said (Ok count) = counted count
+merge_said (Err refusal) = refused_by 22
 
 -- a room is copied whole over one of its size, or not at all
 unfoldable pub copied : List ℕ → List ℕ → List ℕ
@@ -183,6 +181,6 @@ abbrev pub copy_says : List ℕ → List ℕ → ℕ
 copy_says from s = cond (eqb (length from) (length s)) 0 22
 
 -- what the code's answer to copying says
-abbrev pub copy_said : CopyAnswer → ℕ
-copy_said CopyAnswer.Copied = 0
-copy_said CopyAnswer.NotARoom = 22
+abbrev pub copy_said : Result ⊤ NotARoom → ℕ
+copy_said (Ok tt) = 0
+copy_said (Err refusal) = 22

@@ -17,46 +17,29 @@ pub struct Record {
     pub asn: u32,
 }
 
-// Record i, where a room has its six numbers.
+// Refusal 22: memory that is no room's, or a count over its limit.
 #[derive(Clone, Copy)]
-pub enum RecordFound {
-    Found(Record),
-    Outside,
-}
+pub struct NotARoom;
 
 // Where a record stands, or would stand.
 #[derive(Clone, Copy)]
-pub enum LookUp {
+pub enum Position {
     At(usize),
     Missing(usize),
-    NotARoom,
 }
 
-// The count of records after it, or why nothing changed.
+// Why a record does not enter.
 #[derive(Clone, Copy)]
-pub enum EnterAnswer {
-    Entered(usize),
+pub enum EnterError {
     AlreadyIn,
     Full,
     NotARoom,
 }
 
+// Why a record does not leave.
 #[derive(Clone, Copy)]
-pub enum LeaveAnswer {
-    Left(usize),
+pub enum LeaveError {
     NotIn,
-    NotARoom,
-}
-
-#[derive(Clone, Copy)]
-pub enum MergeAnswer {
-    Merged(usize),
-    NotARoom,
-}
-
-#[derive(Clone, Copy)]
-pub enum CopyAnswer {
-    Copied,
     NotARoom,
 }
 
@@ -226,13 +209,13 @@ fn record_at(room: &[u32], i: usize) -> Record
 }
 
 // Record i of any numbers, or Outside where its six are not all there.
-pub fn get(room: &[u32], i: usize) -> RecordFound
+pub fn get(room: &[u32], i: usize) -> Option<Record>
     ensures { result ≡ record_found room.now i }
 {
     if i >= room.len() / 6 {
-        return RecordFound::Outside;
+        return None;
     }
-    RecordFound::Found(record_at(room, i))
+    Some(record_at(room, i))
 }
 
 // The six numbers of a record, from a place on.
@@ -350,56 +333,56 @@ fn place_among(room: &[u32], end: usize, r: Record) -> usize
 }
 
 // The last record is compared first: a record behind it, or equal to it, needs no search. Any other place is found by halving.
-pub fn look_up(room: &[u32], count: usize, r: Record) -> LookUp
+pub fn look_up(room: &[u32], count: usize, r: Record) -> Result<Position, NotARoom>
     ensures { found result ≡ look_up room.now count r }
 {
     if count > room.len() / 6 {
-        return LookUp::NotARoom;
+        return Err(NotARoom);
     }
     if count == 0 {
-        return LookUp::Missing(0);
+        return Ok(Position::Missing(0));
     }
     let end = count - 1;
     let last = record_at(room, end);
     if is_before(last, r) {
-        return LookUp::Missing(count);
+        return Ok(Position::Missing(count));
     }
     if is_same(last, r) {
-        return LookUp::At(end);
+        return Ok(Position::At(end));
     }
     let at = place_among(room, end, r);
     if is_same(record_at(room, at), r) {
-        return LookUp::At(at);
+        return Ok(Position::At(at));
     }
-    LookUp::Missing(at)
+    Ok(Position::Missing(at))
 }
 
 // A record enters at its place: one that sorts last without a shift, any other with one.
-pub fn enter(room: &mut [u32], count: usize, r: Record) -> EnterAnswer
+pub fn enter(room: &mut [u32], count: usize, r: Record) -> Result<usize, EnterError>
     ensures { record { says = enter_said result; left = room.new } ≡ entered room.old count r }
 {
     match look_up(room, count, r) {
-        LookUp::NotARoom => EnterAnswer::NotARoom,
-        LookUp::At(_) => EnterAnswer::AlreadyIn,
-        LookUp::Missing(at) => {
+        Err(_) => Err(EnterError::NotARoom),
+        Ok(Position::At(_)) => Err(EnterError::AlreadyIn),
+        Ok(Position::Missing(at)) => {
             if count == room.len() / 6 {
-                return EnterAnswer::Full;
+                return Err(EnterError::Full);
             }
             shift_up(room, 6 * at, 6 * count);
             put(room, 6 * at, r);
-            EnterAnswer::Entered(count + 1)
+            Ok(count + 1)
         }
     }
 }
 
 // A record leaves its place; the last one without a shift.
-pub fn leave(room: &mut [u32], count: usize, r: Record) -> LeaveAnswer
+pub fn leave(room: &mut [u32], count: usize, r: Record) -> Result<usize, LeaveError>
     ensures { record { says = leave_said result; left = room.new } ≡ gone room.old count r }
 {
     match look_up(room, count, r) {
-        LookUp::NotARoom => LeaveAnswer::NotARoom,
-        LookUp::Missing(_) => LeaveAnswer::NotIn,
-        LookUp::At(at) => {
+        Err(_) => Err(LeaveError::NotARoom),
+        Ok(Position::Missing(_)) => Err(LeaveError::NotIn),
+        Ok(Position::At(at)) => {
             shift_down(room, 6 * at, 6 * count);
             put(
                 room,
@@ -413,7 +396,7 @@ pub fn leave(room: &mut [u32], count: usize, r: Record) -> LeaveAnswer
                     asn: 0,
                 },
             );
-            LeaveAnswer::Left(count - 1)
+            Ok(count - 1)
         }
     }
 }
@@ -458,17 +441,17 @@ fn shift_records(room: &mut [u32], from: usize, end: usize, by: usize)
 }
 
 // A sorted run goes into a room, from the back: each of its records moves, once and to their last place, all those of the room that stand behind it.
-pub fn merge(room: &mut [u32], count: usize, run: &[u32], n: usize) -> MergeAnswer
+pub fn merge(room: &mut [u32], count: usize, run: &[u32], n: usize) -> Result<usize, NotARoom>
     ensures { record { says = merge_said result; left = room.new } ≡ merged room.old count run.now n }
 {
     if count > room.len() / 6 {
-        return MergeAnswer::NotARoom;
+        return Err(NotARoom);
     }
     if n > run.len() / 6 {
-        return MergeAnswer::NotARoom;
+        return Err(NotARoom);
     }
     if n > room.len() / 6 - count {
-        return MergeAnswer::NotARoom;
+        return Err(NotARoom);
     }
     let mut end = count;
     let mut j = n;
@@ -480,7 +463,7 @@ pub fn merge(room: &mut [u32], count: usize, run: &[u32], n: usize) -> MergeAnsw
         put(room, 6 * (at + j), r);
         end = at;
     }
-    MergeAnswer::Merged(count + n)
+    Ok(count + n)
 }
 
 // Every number is 0.
@@ -495,16 +478,16 @@ pub fn empty(room: &mut [u32])
 }
 
 // A room over one of its size, whole or not at all.
-pub fn copy(from: &[u32], room: &mut [u32]) -> CopyAnswer
+pub fn copy(from: &[u32], room: &mut [u32]) -> Result<(), NotARoom>
     ensures { (copy_said result ≡ copy_says from.now room.old) × (room.new ≡ copied from.now room.old) }
 {
     if from.len() != room.len() {
-        return CopyAnswer::NotARoom;
+        return Err(NotARoom);
     }
     let mut i = 0;
     while i < from.len() {
         room[i] = from[i];
         i += 1;
     }
-    CopyAnswer::Copied
+    Ok(())
 }

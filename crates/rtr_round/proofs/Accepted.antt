@@ -1,5 +1,6 @@
 -- What an accepted read says of the PDU that it gives: its version, type and values are the numbers at their places, what follows the fixed fields is named where it stands, its encoding is at most as long as the PDU read, its kind's
 -- rules hold, and it is its own reading back. `Found` says so; by the kinds, from how the PDU stands in the slice (`read-exactly` of rtr_codec). Assumes nothing.
+use Rattle.std.specs.Prelude.{Option, Some, ⊤}
 use Prim.Native.Nat.{ℕ, ◌+◌, ◌-◌, ◌≤◌}
 use mathlib.Core.Bool.{Bool, true, false}
 use mathlib.Core.List.{List, [], ◌++◌}
@@ -11,8 +12,6 @@ use lib.ListN.{length, take, drop}
 use Rattle.rtr_text.proofs.Laws.{empty-is-well-formed}
 use Rattle.rtr_models.specs.Codes.{version_number, type_number}
 use Rattle.rtr_models.specs.Values.{seconds_or, type_of, version_of}
-use Rattle.rtr_models.specs.declared.Interval.{Interval}
-use Rattle.rtr_models.specs.declared.Interval.TheVariants.{Seconds}
 use Rattle.rtr_models.specs.declared.RtrProtocolVersion.{RtrProtocolVersion}
 use Rattle.rtr_models.specs.declared.RtrProtocolVersion.TheVariants.{V0, V1}
 use Rattle.rtr_models.specs.declared.RtrEndOfData.{RtrEndOfData}
@@ -57,8 +56,8 @@ end-values V0 p s k = (k.1, (k.2, tt))
 end-values V1 p s k = (k.1, (k.2, (ap (seconds_or 3600) k.3, (ap (seconds_or 600) k.4, (ap (seconds_or 7200) k.5, tt)))))
 
 -- an interval that was read needs no default
-no_default : (default n : ℕ) (i : Interval) → Seconds n ≡ i → Seconds (seconds_or default i) ≡ i
-no_default default n i e = ap (λ (j : Interval). Seconds (seconds_or default j)) (sym e) ∙ e
+no_default : (default n : ℕ) (i : Option ℕ) → Some n ≡ i → Some (seconds_or default i) ≡ i
+no_default default n i e = ap (λ (j : Option ℕ). Some (seconds_or default j)) (sym e) ∙ e
 
 end-is-back : (v : RtrProtocolVersion) (p : RtrEndOfData) (s : List ℕ) → v ≡ p.version → EndStands v p s → end_back v p ≡ p
 end-is-back V0 p s v k =

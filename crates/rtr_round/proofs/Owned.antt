@@ -1,5 +1,6 @@
 -- Whoever holds a PDU holds numbers that fit their types (`Is`, what owning a value of a Rattle type tells), so each value fits the bytes of its field. An Error Report's copy can be longer than 32 bits say: of one
 -- that is written the encoding's length was tested. Assumes nothing.
+use Rattle.std.specs.Prelude.{Option, Some, None, ⊤}
 use Prim.Native.Nat.{ℕ, ◌<◌, ◌≤◌}
 use mathlib.Core.List.{List}
 use native.Mathlib.Omega.{arith}
@@ -10,8 +11,6 @@ use Rattle.rtr_models.specs.contracts.Interval as interval-type
 use Rattle.rtr_models.specs.contracts.RtrPdu as pdu-type
 use Rattle.rtr_models.proofs.Laws.{code-at-most-8}
 use Rattle.rtr_models.specs.Values.{seconds_or}
-use Rattle.rtr_models.specs.declared.Interval.{Interval}
-use Rattle.rtr_models.specs.declared.Interval.TheVariants.{Absent, Seconds}
 use Rattle.rtr_models.specs.declared.RtrProtocolVersion.{RtrProtocolVersion}
 use Rattle.rtr_models.specs.declared.RtrProtocolVersion.TheVariants.{V0, V1}
 use Rattle.rtr_models.specs.declared.RtrEndOfData.{RtrEndOfData}
@@ -24,9 +23,9 @@ use Rattle.rtr_encode.proofs.Laws.{encoded-length-is}
 use Rattle.rtr_round.specs.RoundTrip.{ValuesFit}
 
 -- an interval, or the default in its place, fits 32 bits
-interval-owned : (i : Interval) (vs : List Val) → Is (enum.row interval-type.the_type) i vs → (default : ℕ) → default < 4294967296 → seconds_or default i < 4294967296
-interval-owned Absent vs h default small = small
-interval-owned (Seconds n) vs h default small = omega arith
+interval-owned : (i : Option ℕ) (vs : List Val) → Is (enum.row interval-type.the_type) i vs → (default : ℕ) → default < 4294967296 → seconds_or default i < 4294967296
+interval-owned None vs h default small = small
+interval-owned (Some n) vs h default small = omega arith
 
 -- an End of Data of either version
 end_fits : (v : RtrProtocolVersion) (p : RtrEndOfData) → p.session_id < 65536 → p.serial_number < 4294967296

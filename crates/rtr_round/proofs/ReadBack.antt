@@ -1,5 +1,6 @@
 -- A list `E` whose header's length, values and payloads are those of a PDU in rule has that PDU standing in it (`Stands` of rtr_codec), its payloads by their places in E: each kind's checks hold by what the PDU's rules say, and the
 -- values that stand there are the PDU's. Assumes nothing.
+use Rattle.std.specs.Prelude.{Some}
 use Prim.Native.Nat.{ℕ, ◌+◌, ◌-◌, ◌≤◌}
 use mathlib.Core.Bool.{Bool, true, false}
 use mathlib.Core.List.{List, ◌++◌, append_assoc}
@@ -11,7 +12,6 @@ use lib.Seq.{take_all, drop_at}
 use Rattle.rtr_models.specs.Codes.{code_number}
 use Rattle.rtr_models.specs.Parts.{inside}
 use Rattle.rtr_models.specs.Values.{type_of, version_of}
-use Rattle.rtr_models.specs.declared.Interval.TheVariants.{Seconds}
 use Rattle.rtr_models.specs.declared.RtrProtocolVersion.{RtrProtocolVersion}
 use Rattle.rtr_models.specs.declared.RtrProtocolVersion.TheVariants.{V0, V1}
 use Rattle.rtr_models.specs.declared.RtrEndOfData.{RtrEndOfData}
@@ -57,7 +57,7 @@ module _ (R : Reading) (E : List ℕ) where
   end_back_lem : (v : RtrProtocolVersion) (p : RtrEndOfData) → header_length E ≡ length_of (end_layout v) + 0 → Valued 2 (end_layout v) (given (end_values v p)) E
       → EndStands (end_back v p).version (end_back v p) E
   end_back_lem V0 p h e = (h, e.0, e.1.0, refl, refl, refl)
-  end_back_lem V1 p h e = (h, e.0, e.1.0, ap Seconds e.1.1.0, ap Seconds e.1.1.1.0, ap Seconds e.1.1.1.1.0)
+  end_back_lem V1 p h e = (h, e.0, e.1.0, ap Some e.1.1.0, ap Some e.1.1.1.0, ap Some e.1.1.1.1.0)
 
   -- a Router Key with its identifier and its info where the encoding has them
   abbrev key_back : Bool → RtrRouterKey → RtrRouterKey

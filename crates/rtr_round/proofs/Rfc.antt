@@ -1,6 +1,7 @@
 -- Reading and encoding held to the RFCs' own pictures (specs/Rfc.antt), which know nothing of either. `rfc-exactly`: a slice of bytes is read as a PDU of n
 -- bytes exactly if its first n bytes are the RFCs' picture of it. By `read-exactly` of rtr_codec the PDU stands in the slice, number by number; a picture's
 -- fields stand there exactly if their numbers are read there (Pictures). Assumes nothing.
+use Rattle.std.specs.Prelude.{Some, ⊤}
 use Prim.Native.Nat.{ℕ, ◌+◌, ◌-◌, ◌≤◌}
 use mathlib.Core.Bool.{true, false, or-false}
 use mathlib.Core.List.{List}
@@ -18,7 +19,6 @@ use Rattle.rtr_models.specs.declared.RtrProtocolVersion.TheVariants.{V0, V1}
 use Rattle.rtr_models.specs.declared.RtrErrorCode.{RtrErrorCode}
 use Rattle.rtr_models.specs.declared.RtrErrorCode.TheVariants.{CorruptData, InternalError, NoDataAvailable, InvalidRequest, UnsupportedProtocolVersion, UnsupportedPduType, WithdrawalOfUnknownRecord, DuplicateAnnouncementReceived, UnexpectedProtocolVersion}
 use Rattle.rtr_models.specs.Values.{type_of, version_of}
-use Rattle.rtr_models.specs.declared.Interval.TheVariants.{Seconds}
 use Rattle.rtr_models.specs.declared.RtrEndOfData.{RtrEndOfData}
 use Rattle.rtr_models.specs.declared.RtrPdu.{RtrPdu}
 use Rattle.rtr_models.specs.declared.RtrPdu.TheVariants.{SerialNotify, SerialQuery, ResetQuery, CacheResponse, IPv4Prefix, IPv6Prefix, EndOfData, CacheReset, RouterKey, ErrorReport}
@@ -240,9 +240,9 @@ module _ (s : List ℕ) (bs : Bytes s) (n : ℕ) (whole : n ≤ length s) where
         header_is s ∙ m,
         (two 2 _ (omega arith)).0 w.1.1.0,
         (four 8 _ (omega arith)).0 w.1.1.1.1.0,
-        ap Seconds ((four 12 _ (omega arith)).0 w.1.1.1.1.1.0) ∙ sym r.4,
-        ap Seconds ((four 16 _ (omega arith)).0 w.1.1.1.1.1.1.0) ∙ sym r.5,
-        ap Seconds ((four 20 _ (omega arith)).0 w.1.1.1.1.1.1.1.0) ∙ sym r.6,
+        ap Some ((four 12 _ (omega arith)).0 w.1.1.1.1.1.0) ∙ sym r.4,
+        ap Some ((four 16 _ (omega arith)).0 w.1.1.1.1.1.1.0) ∙ sym r.5,
+        ap Some ((four 20 _ (omega arith)).0 w.1.1.1.1.1.1.1.0) ∙ sym r.6,
       ))
 
   standing : (pdu : RtrPdu) → Received pdu (take n s) → Stands rfc s pdu n

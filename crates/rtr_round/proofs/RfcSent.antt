@@ -1,6 +1,7 @@
 -- Encoding held to the RFCs' own pictures (specs/Rfc.antt). Every PDU in rule is written as its picture with the reserved fields zero, by every reading, but
 -- for a Router Key by one that has the crate's arrangement of it (`encoder-writes-rfc`, `in-use-writes-rfc`). Kind by kind: what is written of a number that
 -- fits is its field (Pictures). Assumes nothing.
+use Rattle.std.specs.Prelude.{Option, Some, None}
 use Prim.Native.Nat.{ℕ, ◌+◌, ◌≤◌, ◌<◌}
 use mathlib.Core.Bool.{true, false}
 use mathlib.Core.List.{List, [], ◌∷◌, ◌++◌, append_assoc, append-nil}
@@ -13,8 +14,6 @@ use Rattle.rtr_models.specs.Codes.{type_number}
 use Rattle.rtr_models.specs.Values.{seconds_or, type_of}
 use Rattle.rtr_models.specs.Parts.{inside, key_inside}
 use Rattle.rtr_models.specs.declared.Place.{Place}
-use Rattle.rtr_models.specs.declared.Interval.{Interval}
-use Rattle.rtr_models.specs.declared.Interval.TheVariants.{Absent, Seconds}
 use Rattle.rtr_models.specs.declared.RtrProtocolVersion.{RtrProtocolVersion}
 use Rattle.rtr_models.specs.declared.RtrProtocolVersion.TheVariants.{V0, V1}
 use Rattle.rtr_models.specs.declared.RtrEndOfData.{RtrEndOfData}
@@ -34,9 +33,9 @@ use Rattle.rtr_round.proofs.Rfc.{same_version, same_code}
 use Rattle.rtr_round.proofs.RoundTrip.{length-encoding}
 
 -- the RFCs' word for an interval that is not given is the table's
-same-seconds : (default : ℕ) (i : Interval) → seconds_or default i ≡ seconds_of default i
-same-seconds default Absent = refl
-same-seconds default (Seconds n) = refl
+same-seconds : (default : ℕ) (i : Option ℕ) → seconds_or default i ≡ seconds_of default i
+same-seconds default None = refl
+same-seconds default (Some n) = refl
 
 -- a Router Key's bytes, with its payloads at hand
 key-joined : (flags asn whole : ℕ) (identifier info : List ℕ) → flags < 256 → asn < 4294967296 → whole ≡ 32 + length info → whole ≤ 4294967295

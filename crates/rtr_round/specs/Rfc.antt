@@ -1,11 +1,9 @@
 -- The PDUs as RFC 6810 (version 0, sections 5.2 to 5.10) and RFC 8210 (version 1, sections 5.2 to 5.11) draw them, written down from those texts alone: nothing
 -- of reading, encoding or their layouts is used here. A section's number is RFC 8210's; RFC 6810 has the same section and the same picture, where nothing else
 -- is said. `rfc-exactly` (proofs/Rfc.antt) holds reading to this page, `encoder-writes-rfc` (proofs/RfcSent.antt) encoding.
-use Rattle.std.specs.Prelude.{ℕ, ◌+◌, ◌/◌, ◌%◌, ◌≤◌, List, [], ◌∷◌, ◌++◌, ◌≡◌, length, take, drop}
+use Rattle.std.specs.Prelude.{ℕ, ◌+◌, ◌/◌, ◌%◌, ◌≤◌, List, [], ◌∷◌, ◌++◌, ◌≡◌, length, take, drop, Option, Some, None}
 use Rattle.rtr_text.specs.Utf8.{Characters}
 use Rattle.rtr_models.specs.declared.Place.{Place}
-use Rattle.rtr_models.specs.declared.Interval.{Interval}
-use Rattle.rtr_models.specs.declared.Interval.TheVariants.{Absent, Seconds}
 use Rattle.rtr_models.specs.declared.RtrProtocolVersion.{RtrProtocolVersion}
 use Rattle.rtr_models.specs.declared.RtrProtocolVersion.TheVariants.{V0, V1}
 use Rattle.rtr_models.specs.declared.RtrErrorCode.{RtrErrorCode}
@@ -160,17 +158,17 @@ placed start len = record { start = start; len = len }
 abbrev pub EndReceived : RtrProtocolVersion → RtrEndOfData → List ℕ → Type 0
 EndReceived V0 p b =
     (b ≡ bytes (end_of_data_v0 p.session_id p.serial_number))
-    × (p.refresh_interval ≡ Absent)
-    × (p.retry_interval ≡ Absent)
-    × (p.expire_interval ≡ Absent)
+    × (p.refresh_interval ≡ None)
+    × (p.retry_interval ≡ None)
+    × (p.expire_interval ≡ None)
 EndReceived V1 p b =
     (refresh : ℕ)
     × (retry : ℕ)
     × (expire : ℕ)
     × (b ≡ bytes (end_of_data_v1 p.session_id p.serial_number refresh retry expire))
-    × (p.refresh_interval ≡ Seconds refresh)
-    × (p.retry_interval ≡ Seconds retry)
-    × (p.expire_interval ≡ Seconds expire)
+    × (p.refresh_interval ≡ Some refresh)
+    × (p.retry_interval ≡ Some retry)
+    × (p.expire_interval ≡ Some expire)
 
 abbrev pub Received : RtrPdu → List ℕ → Type 0
 Received (SerialNotify p) b = b ≡ bytes (serial_notify (version p.version) p.session_id p.serial_number)
@@ -224,9 +222,9 @@ abbrev pub named : Place → List ℕ → List ℕ
 named p s = take p.len (drop p.start s)
 
 -- section 6: an interval that is not given has its recommended default
-abbrev pub seconds_of : ℕ → Interval → ℕ
-seconds_of default Absent = default
-seconds_of default (Seconds n) = n
+abbrev pub seconds_of : ℕ → Option ℕ → ℕ
+seconds_of default None = default
+seconds_of default (Some n) = n
 
 abbrev pub end_sent : RtrProtocolVersion → RtrEndOfData → Picture
 end_sent V0 p = end_of_data_v0 p.session_id p.serial_number

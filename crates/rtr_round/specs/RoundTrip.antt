@@ -1,10 +1,9 @@
 -- When encoding what was read gives back the bytes, and when reading what was encoded gives back the PDU: demand 2.
-use Rattle.std.specs.Prelude.{ℕ, ◌+◌, ◌-◌, ◌<◌, ◌≤◌, ◌^◌, List, [], ◌∷◌, true, cond, ◌≡◌, eqb, get_or, take, drop, replicate}
+use Rattle.std.specs.Prelude.{ℕ, ◌+◌, ◌-◌, ◌<◌, ◌≤◌, ◌^◌, List, [], ◌∷◌, true, cond, ◌≡◌, eqb, get_or, take, drop, replicate, Some, None}
 use Rattle.rtr_models.specs.Codes.{code_number}
 use Rattle.rtr_models.specs.Values.{seconds_or}
 use Rattle.rtr_models.specs.declared.RtrProtocolVersion.{RtrProtocolVersion}
 use Rattle.rtr_models.specs.declared.RtrProtocolVersion.TheVariants.{V0, V1}
-use Rattle.rtr_models.specs.declared.Interval.TheVariants.{Absent, Seconds}
 use Rattle.rtr_models.specs.declared.RtrEndOfData.{RtrEndOfData}
 use Rattle.rtr_models.specs.declared.RtrPdu.{RtrPdu}
 use Rattle.rtr_models.specs.declared.RtrPdu.TheVariants.{SerialNotify, SerialQuery, ResetQuery, CacheResponse, IPv4Prefix, IPv6Prefix, EndOfData, CacheReset, RouterKey, ErrorReport}
@@ -77,18 +76,18 @@ end_back V0 p =
       version = V0;
       session_id = p.session_id;
       serial_number = p.serial_number;
-      refresh_interval = Absent;
-      retry_interval = Absent;
-      expire_interval = Absent;
+      refresh_interval = None;
+      retry_interval = None;
+      expire_interval = None;
     }
 end_back V1 p =
     record {
       version = V1;
       session_id = p.session_id;
       serial_number = p.serial_number;
-      refresh_interval = Seconds (seconds_or 3600 p.refresh_interval);
-      retry_interval = Seconds (seconds_or 600 p.retry_interval);
-      expire_interval = Seconds (seconds_or 7200 p.expire_interval);
+      refresh_interval = Some (seconds_or 3600 p.refresh_interval);
+      retry_interval = Some (seconds_or 600 p.retry_interval);
+      expire_interval = Some (seconds_or 7200 p.expire_interval);
     }
 
 -- the PDU that its encoding is read as: the same, with its payloads where the encoding has them

@@ -4,29 +4,22 @@
 
 ghost use Rattle.rtr_round.specs.Calls.{Recoded, Sent};
 
-use rtr_codec::{ReadAnswer, RtrError, parse_rtr_pdu};
-use rtr_encode::{EncodeAnswer, encode};
+use rtr_codec::{RtrError, parse_rtr_pdu};
+use rtr_encode::{encode};
 use rtr_models::RtrPdu;
 
-// What was read, the bytes that it took and what encoding it said, or why nothing was read.
-#[derive(Clone, Copy)]
-enum Recoding {
-    Again(RtrPdu, usize, EncodeAnswer),
-    Unread(RtrError),
-}
-
 // Reads a slice and encodes what was read.
-fn recode(input: &[u8], out: &mut [u8]) -> Recoding
+fn recode(input: &[u8], out: &mut [u8]) -> Result<(RtrPdu, usize, Result<usize, EncodeError>), RtrError>
     ensures { Recoded input.now out.old result out.new }
 {
     match parse_rtr_pdu(input) {
-        ReadAnswer::Read(pdu, n) => Recoding::Again(pdu, n, encode(pdu, input, out)),
-        ReadAnswer::Refused(error) => Recoding::Unread(error),
+        Ok((pdu, n)) => Ok((pdu, n, encode(pdu, input, out))),
+        Err(error) => Err(error),
     }
 }
 
 // Encodes a PDU.
-fn send(pdu: RtrPdu, input: &[u8], out: &mut [u8]) -> EncodeAnswer
+fn send(pdu: RtrPdu, input: &[u8], out: &mut [u8]) -> Result<usize, EncodeError>
     ensures { Sent pdu input.now out.old result out.new }
 {
     encode(pdu, input, out)

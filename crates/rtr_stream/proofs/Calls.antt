@@ -1,5 +1,6 @@
 -- A caller's searches through a piece come to the fold of its bytes (`calls-are-bytes`): by the first search, and by the rest of the piece behind it. So two callers
 -- that hand in the same bytes in other pieces have the same PDUs and hold the same bytes (`caller-cut-anywhere`). Assumes nothing.
+use Rattle.std.specs.Prelude.{Result, Option}
 use Prim.Native.Nat.{ℕ, ◌+◌, ◌-◌, ◌≤◌}
 use mathlib.Core.Bool.{true}
 use mathlib.Core.List.{List, [], ◌∷◌, ◌++◌, append_assoc, append-nil}
@@ -11,9 +12,11 @@ use Rattle.rtr_codec.specs.Reading.{Reading, in_use}
 use Rattle.rtr_stream.specs.Stream.{Heard, judge, Found, State, Listened, after, on_byte_in, on_byte, on_piece, on_pieces}
 use Rattle.rtr_stream.specs.Search.{End, Outcome, is_stream, over, search_from, stops_by, said_by, bytes_of}
 use Rattle.rtr_stream.specs.Calls.{Between, Through, Pieces, state_of}
-use Rattle.rtr_stream.specs.declared.StreamAnswer.{StreamAnswer}
 use Rattle.rtr_stream.proofs.Told.{more-told, stop-told, pdu-told}
 use Rattle.rtr_stream.proofs.Laws.{joined, cut-anywhere, by_end, search-is-stream, search-takes, search_is, search-keeps-stream}
+use Rattle.rtr_models.specs.declared.RtrPdu.{RtrPdu}
+use Rattle.rtr_stream.specs.declared.SearchError.{SearchError}
+use Rattle.rtr_stream.specs.declared.Lies.{Lies}
 
 -- a stream that stopped takes no byte more
 stopped-stays : (R : Reading) (H : ℕ) (p : List ℕ) (taken : ℕ) (pdus : List Found) (k : ℕ) (x : List ℕ) → on_piece R H (record { taken = taken; pdus = pdus; state = State.stopped k x }) p ≡ record { taken = taken; pdus = pdus; state = State.stopped k x }
@@ -72,7 +75,7 @@ module _ (piece : List ℕ) where
   calls-are-bytes at hold held pdus end before inside i (Through.more r hold' call a) =
       let said = call.promise ∙ search_is hold piece held at i in
       let S = search_from in_use (length hold) at (take held hold) (drop at piece) in
-      let over : S.end ≡ End.more = more-told held at S.end (sym (ap (λ (x : StreamAnswer). said_by x hold' piece) a) ∙ ap (λ (o : Outcome). o.says) said) in
+      let over : S.end ≡ End.more = more-told held at S.end (sym (ap (λ (x : Result (Option (RtrPdu × Lies)) SearchError). said_by x hold' piece) a) ∙ ap (λ (o : Outcome). o.says) said) in
       let fold = by-fold at hold held before ∙ ap (by_end_lem at hold before S.next S.held) over in
       record {
         pdus-are = ap (λ (l : Listened). l.pdus) fold ∙ sym (append-nil before);
@@ -82,7 +85,7 @@ module _ (piece : List ℕ) where
       let said = call.promise ∙ search_is hold piece held at i in
       let S = search_from in_use (length hold) at (take held hold) (drop at piece) in
       let bytes : List ℕ = bytes_of lies hold' piece in
-      let over : S.end ≡ End.found pdu bytes = pdu-told held at pdu lies bytes S.end (sym (ap (λ (x : StreamAnswer). said_by x hold' piece) a) ∙ ap (λ (o : Outcome). o.says) said) in
+      let over : S.end ≡ End.found pdu bytes = pdu-told held at pdu lies bytes S.end (sym (ap (λ (x : Result (Option (RtrPdu × Lies)) SearchError). said_by x hold' piece) a) ∙ ap (λ (o : Outcome). o.says) said) in
       let place : r.next ≡ S.next = ap (λ (o : Outcome). o.next) said in
       let takes = search-takes in_use (length hold) (drop at piece) at (take held hold) in
       let now : List Found = before ++ record { pdu = pdu; bytes = bytes } ∷ [] in
@@ -107,7 +110,7 @@ module _ (piece : List ℕ) where
       let said = call.promise ∙ search_is hold piece held at i in
       let S = search_from in_use (length hold) at (take held hold) (drop at piece) in
       let over : S.end ≡ End.stop number values =
-      stop-told held at number values S.end (sym (ap stops_by e) ∙ sym (ap (λ (x : StreamAnswer). said_by x hold' piece) a) ∙ ap (λ (o : Outcome). o.says) said) in
+      stop-told held at number values S.end (sym (ap stops_by e) ∙ sym (ap (λ (x : Result (Option (RtrPdu × Lies)) SearchError). said_by x hold' piece) a) ∙ ap (λ (o : Outcome). o.says) said) in
       let fold = by-fold at hold held before ∙ ap (by_end_lem at hold before S.next S.held) over ∙ stopped-stays in_use (length hold) (drop (S.next - at) (drop at piece)) S.next before number values in
       record { pdus-are = ap (λ (l : Listened). l.pdus) fold ∙ sym (append-nil before); state-is = ap (λ (l : Listened). l.state) fold }
 

@@ -1,4 +1,5 @@
 -- Something is held: the piece brings what the header, or the PDU, still lacks, or runs out before. Assumes nothing.
+use Rattle.std.specs.Prelude.{Option, Some, None, Result}
 use Prim.Native.Nat.{ℕ, ◌+◌, ◌-◌, ◌≤◌, ◌<◌}
 use mathlib.Core.List.{List, ◌++◌}
 use mathlib.Core.Path.{◌≡◌, sym, ap, ◌∙◌, subst}
@@ -12,10 +13,12 @@ use Rattle.rtr_stream.specs.Stream.{Heard, heard_of, judge}
 use Rattle.rtr_stream.specs.Stream.Heard.{waits}
 use Rattle.rtr_stream.specs.Search.{over, search_from, outcome_of}
 use Rattle.rtr_stream.specs.Private.{JudgedTo, TurnedTo, search_here}
-use Rattle.rtr_stream.specs.declared.Then.{Then}
 use Rattle.rtr_stream.proofs.Judge.{InRange, Waiting, IsStream, judge-whole, waits-waiting, waiting-lacks, waiting-grows, is-stream}
 use Rattle.rtr_stream.proofs.Judge.Waiting.{short, cut}
 use Rattle.rtr_stream.proofs.Runs.{arrives_at}
+use Rattle.rtr_models.specs.declared.RtrPdu.{RtrPdu}
+use Rattle.rtr_stream.specs.declared.SearchError.{SearchError}
+use Rattle.rtr_stream.specs.declared.Lies.{Lies}
 
 -- the part of the piece that was put behind what is held brings it to what is wanted
 pub part-long : (piece : List ℕ) (at k : ℕ) → k ≤ length (drop at piece) → length (take (at + k - at) (drop at piece)) ≡ k
@@ -83,12 +86,12 @@ module _ (hold : List ℕ) (held n : ℕ) (stream : IsStream hold held) (name : 
         (sym same)
 
     pub judged-turn
-        : (t : Then) (held' next : ℕ) (h : Heard) →
+        : (t : Option (Result (Option (RtrPdu × Lies)) SearchError)) (held' next : ℕ) (h : Heard) →
         JudgedTo hold' n t held' next h →
         next ≡ at + (n - held) →
         judge in_use (length hold) (take n hold') ≡ h →
         TurnedTo hold held piece at held' next hold' t
-    judged-turn (Then.Done answer) held' next h j e heard =
+    judged-turn (Some answer) held' next h j e heard =
         let go = search_here hold' n piece (at + (n - held)) in
         j piece at held go some
         ∙ sym
@@ -96,7 +99,7 @@ module _ (hold : List ℕ) (held n : ℕ) (stream : IsStream hold held) (name : 
         (search-judged
         ∙ ap (λ (k : ℕ). over k (take n hold') (judge in_use (length hold) (take n hold')) go) (sym e)
         ∙ ap (λ (x : Heard). over next (take n hold') x go) heard))
-    judged-turn Then.Again held' next h j e heard =
+    judged-turn None held' next h j e heard =
         let waiting : judge in_use (length hold) (take n hold') ≡ waits = heard ∙ j.0 in
         let w : Waiting (length hold) (take n hold') = waits-waiting in_use (length hold) (take n hold') waiting in
         let stream' : IsStream hold' n =

@@ -1,4 +1,5 @@
 -- How a turn ends, in the code's words and in the definition's. Assumes nothing.
+use Rattle.std.specs.Prelude.{Result, Ok, Err, Some, None, Option, ⊤}
 use Prim.Native.Nat.{ℕ, ◌+◌, ◌-◌, ◌≤◌, ◌<◌}
 use mathlib.Core.Bool.{true, false}
 use mathlib.Core.List.{List, [], ◌++◌}
@@ -13,19 +14,16 @@ use Rattle.rtr_codec.specs.Read.{read, header_length, needed}
 use Rattle.rtr_codec.proofs.Laws.{needed-large, header-stays, refusal_is}
 use Rattle.rtr_codec.specs.Answers.{verdict}
 use Rattle.rtr_codec.specs.declared.RtrError.{RtrError}
-use Rattle.rtr_codec.specs.declared.ReadAnswer.{ReadAnswer}
 use Rattle.rtr_stream.specs.Stream.{Heard, heard_of, length_in, judge}
 use Rattle.rtr_stream.specs.Search.{Search, End, Says, Outcome, over, search_from, is_stream, search, outcome_of, says_of, lying, stream_refusal, search_said}
 use Rattle.rtr_stream.specs.Private.{LengthTested, JudgedTo, Turned, search_here}
 use Rattle.rtr_stream.specs.declared.StreamError.{StreamError}
-use Rattle.rtr_stream.specs.declared.LengthTest.{LengthTest}
-use Rattle.rtr_stream.specs.declared.Then.{Then}
 use Rattle.rtr_stream.specs.declared.Turn.{Turn}
 use Rattle.rtr_stream.specs.declared.Lies.{Lies}
-use Rattle.rtr_stream.specs.declared.StreamAnswer.{StreamAnswer}
 use Rattle.rtr_stream.proofs.Judge.{InRange, Waiting, judge-refused, judge-whole}
 use Rattle.rtr_stream.proofs.Judge.Waiting.{short, cut}
 use Rattle.rtr_stream.proofs.Runs.{waiting-of-header, runs-out, arrives_at}
+use Rattle.rtr_stream.specs.declared.SearchError.{SearchError}
 
 -- the rest of a piece is the part of it from the place to its end
 pub rest_part : (at : ℕ) (piece : List ℕ) → take (length piece - at) (drop at piece) ≡ drop at piece
@@ -46,12 +44,12 @@ lies-in-hold before at n h = simp (ne_eqb before 0 (λ e. omega arith))
 -- a refusal is the definition's
 pub refused-alike : (hold piece s : List ℕ) (before at next : ℕ) (go : Search) (error : StreamError) (heard : Heard) →
     heard ≡ heard_of (stream_refusal error) →
-    search_said (record { stream = record { held = 0 }; next = next; answer = StreamAnswer.Refused error }) hold piece
+    search_said (record { stream = record { held = 0 }; next = next; answer = Err (SearchError.Refused error) }) hold piece
     ≡ outcome_of before at (over next s heard go)
 refused-alike hold piece s before at next go error heard e = same error ∙ ap (λ (h : Heard). outcome_of before at (over next s h go)) (sym e)
   where
     same : (error : StreamError) →
-        search_said (record { stream = record { held = 0 }; next = next; answer = StreamAnswer.Refused error }) hold piece
+        search_said (record { stream = record { held = 0 }; next = next; answer = Err (SearchError.Refused error) }) hold piece
         ≡ outcome_of before at (over next s (heard_of (stream_refusal error)) go)
     same (StreamError.OverHold length) = refl
     same (StreamError.Read e) = rw (refusal_is e).1 refl
@@ -61,18 +59,18 @@ pub found-in-hold : (hold piece : List ℕ) (n before at next : ℕ) (go : Searc
     n ≤ length hold →
     0 < before →
     heard ≡ Heard.whole pdu →
-    search_said (record { stream = record { held = 0 }; next = next; answer = StreamAnswer.Found pdu (Lies.InHold (record { start = 0; len = n })) }) hold piece
+    search_said (record { stream = record { held = 0 }; next = next; answer = Ok (Some (pdu, (Lies.InHold (record { start = 0; len = n })))) }) hold piece
     ≡ outcome_of before at (over next (take n hold) heard go)
 found-in-hold hold piece n before at next go pdu heard h p e =
     let long : length (take n hold) ≡ n = length-take-le n hold h in
     rw e (rw (lies-in-hold before at (length (take n hold)) p) (rw long refl))
 
 -- what a read that the code has taken apart is heard as
-pub heard-read : (s : List ℕ) (answer : ReadAnswer) (pdu : RtrPdu) (n : ℕ) → verdict answer ≡ read in_use s → answer ≡ ReadAnswer.Read pdu n → heard_of (read in_use s) ≡ Heard.whole pdu
-heard-read s answer pdu n p q = ap heard_of (sym p) ∙ ap (λ (a : ReadAnswer). heard_of (verdict a)) q
+pub heard-read : (s : List ℕ) (answer : Result (RtrPdu × ℕ) RtrError) (pdu : RtrPdu) (n : ℕ) → verdict answer ≡ read in_use s → answer ≡ Ok (pdu, n) → heard_of (read in_use s) ≡ Heard.whole pdu
+heard-read s answer pdu n p q = ap heard_of (sym p) ∙ ap (λ (a : Result (RtrPdu × ℕ) RtrError). heard_of (verdict a)) q
 
-pub heard-refused : (s : List ℕ) (answer : ReadAnswer) (error : RtrError) → verdict answer ≡ read in_use s → answer ≡ ReadAnswer.Refused error → heard_of (read in_use s) ≡ heard_of (stream_refusal (StreamError.Read error))
-heard-refused s answer error p q = ap heard_of (sym p) ∙ ap (λ (a : ReadAnswer). heard_of (verdict a)) q
+pub heard-refused : (s : List ℕ) (answer : Result (RtrPdu × ℕ) RtrError) (error : RtrError) → verdict answer ≡ read in_use s → answer ≡ Err error → heard_of (read in_use s) ≡ heard_of (stream_refusal (StreamError.Read error))
+heard-refused s answer error p q = ap heard_of (sym p) ∙ ap (λ (a : Result (RtrPdu × ℕ) RtrError). heard_of (verdict a)) q
 
 -- From here on: what the search from a place comes to, by what is left of the piece.
 module _ (hold hold' piece : List ℕ) (held at : ℕ) (inside : at ≤ length piece) (within : held ≤ length hold) where
@@ -80,7 +78,7 @@ module _ (hold hold' piece : List ℕ) (held at : ℕ) (inside : at ≤ length p
   pub rest-held
       : Waiting (length hold) (take held hold ++ drop at piece) →
       take (held + (length piece - at)) hold' ≡ take held hold ++ drop at piece →
-      search_said (record { stream = record { held = held + (length piece - at) }; next = length piece; answer = StreamAnswer.More }) hold' piece
+      search_said (record { stream = record { held = held + (length piece - at) }; next = length piece; answer = Ok None }) hold' piece
       ≡ outcome_of held at (search_here hold held piece at)
   rest-held w e =
       let run : search_here hold held piece at ≡ record { end = End.more; next = at + length (drop at piece); held = take held hold ++ drop at piece } =
@@ -103,7 +101,7 @@ module _ (hold hold' piece : List ℕ) (held at : ℕ) (inside : at ≤ length p
   pub rest-kept
       : Waiting (length hold) (take held hold ++ drop at piece) →
       (r : Turn) →
-      (r ≡ record { held = held + (length piece - at); next = length piece; then = Then.Done StreamAnswer.More })
+      (r ≡ record { held = held + (length piece - at); next = length piece; then = Some (Ok None) })
       × (take (held + (length piece - at)) hold' ≡ take held hold ++ drop at piece) →
       Turned hold held piece at r hold'
   rest-kept w r e = subst (λ (t : Turn). Turned hold held piece at t hold') (sym e.0) (rest-held w e.1)
@@ -126,7 +124,7 @@ module _ (hold piece : List ℕ) (at : ℕ) (header : 8 ≤ length (drop at piec
       n ≡ needed (drop at piece) →
       type ≡ get_or piece (at + 1) 0 →
       ((next : Heard) → length_in (length hold) n type next ≡ heard_of (stream_refusal error)) →
-      search_said (record { stream = record { held = 0 }; next = at + 8; answer = StreamAnswer.Refused error }) hold' piece
+      search_said (record { stream = record { held = 0 }; next = at + 8; answer = Err (SearchError.Refused error) }) hold' piece
       ≡ outcome_of 0 at (search_here hold 0 piece at)
   piece-refused hold' n type error p q f =
       let front : List ℕ = take 8 (drop at piece) in
@@ -168,19 +166,19 @@ module _ (hold piece : List ℕ) (at : ℕ) (header : 8 ≤ length (drop at piec
 pub found-in-piece : (hold' piece : List ℕ) (n at : ℕ) (go : Search) (pdu : RtrPdu) (heard : Heard) →
     n ≤ length (drop at piece) →
     heard ≡ Heard.whole pdu →
-    search_said (record { stream = record { held = 0 }; next = at + n; answer = StreamAnswer.Found pdu (Lies.InPiece (record { start = at; len = n })) }) hold' piece
+    search_said (record { stream = record { held = 0 }; next = at + n; answer = Ok (Some (pdu, (Lies.InPiece (record { start = at; len = n })))) }) hold' piece
     ≡ outcome_of 0 at (over (at + n) (take n (drop at piece)) heard go)
 found-in-piece hold' piece n at go pdu heard h e =
     let long : length (take n (drop at piece)) ≡ n = length-take-le n (drop at piece) h in
     rw e (rw long refl)
 
 -- what the test of a length has found
-pub fits-of : (H n type : ℕ) (r : LengthTest) → LengthTested H n type r → r ≡ LengthTest.Fits → InRange H n
+pub fits-of : (H n type : ℕ) (r : Result ⊤ StreamError) → LengthTested H n type r → r ≡ Ok tt → InRange H n
 fits-of H n type r t e =
-    let f : LengthTested H n type LengthTest.Fits = subst (LengthTested H n type) e t in
+    let f : LengthTested H n type (Ok tt) = subst (LengthTested H n type) e t in
     record { least = f.0; most = f.1; fits = f.2 }
 
-pub refusal-of : (H n type : ℕ) (r : LengthTest) (error : StreamError) → LengthTested H n type r → r ≡ LengthTest.Refused error → (next : Heard) → length_in H n type next ≡ heard_of (stream_refusal error)
+pub refusal-of : (H n type : ℕ) (r : Result ⊤ StreamError) (error : StreamError) → LengthTested H n type r → r ≡ Err error → (next : Heard) → length_in H n type next ≡ heard_of (stream_refusal error)
 refusal-of H n type r error t e = subst (LengthTested H n type) e t
 
 -- the hold's first 8 bytes, a header
@@ -206,11 +204,11 @@ module _ (hold : List ℕ) (n : ℕ) (size : 8 ≤ length hold) (name : n ≡ ne
       cut (omega (arith, header-long)) (subst (InRange (length hold)) header-name i) (omega (arith, header-long, header-name, i.least))
 
 -- a turn that was read is a turn that was judged
-pub judged : (hold : List ℕ) (n : ℕ) (t : Then) (held next : ℕ) (h h' : Heard) → JudgedTo hold n t held next h → h' ≡ h → JudgedTo hold n t held next h'
+pub judged : (hold : List ℕ) (n : ℕ) (t : Option (Result (Option (RtrPdu × Lies)) SearchError)) (held next : ℕ) (h h' : Heard) → JudgedTo hold n t held next h → h' ≡ h → JudgedTo hold n t held next h'
 judged hold n t held next h h' j e = subst (JudgedTo hold n t held next) (sym e) j
 
 -- nothing is left of the piece
-pub nothing_left : (hold piece : List ℕ) (held at : ℕ) → held ≤ length hold → length piece ≤ at → search_said (record { stream = record { held = held }; next = at; answer = StreamAnswer.More }) hold piece ≡ outcome_of held at (search_here hold held piece at)
+pub nothing_left : (hold piece : List ℕ) (held at : ℕ) → held ≤ length hold → length piece ≤ at → search_said (record { stream = record { held = held }; next = at; answer = Ok None }) hold piece ≡ outcome_of held at (search_here hold held piece at)
 unfolding search_from
 nothing_left hold piece held at h l =
     let none : drop at piece ≡ [] = drop_of_length-le piece l in
@@ -231,7 +229,7 @@ outcomes-alike held held' at at' same r =
     go End.more = refl
 
 -- 22, and else the search from the place
-pub not-a-stream : (hold piece : List ℕ) (held at : ℕ) → is_stream hold held ≡ false → search_said (record { stream = record { held = held }; next = at; answer = StreamAnswer.NotAStream }) hold piece ≡ search hold held piece at
+pub not-a-stream : (hold piece : List ℕ) (held at : ℕ) → is_stream hold held ≡ false → search_said (record { stream = record { held = held }; next = at; answer = Err SearchError.NotAStream }) hold piece ≡ search hold held piece at
 unfolding search
 not-a-stream hold piece held at e = simp e
 

@@ -1,14 +1,14 @@
 -- A caller of `search`: it hands in pieces, one after another, searches each until more is wanted, and notes the PDUs with their bytes. Each call meets its promise, and
 -- what a call leaves of the hold past the held count is anything.
-use Rattle.std.specs.Prelude.{ℕ, List, [], ◌∷◌, ◌++◌, ◌≡◌, length, take}
+use Rattle.std.specs.Prelude.{ℕ, List, [], ◌∷◌, ◌++◌, ◌≡◌, length, take, Ok, Err, Some, None}
 use Rattle.rtr_models.specs.declared.RtrPdu.{RtrPdu}
 use Rattle.rtr_codec.specs.Read.{Verdict}
 use Rattle.rtr_stream.specs.Stream.{Found, State}
 use Rattle.rtr_stream.specs.Search.{search, search_said, stream_refusal, bytes_of}
 use Rattle.rtr_stream.specs.declared.StreamError.{StreamError}
 use Rattle.rtr_stream.specs.declared.Lies.{Lies}
-use Rattle.rtr_stream.specs.declared.StreamAnswer.{StreamAnswer}
 use Rattle.rtr_stream.specs.declared.Searched.{Searched}
+use Rattle.rtr_stream.specs.declared.SearchError.{SearchError}
 
 -- between two pieces: the hold with the count held; or a stop
 pub data Between : Type 0 where
@@ -24,16 +24,16 @@ pub record Called (piece : List ℕ) (at : ℕ) (hold : List ℕ) (held : ℕ) (
 pub data Through (piece : List ℕ) : ℕ → List ℕ → ℕ → List Found → Between → Type 0 where
   more : {at : ℕ} {hold : List ℕ} {held : ℕ} (r : Searched) (hold' : List ℕ) →
       Called piece at hold held r hold' →
-      r.answer ≡ StreamAnswer.More →
+      r.answer ≡ Ok None →
       Through piece at hold held [] (goes_on hold' r.stream.held)
   found : {at : ℕ} {hold : List ℕ} {held : ℕ} {pdus : List Found} {end : Between} (r : Searched) (hold' : List ℕ) (pdu : RtrPdu) (lies : Lies) →
       Called piece at hold held r hold' →
-      r.answer ≡ StreamAnswer.Found pdu lies →
+      r.answer ≡ Ok (Some (pdu, lies)) →
       Through piece r.next hold' r.stream.held pdus end →
       Through piece at hold held (record { pdu = pdu; bytes = bytes_of lies hold' piece } ∷ pdus) end
   stop : {at : ℕ} {hold : List ℕ} {held : ℕ} (r : Searched) (hold' : List ℕ) (error : StreamError) (number : ℕ) (values : List ℕ) →
       Called piece at hold held r hold' →
-      r.answer ≡ StreamAnswer.Refused error →
+      r.answer ≡ Err (SearchError.Refused error) →
       stream_refusal error ≡ Verdict.refused number values →
       Through piece at hold held [] (ended number values)
 

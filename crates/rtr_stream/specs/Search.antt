@@ -1,5 +1,5 @@
 -- One search through a piece: to the next PDU, a refusal, or the piece's end. What `search` of src/lib.rt promises.
-use Rattle.std.specs.Prelude.{ℕ, ◌+◌, Bool, true, false, cond, ◌&&◌, List, [], ◌∷◌, ◌++◌, length, take, drop, leb, eqb}
+use Rattle.std.specs.Prelude.{ℕ, ◌+◌, Bool, true, false, cond, ◌&&◌, List, [], ◌∷◌, ◌++◌, length, take, drop, leb, eqb, Result, Ok, Err, Option, Some, None}
 use Rattle.rtr_models.specs.declared.RtrPdu.{RtrPdu}
 use Rattle.rtr_codec.specs.Reading.{Reading, in_use}
 use Rattle.rtr_codec.specs.Read.{Verdict}
@@ -8,8 +8,8 @@ use Rattle.rtr_stream.specs.Stream.{Heard, judge}
 use Rattle.rtr_stream.specs.Stream.Heard.{waits, whole, refused}
 use Rattle.rtr_stream.specs.declared.StreamError.{StreamError}
 use Rattle.rtr_stream.specs.declared.Lies.{Lies}
-use Rattle.rtr_stream.specs.declared.StreamAnswer.{StreamAnswer}
 use Rattle.rtr_stream.specs.declared.Searched.{Searched}
+use Rattle.rtr_stream.specs.declared.SearchError.{SearchError}
 
 -- how a search breaks off: with a PDU and its bytes, with a refusal's number and values, or with the wish for more
 pub data End : Type 0 where
@@ -94,11 +94,11 @@ bytes_of (Lies.InPiece place) hold piece = take place.len (drop place.start piec
 bytes_of (Lies.InHold place) hold piece = take place.len (drop place.start hold)
 
 -- what the code's answer says, given the hold that it leaves
-abbrev pub said_by : StreamAnswer → List ℕ → List ℕ → Says
-said_by (StreamAnswer.Found pdu lies) hold piece = pdu_at pdu lies (bytes_of lies hold piece)
-said_by (StreamAnswer.Refused error) hold piece = stops_by (stream_refusal error)
-said_by StreamAnswer.More hold piece = wants_more
-said_by StreamAnswer.NotAStream hold piece = refused_call 22 hold
+abbrev pub said_by : Result (Option (RtrPdu × Lies)) SearchError → List ℕ → List ℕ → Says
+said_by (Ok (Some (pdu, lies))) hold piece = pdu_at pdu lies (bytes_of lies hold piece)
+said_by (Err (SearchError.Refused error)) hold piece = stops_by (stream_refusal error)
+said_by (Ok None) hold piece = wants_more
+said_by (Err SearchError.NotAStream) hold piece = refused_call 22 hold
 
 -- and the whole of what a call leaves
 abbrev pub search_said : Searched → List ℕ → List ℕ → Outcome

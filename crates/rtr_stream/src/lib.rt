@@ -7,7 +7,7 @@ ghost use Rattle.rtr_codec.specs.Answers.{number_of};
 ghost use Rattle.rtr_stream.specs.Search.{is_stream, search, search_said, stream_refusal, outcome_of};
 ghost use Rattle.rtr_stream.specs.Private.{LengthTested, Turned, ReadHere, HeaderHere, search_here};
 
-use rtr_codec::{ReadAnswer, RtrError, bytes_needed, parse_rtr_pdu};
+use rtr_codec::{RtrError, bytes_needed, parse_rtr_pdu};
 use rtr_models::{Place, RtrPdu};
 
 // The longest PDU that is listened to: an Error Report with a copy and a text of 65,535 bytes each.
@@ -53,66 +53,43 @@ pub enum Lies {
     InHold(Place),
 }
 
-// How a search breaks off.
-#[derive(Clone, Copy)]
-pub enum StreamAnswer {
-    Found(RtrPdu, Lies),
-    Refused(StreamError),
-    More,
-    NotAStream,
-}
-
 // The answer, the place in the piece to go on from, and the stream then.
 #[derive(Clone, Copy)]
 pub struct Searched {
     pub stream: Stream,
     pub next: usize,
-    pub answer: StreamAnswer,
-}
-
-// A header's length, tested.
-#[derive(Clone, Copy)]
-enum LengthTest {
-    Fits,
-    Refused(StreamError),
-}
-
-// What is to be done after a turn of the search.
-#[derive(Clone, Copy)]
-enum Then {
-    Again,
-    Done(StreamAnswer),
+    pub answer: Result<Option<(RtrPdu, Lies)>, SearchError>,
 }
 
 #[derive(Clone, Copy)]
 struct Turn {
     held: usize,
     next: usize,
-    then: Then,
+    then: Option<Result<Option<(RtrPdu, Lies)>, SearchError>>,
 }
 
 // 4 outside 8 to 131,086, then 12 over the hold.
-fn test_length(length: u32, pdu_type: u8, hold_len: usize) -> LengthTest
+fn test_length(length: u32, pdu_type: u8, hold_len: usize) -> Result<(), StreamError>
     ensures { LengthTested hold_len length pdu_type result }
 {
     if length < 8 {
-        return LengthTest::Refused(StreamError::Read(RtrError::InvalidLength {
+        return Err(StreamError::Read(RtrError::InvalidLength {
             expected: 8,
             actual: length,
             pdu_type,
         }));
     }
     if length > RTR_MAX_ERROR_REPORT_LEN {
-        return LengthTest::Refused(StreamError::Read(RtrError::InvalidLength {
+        return Err(StreamError::Read(RtrError::InvalidLength {
             expected: RTR_MAX_ERROR_REPORT_LEN,
             actual: length,
             pdu_type,
         }));
     }
     if length as usize > hold_len {
-        return LengthTest::Refused(StreamError::OverHold { length });
+        return Err(StreamError::OverHold { length });
     }
-    LengthTest::Fits
+    Ok(())
 }
 
 // Whether a hold and a count make a stream: 8 bytes or more, no more held than it has, and what is held waits, that is, its header, if it is in,
@@ -155,13 +132,13 @@ fn put_part(hold: &mut [u8], held: usize, part: &[u8])
 // The piece runs out: all that is left of it is held.
 fn keep_rest(hold: &mut [u8], held: usize, piece: &[u8], at: usize) -> Turn
     requires { (at ≤ length piece.now) × (held + (length piece.now - at) ≤ length hold.old) }
-    ensures { (result ≡ record { held = held + (length piece.now - at); next = length piece.now; then = Then.Done StreamAnswer.More }) × (take (held + (length piece.now - at)) hold.new ≡ take held hold.old ++ drop at piece.now) }
+    ensures { (result ≡ record { held = held + (length piece.now - at); next = length piece.now; then = Some (Ok None) }) × (take (held + (length piece.now - at)) hold.new ≡ take held hold.old ++ drop at piece.now) }
 {
     put_part(hold, held, &piece[at..]);
     Turn {
         held: held + (piece.len() - at),
         next: piece.len(),
-        then: Then::Done(StreamAnswer::More),
+        then: Some(Ok(None)),
     }
 }
 
@@ -177,12 +154,12 @@ fn from_piece(hold: &mut [u8], piece: &[u8], at: usize) -> Turn
     let length = bytes_needed(&piece[at..]);
     let test = test_length(length, piece[at + 1], hold.len());
     match test {
-        LengthTest::Refused(error) => Turn {
+        Err(error) => Turn {
             held: 0,
             next: at + 8,
-            then: Then::Done(StreamAnswer::Refused(error)),
+            then: Some(Err(SearchError::Refused(error))),
         },
-        LengthTest::Fits => {
+        Ok(()) => {
             let whole = length as usize;
             if left < whole {
                 return keep_rest(hold, 0, piece, at);
@@ -190,21 +167,18 @@ fn from_piece(hold: &mut [u8], piece: &[u8], at: usize) -> Turn
             let end = at + whole;
             let answer = parse_rtr_pdu(&piece[at..end]);
             match answer {
-                ReadAnswer::Read(pdu, _) => Turn {
+                Ok((pdu, _)) => Turn {
                     held: 0,
                     next: end,
-                    then: Then::Done(StreamAnswer::Found(
-                        pdu,
-                        Lies::InPiece(Place {
+                    then: Some(Ok(Some((pdu, Lies::InPiece(Place {
                             start: at,
                             len: whole,
-                        }),
-                    )),
+                        }))))),
                 },
-                ReadAnswer::Refused(error) => Turn {
+                Err(error) => Turn {
                     held: 0,
                     next: end,
-                    then: Then::Done(StreamAnswer::Refused(StreamError::Read(error))),
+                    then: Some(Err(SearchError::Refused(StreamError::Read(error)))),
                 },
             }
         }
@@ -218,21 +192,18 @@ fn read_hold(hold: &[u8], whole: usize, next: usize) -> Turn
 {
     let answer = parse_rtr_pdu(&hold[..whole]);
     match answer {
-        ReadAnswer::Read(pdu, _) => Turn {
+        Ok((pdu, _)) => Turn {
             held: 0,
             next,
-            then: Then::Done(StreamAnswer::Found(
-                pdu,
-                Lies::InHold(Place {
+            then: Some(Ok(Some((pdu, Lies::InHold(Place {
                     start: 0,
                     len: whole,
-                }),
-            )),
+                }))))),
         },
-        ReadAnswer::Refused(error) => Turn {
+        Err(error) => Turn {
             held: 0,
             next,
-            then: Then::Done(StreamAnswer::Refused(StreamError::Read(error))),
+            then: Some(Err(SearchError::Refused(StreamError::Read(error)))),
         },
     }
 }
@@ -245,19 +216,19 @@ fn with_header(hold: &[u8], next: usize) -> Turn
     let length = bytes_needed(&hold[..8]);
     let test = test_length(length, hold[1], hold.len());
     match test {
-        LengthTest::Refused(error) => Turn {
+        Err(error) => Turn {
             held: 0,
             next,
-            then: Then::Done(StreamAnswer::Refused(error)),
+            then: Some(Err(SearchError::Refused(error))),
         },
-        LengthTest::Fits => {
+        Ok(()) => {
             if length == 8 {
                 return read_hold(hold, 8, next);
             }
             Turn {
                 held: 8,
                 next,
-                then: Then::Again,
+                then: None,
             }
         }
     }
@@ -290,7 +261,7 @@ fn one_turn(hold: &mut [u8], held: usize, piece: &[u8], at: usize) -> Turn
         return Turn {
             held,
             next: at,
-            then: Then::Done(StreamAnswer::More),
+            then: Some(Ok(None)),
         };
     }
     from_hold(hold, held, piece, at)
@@ -305,21 +276,21 @@ fn search_piece(hold: &mut [u8], piece: &[u8], at: usize) -> Searched
         return Searched {
             stream: Stream { held: 0 },
             next: at,
-            answer: StreamAnswer::More,
+            answer: Ok(None),
         };
     }
     let t = from_piece(hold, piece, at);
     let then = t.then;
     match then {
-        Then::Done(answer) => Searched {
+        Some(answer) => Searched {
             stream: Stream { held: t.held },
             next: t.next,
             answer,
         },
-        Then::Again => Searched {
+        None => Searched {
             stream: Stream { held: 0 },
             next: at,
-            answer: StreamAnswer::More,
+            answer: Ok(None),
         },
     }
 }
@@ -336,7 +307,7 @@ pub fn search(hold: &mut [u8], stream: Stream, piece: &[u8], at: usize) -> Searc
         return Searched {
             stream,
             next,
-            answer: StreamAnswer::NotAStream,
+            answer: Err(SearchError::NotAStream),
         };
     }
     if held == 0 {
@@ -347,7 +318,7 @@ pub fn search(hold: &mut [u8], stream: Stream, piece: &[u8], at: usize) -> Searc
         held = t.held;
         next = t.next;
         let then = t.then;
-        if let Then::Done(done) = then {
+        if let Some(done) = then {
             break done;
         }
     };

@@ -1,5 +1,6 @@
 -- Calls of the receiver, one behind the other: a turn, more turns, the input and all of the program from its start. Each is a step of rtr_receiver's
 -- Runs, and a run goes on by it (`next-step`). Assumes nothing.
+use Rattle.std.specs.Prelude.{Result, Ok, Err}
 use Prim.Native.Nat.{ℕ, ◌+◌, ◌≤◌, ◌<◌}
 use mathlib.Core.Bool.{Bool, true, false, true≢false}
 use mathlib.Core.List.{List, [], ◌∷◌, ◌++◌, append_assoc, append-nil}
@@ -16,12 +17,11 @@ use Rattle.rtr_receiver.specs.Runs.{Call, Memory, Step, Run, feeds}
 use Rattle.rtr_receiver.specs.declared.LoadKind.{LoadKind}
 use Rattle.rtr_receiver.specs.declared.AskedSession.{AskedSession}
 use Rattle.rtr_receiver.specs.declared.Session.{Session}
-use Rattle.rtr_receiver.specs.declared.StartAnswer.{StartAnswer}
 use Rattle.rtr_receiver.proofs.Laws.{start-exactly, shape-kept, next-step}
 use Rattle.rtr_receiver.proofs.Shape.{shape-exactly}
 use Rattle.rtr_table.specs.Feeding.{memory, Turn, Turns, Input, HeardAll, most_turns, Ends}
 use Rattle.rtr_table.specs.declared.Ended.{Ended}
-use Rattle.rtr_table.specs.declared.HearAnswer.{HearAnswer}
+use Rattle.rtr_receiver.specs.declared.NotAReceiver.{NotAReceiver}
 
 -- ---- a run goes on
 
@@ -86,27 +86,27 @@ going-used turns last so_far none = (so_far.0, Input.turns_used so_far.1 (omega 
 
 -- ---- the program from its start
 
-module _ (live working : Rooms) (hold : List ℕ) (answer : StartAnswer) (live₁ working₁ : Rooms) (said : start_said answer live₁ working₁ hold ≡ start_says record_limit V1 live working hold) where
-  pub ends-started : (s : Session) → answer ≡ StartAnswer.Started s → (query query' : List ℕ) (asked : AskedSession) →
+module _ (live working : Rooms) (hold : List ℕ) (answer : Result Session NotAReceiver) (live₁ working₁ : Rooms) (said : start_said answer live₁ working₁ hold ≡ start_says record_limit V1 live working hold) where
+  pub ends-started : (s : Session) → answer ≡ Ok s → (query query' : List ℕ) (asked : AskedSession) →
       ask_said asked live₁ working₁ hold query' ≡ full_ask_says s.life.limit s live₁ working₁ hold query →
       (e : Ended) (live₂ working₂ : Rooms) (hold₂ : List ℕ) →
       length hold₂ ≡ length hold →
       HeardAll (memory asked.session live₁ working₁ hold) e.last (memory e.session live₂ working₂ hold₂) →
-      Ends (HearAnswer.Left e) query live₂ working₂ hold₂
+      Ends (Ok e) query live₂ working₂ hold₂
   ends-started s told query query' asked ask e live₂ working₂ hold₂ size rest =
-      let begun : Run record_limit V1 (length hold) [] (memory s live₁ working₁ hold) = Run.started _ live working refl (sym (ap (λ (a : StartAnswer). start_said a live₁ working₁ hold) told) ∙ said) in
+      let begun : Run record_limit V1 (length hold) [] (memory s live₁ working₁ hold) = Run.started _ live working refl (sym (ap (λ (a : Result Session NotAReceiver). start_said a live₁ working₁ hold) told) ∙ said) in
       let run = next-step record_limit (length hold) V1 [] (Call.ask LoadKind.Full query) _ _ begun (Step.asked_full asked.session asked.answer query' ask) in
       (memory asked.session live₁ working₁ hold, subst (λ (H : ℕ). Run record_limit V1 H (Call.ask LoadKind.Full query ∷ []) (memory asked.session live₁ working₁ hold)) (sym size) run, rest)
 
-  pub ends-refused : answer ≡ StartAnswer.NotAReceiver → length live₁ ≡ length live → length working₁ ≡ length working → (query : List ℕ) → Ends HearAnswer.NotAReceiver query live₁ working₁ hold
+  pub ends-refused : answer ≡ Err (record {}) → length live₁ ≡ length live → length working₁ ≡ length working → (query : List ℕ) → Ends (Err (record {})) query live₁ working₁ hold
   ends-refused told a b query l w h =
-      let none = sym (ap (λ (x : StartAnswer). start_said x live₁ working₁ hold) told) ∙ said ∙ (start-exactly record_limit V1 live working hold _).1 (refl, omega arith, omega arith, h, refl) in
+      let none = sym (ap (λ (x : Result Session NotAReceiver). start_said x live₁ working₁ hold) told) ∙ said ∙ (start-exactly record_limit V1 live working hold _).1 (refl, omega arith, omega arith, h, refl) in
       let z : ◌≡◌ {A = ℕ} 0 1 = cc in
       omega arith
 
 -- ---- where the input is left
 
-module _ (e : Ended) (query live working hold : List ℕ) (ends : Ends (HearAnswer.Left e) query live working hold) where
+module _ (e : Ended) (query live working hold : List ℕ) (ends : Ends (Ok e) query live working hold) where
   -- the whole is one run: the ask, and then the pieces
   pub ends-run : Run record_limit V1 (length hold) (Call.ask LoadKind.Full query ∷ feeds ends.2.0) (memory e.session live working hold)
   ends-run = input-run record_limit (length hold) V1 (Call.ask LoadKind.Full query ∷ []) ends.0 ends.1 ends.2.1

@@ -1,6 +1,7 @@
 -- What the program comes to, as far as its functions promise it: the bytes that `list_all` hands back are the listing of the history of its calls
 -- (rtr_listing's `listed-is-history`), which ends where nothing was read, or in a stop. A turn has another behind it exactly where the receiver still
 -- listens, by the answer's ending and the memory of a run (rtr_receiver's `feed-is` and `memory-is`). Assumes nothing.
+use Rattle.std.specs.Prelude.{Result, Ok, Err, ⊤}
 use Prim.Native.Nat.{ℕ, zero, suc, ◌*◌, ◌≤◌, ◌<◌}
 use mathlib.Core.Bool.{Bool, true, false}
 use mathlib.Core.List.{List, [], ◌∷◌, ◌++◌, append_assoc, append-nil}
@@ -19,7 +20,6 @@ use Rattle.rtr_receiver.specs.Promises.{Left, Ending, FeedSays, stop_said, stopp
 use Rattle.rtr_receiver.specs.Receiver.{Stage, listens}
 use Rattle.rtr_receiver.specs.Receives.{receives}
 use Rattle.rtr_receiver.specs.Runs.{Call, Memory, Run, feeds, history_of}
-use Rattle.rtr_receiver.specs.declared.FeedAnswer.{FeedAnswer}
 use Rattle.rtr_receiver.specs.declared.LoadKind.{LoadKind}
 use Rattle.rtr_receiver.specs.declared.Session.{Session}
 use Rattle.rtr_receiver.specs.declared.Stop.{Stop}
@@ -31,9 +31,9 @@ use Rattle.rtr_listing.proofs.Printed.{printed_after, listed-is-history}
 use Rattle.rtr_table.specs.Feeding.{memory, goes_on, Turn, Input, most_turns, Ends}
 use Rattle.rtr_table.specs.Printing.{Shows, lines_of, lines_up_to, Listed}
 use Rattle.rtr_table.specs.declared.Ended.{Ended}
-use Rattle.rtr_table.specs.declared.HearAnswer.{HearAnswer}
 use Rattle.rtr_table.proofs.Feeds.{turn_step, turns-run, ends-run, ends-count}
 use Rattle.rtr_table.proofs.list_all.Reads as list_all
+use Rattle.rtr_receiver.specs.declared.FeedError.{FeedError}
 
 -- printed in parts, it is the listing
 pub parts-are-listing : (s : Session) (live : List ℕ) (count : ℕ) → 6 * count ≤ length live → head_lines (head_of s) ++ lines_up_to live count ≡ listing s (records count live)
@@ -50,7 +50,7 @@ parts-are-listing s live (suc n) h =
 -- so what is gathered where the input is left is the listing
 pub listed-left : (e : Ended) (query live working hold : List ℕ) (n : ℕ) (lines : List ℕ) →
     length live ≡ 6 * record_limit →
-    Ends (HearAnswer.Left e) query live working hold →
+    Ends (Ok e) query live working hold →
     Shows (head_lines (head_of e.session) ++ lines_up_to live e.session.live.records) n lines →
     Listed query live working hold n lines
 listed-left e query live working hold n lines size ends shows =
@@ -91,10 +91,10 @@ stop-ends Stop.AlreadyIn = refl
 stop-ends Stop.RoomFull = refl
 stop-ends (Stop.ErrorReport code) = refl
 
-answer-says : (answer : FeedAnswer) (taken updates : ℕ) (left : Left) (hold : List ℕ) → goes_on answer ≡ says_on (fed_said_by answer taken updates left hold)
-answer-says FeedAnswer.GoesOn taken updates left hold = refl
-answer-says (FeedAnswer.Stopped stop) taken updates left hold = stop-ends stop
-answer-says FeedAnswer.NotAReceiver taken updates left hold = refl
+answer-says : (answer : Result ⊤ FeedError) (taken updates : ℕ) (left : Left) (hold : List ℕ) → goes_on answer ≡ says_on (fed_said_by answer taken updates left hold)
+answer-says (Ok tt) taken updates left hold = refl
+answer-says (Err (FeedError.Stopped stop)) taken updates left hold = stop-ends stop
+answer-says (Err FeedError.NotAReceiver) taken updates left hold = refl
 
 -- in a run there is to be another turn exactly where the receiver listens; after the last one it does not
 pub turn-goes-on : (limit H : ℕ) (v : RtrProtocolVersion) (calls : List Call) (m m' : Memory) (buffer : List ℕ) (n : ℕ) (more : Bool) →

@@ -1,4 +1,5 @@
 -- What is at the front of an output of 128 bytes or more: no head and no record is longer than 128 bytes, so its lines are written. Assumes nothing.
+use Rattle.std.specs.Prelude.{Option, Some, None, Result, Ok, Err}
 use Prim.Native.Nat.{ℕ, suc, ◌+◌, ◌-◌, ◌≤◌}
 use mathlib.Core.List.{List, ◌++◌, append_assoc, append-nil}
 use mathlib.Core.Path.{◌≡◌, refl, sym, ap, ◌∙◌, subst}
@@ -8,19 +9,18 @@ use lib.Seq.{take_at, take-append-le, take-append-add, length-take-le}
 use Rattle.rtr_encode.specs.Encode.{Encoded}
 use Rattle.rtr_encode.specs.Encode.Writing.{written}
 use Rattle.rtr_room.specs.Room.{record_found}
-use Rattle.rtr_room.specs.declared.RecordFound.{RecordFound}
 use Rattle.rtr_listing.specs.Promises.{list_said, leaves, puts}
 use Rattle.rtr_listing.specs.declared.ListError.{ListError}
 use Rattle.rtr_listing.specs.declared.ListError.TheVariants.{NotAReceiver, OutputShort}
-use Rattle.rtr_listing.specs.declared.ListAnswer.{ListAnswer}
 use Rattle.rtr_listing.proofs.Laws.{written_is, record-at-most}
 use Rattle.rtr_table.specs.Printing.{Shows, lines_of, lines_up_to}
+use Rattle.rtr_room.specs.declared.Record.{Record}
 
-module _ (text out out' : List ℕ) (answer : ListAnswer) (short : length text ≤ 128) (room : 128 ≤ length out) (promise : leaves answer out' ≡ puts text out) where
+module _ (text out out' : List ℕ) (answer : Result ℕ ListError) (short : length text ≤ 128) (room : 128 ≤ length out) (promise : leaves answer out' ≡ puts text out) where
   left : leaves answer out' ≡ record { says = written (length text); out = text ++ drop (length text) out }
   left = promise ∙ written_is text out (omega arith)
 
-  pub shows-written : (n : ℕ) → answer ≡ ListAnswer.Written n → Shows text n out'
+  pub shows-written : (n : ℕ) → answer ≡ Ok n → Shows text n out'
   shows-written n told =
       let said : written n ≡ written (length text) = sym (ap list_said told) ∙ ap (λ (e : Encoded). e.says) left in
       let size : n ≡ length text = cc in
@@ -30,27 +30,27 @@ module _ (text out out' : List ℕ) (answer : ListAnswer) (short : length text �
         text-is = rw (bytes, size) (take_at text (drop (length text) out) (length text) refl);
       }
 
-  pub never-refused : (e : ListError) → answer ≡ ListAnswer.Refused e → ⊥
+  pub never-refused : (e : ListError) → answer ≡ Err e → ⊥
   never-refused NotAReceiver told = let q = sym (ap list_said told) ∙ ap (λ (e : Encoded). e.says) left in let z : ◌≡◌ {A = ℕ} 0 1 = cc in omega arith
   never-refused (OutputShort n) told = let q = sym (ap list_said told) ∙ ap (λ (e : Encoded). e.says) left in let z : ◌≡◌ {A = ℕ} 0 1 = cc in omega arith
 
 -- the lines of what was found at a place of the room
-pub shows-found : (found at : RecordFound) (n : ℕ) (lines : List ℕ) → found ≡ at → Shows (lines_of found) n lines → Shows (lines_of at) n lines
-shows-found found at n lines e = subst (λ (f : RecordFound). Shows (lines_of f) n lines) e
+pub shows-found : (found at : Option Record) (n : ℕ) (lines : List ℕ) → found ≡ at → Shows (lines_of found) n lines → Shows (lines_of at) n lines
+shows-found found at n lines e = subst (λ (f : Option Record). Shows (lines_of f) n lines) e
 
-pub shows_nothing : (lines : List ℕ) → Shows (lines_of RecordFound.Outside) 0 lines
+pub shows_nothing : (lines : List ℕ) → Shows (lines_of None) 0 lines
 shows_nothing lines = record { within = omega arith; text-is = refl }
 
 -- ---- one part behind another
 
-found-at-most : (found : RecordFound) → length (lines_of found) ≤ 128
-found-at-most (RecordFound.Found r) = record-at-most r
-found-at-most RecordFound.Outside = omega arith
+found-at-most : (found : Option Record) → length (lines_of found) ≤ 128
+found-at-most (Some r) = record-at-most r
+found-at-most None = omega arith
 
 pub shown-length : {text : List ℕ} {n : ℕ} {lines : List ℕ} → Shows text n lines → n ≡ length text
 shown-length {n = n} {lines} s = sym (length-take-le n lines s.within) ∙ ap length s.text-is
 
-pub part-at-most : (found : RecordFound) {n : ℕ} {lines : List ℕ} → Shows (lines_of found) n lines → n ≤ 128
+pub part-at-most : (found : Option Record) {n : ℕ} {lines : List ℕ} → Shows (lines_of found) n lines → n ≤ 128
 part-at-most found s = omega (arith, shown-length s, found-at-most found)
 
 -- a text at the front, and another at the front of what stands behind it

@@ -1,25 +1,25 @@
 -- What the program does with the receiver: a start, a full ask, and then feeds of the pieces that were read, as calls of one run (rtr_receiver's
 -- Runs), up to a read of nothing or a stop. What the pieces are is the input's: no contract can say what was read.
-use Rattle.std.specs.Prelude.{ℕ, ◌*◌, ◌≤◌, ◌<◌, Bool, true, false, List, [], ◌∷◌, ◌++◌, ◌≡◌, length, take}
+use Rattle.std.specs.Prelude.{ℕ, ◌*◌, ◌≤◌, ◌<◌, Bool, true, false, List, [], ◌∷◌, ◌++◌, ◌≡◌, length, take, Result, Ok, Err, ⊤}
 use Rattle.rtr_models.specs.declared.RtrProtocolVersion.TheVariants.{V1}
 use Rattle.rtr_receiver.specs.Contents.{Rooms}
 use Rattle.rtr_receiver.specs.Promises.{FedAs, record_limit}
 use Rattle.rtr_receiver.specs.Runs.{Call, Memory, Run}
 use Rattle.rtr_receiver.specs.declared.Done.{Done}
 use Rattle.rtr_receiver.specs.declared.Fed.{Fed}
-use Rattle.rtr_receiver.specs.declared.FeedAnswer.{FeedAnswer}
 use Rattle.rtr_receiver.specs.declared.LoadKind.{LoadKind}
 use Rattle.rtr_receiver.specs.declared.Session.{Session}
-use Rattle.rtr_table.specs.declared.HearAnswer.{HearAnswer}
+use Rattle.rtr_receiver.specs.declared.FeedError.{FeedError}
+use Rattle.rtr_receiver.specs.declared.NotAReceiver.{NotAReceiver}
 
 abbrev pub memory : Session → Rooms → Rooms → List ℕ → Memory
 memory s live working hold = record { session = s; live = live; working = working; hold = hold }
 
 -- the receiver takes more after this answer
-abbrev pub goes_on : FeedAnswer → Bool
-goes_on FeedAnswer.GoesOn = true
-goes_on (FeedAnswer.Stopped stop) = false
-goes_on FeedAnswer.NotAReceiver = false
+abbrev pub goes_on : Result ⊤ FeedError → Bool
+goes_on (Ok tt) = true
+goes_on (Err (FeedError.Stopped stop)) = false
+goes_on (Err FeedError.NotAReceiver) = false
 
 -- a feed of a piece, as `feed` promises it, with what it answered
 abbrev pub FedWith : Memory → List ℕ → Done → Memory → Type 0
@@ -63,7 +63,7 @@ HeardAll m last m' = (pieces : List (List ℕ)) × Input m last m' pieces
 
 -- the whole of it, in version 1: a full ask with this room for its query, and then the input. A start is refused only where the memory is not of
 -- the size
-abbrev pub Ends : HearAnswer → List ℕ → Rooms → Rooms → List ℕ → Type 0
-Ends (HearAnswer.Left e) query live working hold =
+abbrev pub Ends : Result Ended NotAReceiver → List ℕ → Rooms → Rooms → List ℕ → Type 0
+Ends (Ok e) query live working hold =
     (asked : Memory) × Run record_limit V1 (length hold) (Call.ask LoadKind.Full query ∷ []) asked × HeardAll asked e.last (memory e.session live working hold)
-Ends HearAnswer.NotAReceiver query live working hold = length live ≡ 6 * record_limit → length working ≡ 6 * record_limit → 8 ≤ length hold → ⊥
+Ends (Err (record {})) query live working hold = length live ≡ 6 * record_limit → length working ≡ 6 * record_limit → 8 ≤ length hold → ⊥

@@ -10,10 +10,10 @@ ghost use Rattle.rtr_listing.specs.Listing.{head_lines, head_of, record_lines};
 ghost use Rattle.rtr_table.specs.Feeding.{memory, goes_on, Turn, HeardAll, Ends};
 ghost use Rattle.rtr_table.specs.Printing.{Shows, lines_of, lines_up_to, Sized, Listed};
 
-use rtr_listing::{ListAnswer, head_lines, record_lines};
+use rtr_listing::{head_lines, record_lines};
 use rtr_models::RtrProtocolVersion;
-use rtr_receiver::{FeedAnswer, RECORD_LIMIT, Session, StartAnswer, feed, full_ask, start};
-use rtr_room::{Record, RecordFound, get};
+use rtr_receiver::{RECORD_LIMIT, Session, feed, full_ask, start};
+use rtr_room::{Record, get};
 use std::io;
 use std::io::Read;
 
@@ -31,19 +31,13 @@ struct Ended {
     last: usize,
 }
 
-#[derive(Clone, Copy)]
-enum HearAnswer {
-    Left(Ended),
-    NotAReceiver,
-}
-
-fn goes_on(answer: FeedAnswer) -> bool
+fn goes_on(answer: Result<(), FeedError>) -> bool
     ensures { result ≡ goes_on answer }
 {
     match answer {
-        FeedAnswer::GoesOn => true,
-        FeedAnswer::Stopped(_) => false,
-        FeedAnswer::NotAReceiver => false,
+        Ok(()) => true,
+        Err(FeedError::Stopped(_)) => false,
+        Err(FeedError::NotAReceiver) => false,
     }
 }
 
@@ -119,17 +113,17 @@ fn hear_all(
     working: &mut [u32],
     hold: &mut [u8],
     query: &mut [u8],
-) -> HearAnswer
+) -> Result<Ended, NotAReceiver>
     ensures { Ends result query.old live.new working.new hold.new }
 {
     let started = start(RtrProtocolVersion::V1, live, working, hold);
     match started {
-        StartAnswer::Started(s) => {
+        Ok(s) => {
             let asked = full_ask(s, live, working, hold, query);
             let session = asked.session;
-            HearAnswer::Left(feed_all(input, session, live, working, hold))
+            Ok(feed_all(input, session, live, working, hold))
         }
-        StartAnswer::NotAReceiver => HearAnswer::NotAReceiver,
+        Err(_) => Err(NotAReceiver),
     }
 }
 
@@ -140,8 +134,8 @@ fn head_text(s: Session, lines: &mut [u8]) -> usize
 {
     let answer = head_lines(s, lines);
     match answer {
-        ListAnswer::Written(n) => n,
-        ListAnswer::Refused(_) => 0,
+        Ok(n) => n,
+        Err(_) => 0,
     }
 }
 
@@ -152,8 +146,8 @@ fn record_text(r: Record, lines: &mut [u8]) -> usize
 {
     let answer = record_lines(r, lines);
     match answer {
-        ListAnswer::Written(n) => n,
-        ListAnswer::Refused(_) => 0,
+        Ok(n) => n,
+        Err(_) => 0,
     }
 }
 
@@ -164,8 +158,8 @@ fn text_at(live: &[u32], i: usize, lines: &mut [u8]) -> usize
 {
     let found = get(live, i);
     match found {
-        RecordFound::Found(r) => record_text(r, lines),
-        RecordFound::Outside => 0,
+        Some(r) => record_text(r, lines),
+        None => 0,
     }
 }
 
@@ -200,11 +194,11 @@ fn list_all(
 {
     let heard = hear_all(input, live, working, hold, query);
     match heard {
-        HearAnswer::Left(ended) => {
+        Ok(ended) => {
             let session = ended.session;
             table_text(session, live, lines)
         }
-        HearAnswer::NotAReceiver => 0,
+        Err(_) => 0,
     }
 }
 

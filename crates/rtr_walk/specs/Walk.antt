@@ -1,5 +1,5 @@
 -- The nest walk: document 01, "Nest walk". A slice is read, then what the report in it encapsulates, and so on: each read is one level further down.
-use Rattle.std.specs.Prelude.{ℕ, zero, suc, ◌+◌, ◌≤◌, ◌<◌, List, [], ◌∷◌, ◌≡◌}
+use Rattle.std.specs.Prelude.{ℕ, zero, suc, ◌+◌, ◌≤◌, ◌<◌, List, [], ◌∷◌, ◌≡◌, Result, Ok, Err}
 use Rattle.rtr_models.specs.Parts.{inside, part_if}
 use Rattle.rtr_models.specs.declared.RtrPduType.{RtrPduType}
 use Rattle.rtr_models.specs.declared.RtrErrorReport.{RtrErrorReport}
@@ -10,7 +10,7 @@ use Rattle.rtr_codec.specs.Read.{Verdict, read}
 use Rattle.rtr_codec.specs.Answers.{refusal}
 use Rattle.rtr_walk.specs.declared.WalkEnd.{WalkEnd}
 use Rattle.rtr_walk.specs.declared.WalkEnd.TheVariants.{Plain, Empty, Refused, TooDeep}
-use Rattle.rtr_walk.specs.declared.WalkAnswer.{WalkAnswer}
+use Rattle.rtr_codec.specs.declared.RtrError.{RtrError}
 
 -- how a walk ends: at a PDU that is no report, at a report with nothing inside, at inner bytes that are refused by a number, or at level
 -- 16 with bytes still inside
@@ -83,9 +83,9 @@ abbrev pub refused_walk : Verdict → WalkVerdict
 refused_walk (Verdict.accepted pdu consumed) = refused 0 []
 refused_walk (Verdict.refused number values) = refused number values
 
-abbrev pub walk_said : WalkAnswer → WalkVerdict
-walk_said (WalkAnswer.Walked level end) = walked level (end_said end)
-walk_said (WalkAnswer.Refused error) = refused_walk (refusal error)
+abbrev pub walk_said : Result (ℕ × WalkEnd) RtrError → WalkVerdict
+walk_said (Ok (level, end)) = walked level (end_said end)
+walk_said (Err error) = refused_walk (refusal error)
 
 -- Below: what the laws say of the walk without it.
 

@@ -3,10 +3,10 @@
 // safe and ending; it promises nothing of its sums, which the bench compares.
 #![tactic(auto)]
 
-use rtr_codec::{ReadAnswer, parse_rtr_pdu};
-use rtr_encode::{EncodeAnswer, encode};
+use rtr_codec::{parse_rtr_pdu};
+use rtr_encode::{encode};
 use rtr_models::*;
-use rtr_stream::{Stream, StreamAnswer, search};
+use rtr_stream::{Stream, search};
 
 // ---- Sums
 
@@ -132,11 +132,11 @@ struct Took {
 fn read_one(sum: u64, bytes: &[u8]) -> Took {
     let answer = parse_rtr_pdu(bytes);
     match answer {
-        ReadAnswer::Read(pdu, n) => Took {
+        Ok((pdu, n)) => Took {
             n,
             sum: mix_pdu(sum, pdu, bytes),
         },
-        ReadAnswer::Refused(_) => Took { n: 0, sum },
+        Err(_) => Took { n: 0, sum },
     }
 }
 
@@ -163,11 +163,11 @@ pub extern "C" fn bench_read(bytes: &[u8]) -> u64 {
 fn pass_one(sum: u64, bytes: &[u8]) -> Took {
     let answer = parse_rtr_pdu(bytes);
     match answer {
-        ReadAnswer::Read(_, n) => Took {
+        Ok((_, n)) => Took {
             n,
             sum: mix(sum, n as u64),
         },
-        ReadAnswer::Refused(_) => Took { n: 0, sum },
+        Err(_) => Took { n: 0, sum },
     }
 }
 
@@ -206,19 +206,19 @@ fn mix_written(sum: u64, out: &[u8], n: usize) -> u64 {
 fn encode_one(sum: u64, pdu: RtrPdu, bytes: &[u8], out: &mut [u8]) -> u64 {
     let answer = encode(pdu, bytes, out);
     match answer {
-        EncodeAnswer::Written(n) => mix_written(sum, out, n),
-        EncodeAnswer::Refused(_) => sum,
+        Ok(n) => mix_written(sum, out, n),
+        Err(_) => sum,
     }
 }
 
 fn recode_one(sum: u64, bytes: &[u8], out: &mut [u8]) -> Took {
     let answer = parse_rtr_pdu(bytes);
     match answer {
-        ReadAnswer::Read(pdu, n) => Took {
+        Ok((pdu, n)) => Took {
             n,
             sum: encode_one(sum, pdu, bytes, out),
         },
-        ReadAnswer::Refused(_) => Took { n: 0, sum },
+        Err(_) => Took { n: 0, sum },
     }
 }
 
@@ -258,7 +258,7 @@ fn hear_one(hold: &mut [u8], piece: &[u8], h: Heard) -> Heard {
     let next = searched.next;
     let answer = searched.answer;
     match answer {
-        StreamAnswer::Found(_, _) => Heard {
+        Ok(Some((_, _))) => Heard {
             held: stream.held,
             next,
             sum: mix(h.sum, next as u64),

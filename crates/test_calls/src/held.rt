@@ -1,21 +1,21 @@
 // A record that is lent: the calls of rtr_held. Numbers that are no session's are taken as a stopped receiver's, which no test lends.
 use rtr_encode::EncodeError;
 use rtr_models::RtrProtocolVersion;
-use rtr_numbers::{SessionFound, put_session, session_of};
+use rtr_numbers::{put_session, session_of};
 use rtr_receiver::*;
 
 fn session_in(numbers: &[u64]) -> Session {
     let found = session_of(numbers);
     match found {
-        SessionFound::Known(s) => s,
-        SessionFound::Unknown => Session {
+        Some(s) => s,
+        None => Session {
             life: Life {
                 version: RtrProtocolVersion::V0,
                 limit: RECORD_LIMIT,
             },
             phase: Phase::Stopped(Stop::OutOfTurn),
-            table: LiveTable::NoTable,
-            note: Note::NoNote,
+            table: None,
+            note: None,
             live: Counts { records: 0 },
             working: Counts { records: 0 },
             held: 0,
@@ -23,11 +23,11 @@ fn session_in(numbers: &[u64]) -> Session {
     }
 }
 
-fn feed_number(answer: FeedAnswer) -> u8 {
+fn feed_number(answer: Result<(), FeedError>) -> u8 {
     match answer {
-        FeedAnswer::GoesOn => 0,
-        FeedAnswer::Stopped(stop) => stop.number(),
-        FeedAnswer::NotAReceiver => 22,
+        Ok(()) => 0,
+        Err(FeedError::Stopped(stop)) => stop.number(),
+        Err(FeedError::NotAReceiver) => 22,
     }
 }
 
@@ -83,10 +83,10 @@ fn asked(
 }
 
 // A number, and 256 times the bytes written, or needed where the output is too short.
-fn ask_number(answer: AskAnswer) -> u64 {
+fn ask_number(answer: Result<usize, AskError>) -> u64 {
     match answer {
-        AskAnswer::Written(n) => n as u64 % 65536 * 256,
-        AskAnswer::Refused(error) => match error {
+        Ok(n) => n as u64 % 65536 * 256,
+        Err(error) => match error {
             AskError::NotAReceiver => 22,
             AskError::WrongPhase => 20,
             AskError::NoTable => 21,
@@ -114,10 +114,10 @@ pub extern "C" fn test_held_ask(
     ask_number(answer)
 }
 
-fn reconnect_number(answer: ReconnectAnswer) -> u8 {
+fn reconnect_number(answer: Result<(), NotAReceiver>) -> u8 {
     match answer {
-        ReconnectAnswer::Connected => 0,
-        ReconnectAnswer::NotAReceiver => 22,
+        Ok(()) => 0,
+        Err(_) => 22,
     }
 }
 
@@ -145,12 +145,12 @@ pub extern "C" fn test_held_notify(
 ) -> u8 {
     let answer = rtr_held::notify_through(session_in(session), live, working, hold);
     match answer {
-        NotifyAnswer::None => 0,
-        NotifyAnswer::OtherSession => 1,
-        NotifyAnswer::Same => 2,
-        NotifyAnswer::Newer => 3,
-        NotifyAnswer::Older => 4,
-        NotifyAnswer::Undefined => 5,
-        NotifyAnswer::NotAReceiver => 22,
+        Ok(Comparison::None) => 0,
+        Ok(Comparison::OtherSession) => 1,
+        Ok(Comparison::Same) => 2,
+        Ok(Comparison::Newer) => 3,
+        Ok(Comparison::Older) => 4,
+        Ok(Comparison::Undefined) => 5,
+        Err(_) => 22,
     }
 }

@@ -1,10 +1,10 @@
 // Reading by place and through a run, a PDU's payloads, and an End of Data with absent intervals.
 use crate::narrow::*;
-use rtr_codec::{ReadAnswer, RtrError, RunRead, parse_rtr_pdu, read_at};
-use rtr_encode::EncodeAnswer;
+use rtr_codec::{RtrError, RunRead, parse_rtr_pdu, read_at};
+use Result<usize, EncodeError>;
 use rtr_models::*;
 use rtr_numbers::{at, error_value, put_numbers};
-use rtr_pdu_numbers::{PduFound, put_pdu};
+use rtr_pdu_numbers::{put_pdu};
 
 // A refusal's number; its three values become the first three of 12 numbers.
 fn put_refusal(error: RtrError, pdu: &mut [u64]) -> u8 {
@@ -46,11 +46,11 @@ pub extern "C" fn test_read(
     let answer = read.answer;
     *next = read.next as u64;
     match answer {
-        ReadAnswer::Read(value, consumed) => {
+        Ok((value, consumed)) => {
             let _ = put_pdu(value, consumed, pdu);
             0
         }
-        ReadAnswer::Refused(error) => put_refusal(error, pdu),
+        Err(error) => put_refusal(error, pdu),
     }
 }
 
@@ -66,12 +66,12 @@ pub extern "C" fn test_rest(bytes: &[u8], from: usize, rest: &mut u64) -> u8 {
 pub extern "C" fn test_kind(bytes: &[u8]) -> u64 {
     let answer = parse_rtr_pdu(bytes);
     match answer {
-        ReadAnswer::Read(pdu, _) => {
+        Ok((pdu, _)) => {
             let kind = pdu.pdu_type();
             let version = pdu.version();
             kind.to_u8() as u64 * 256 + version.to_u8() as u64
         }
-        ReadAnswer::Refused(_) => 65535,
+        Err(_) => 65535,
     }
 }
 
@@ -92,7 +92,7 @@ fn byte_of(part: &[u8], i: usize) -> u64 {
 pub extern "C" fn test_part(pdu: &[u64], bytes: &[u8], which: u8, i: usize) -> u64 {
     let found = rtr_pdu_numbers::pdu_of(pdu);
     match found {
-        PduFound::Known(value, _) => match value {
+        Some((value, _)) => match value {
             RtrPdu::RouterKey(p) => {
                 if which == 0 {
                     return byte_of(p.subject_key_identifier_part(bytes), i);
@@ -107,16 +107,16 @@ pub extern "C" fn test_part(pdu: &[u64], bytes: &[u8], which: u8, i: usize) -> u
             }
             _ => 256,
         },
-        PduFound::Unknown => 256,
+        None => 256,
     }
 }
 
 // A number over 32 bits is an absent interval.
-fn interval(n: u64) -> Interval {
+fn interval(n: u64) -> Option<u32> {
     if n < 4294967296 {
-        return Interval::Seconds(low32(n));
+        return Some(low32(n));
     }
-    Interval::Absent
+    None
 }
 
 fn version_of(n: u64) -> RtrProtocolVersion {
@@ -139,7 +139,7 @@ pub extern "C" fn test_encode_end(numbers: &[u64], out: &mut [u8]) -> u64 {
     };
     let answer = rtr_encode::encode(RtrPdu::EndOfData(p), b"", out);
     match answer {
-        EncodeAnswer::Written(n) => n as u64,
-        EncodeAnswer::Refused(_) => 0,
+        Ok(n) => n as u64,
+        Err(_) => 0,
     }
 }

@@ -1,7 +1,7 @@
 // The room's calls. A record is six numbers.
 use crate::narrow::*;
 use rtr_numbers::{at, put_numbers};
-use rtr_room::{CopyAnswer, EnterAnswer, LeaveAnswer, LookUp, Record, RecordFound};
+use rtr_room::{Record};
 
 fn record_of(n: &[u64]) -> Record {
     Record {
@@ -57,8 +57,8 @@ pub extern "C" fn test_record(given: &[u64], record: &mut [u64]) -> bool {
 pub extern "C" fn test_get(room: &[u32], i: usize, record: &mut [u64]) -> bool {
     let found = rtr_room::get(room, i);
     match found {
-        RecordFound::Found(r) => put_record(r, record),
-        RecordFound::Outside => false,
+        Some(r) => put_record(r, record),
+        None => false,
     }
 }
 
@@ -88,13 +88,13 @@ pub extern "C" fn test_enter(
     let answer = rtr_room::enter(room, count, record_of(record));
     *after = count as u64;
     match answer {
-        EnterAnswer::Entered(n) => {
+        Ok(n) => {
             *after = n as u64;
             0
         }
-        EnterAnswer::AlreadyIn => 17,
-        EnterAnswer::Full => 18,
-        EnterAnswer::NotARoom => 22,
+        Err(EnterError::AlreadyIn) => 17,
+        Err(EnterError::Full) => 18,
+        Err(EnterError::NotARoom) => 22,
     }
 }
 
@@ -109,12 +109,12 @@ pub extern "C" fn test_leave(
     let answer = rtr_room::leave(room, count, record_of(record));
     *after = count as u64;
     match answer {
-        LeaveAnswer::Left(n) => {
+        Ok(n) => {
             *after = n as u64;
             0
         }
-        LeaveAnswer::NotIn => 16,
-        LeaveAnswer::NotARoom => 22,
+        Err(LeaveError::NotIn) => 16,
+        Err(LeaveError::NotARoom) => 22,
     }
 }
 
@@ -123,15 +123,15 @@ pub extern "C" fn test_leave(
 pub extern "C" fn test_look_up(room: &[u32], count: usize, record: &[u64], place: &mut u64) -> u8 {
     let found = rtr_room::look_up(room, count, record_of(record));
     match found {
-        LookUp::At(n) => {
+        Ok(Position::At(n)) => {
             *place = n as u64;
             0
         }
-        LookUp::Missing(n) => {
+        Ok(Position::Missing(n)) => {
             *place = n as u64;
             16
         }
-        LookUp::NotARoom => 22,
+        Err(_) => 22,
     }
 }
 
@@ -145,7 +145,7 @@ pub extern "C" fn test_empty(room: &mut [u32]) {
 pub extern "C" fn test_copy(from: &[u32], room: &mut [u32]) -> u8 {
     let answer = rtr_room::copy(from, room);
     match answer {
-        CopyAnswer::Copied => 0,
-        CopyAnswer::NotARoom => 22,
+        Ok(()) => 0,
+        Err(_) => 22,
     }
 }

@@ -1,12 +1,12 @@
 // A route's state by the scan, beside the library's call, which goes by the table's order.
-use rtr_numbers::{SessionFound, session_of};
-use rtr_origin::{Route, RouteFound, RoutePrefix, ValidateAnswer, route_of, validate_by_scan};
+use rtr_numbers::{session_of};
+use rtr_origin::{Route, RoutePrefix, route_of, validate_by_scan};
 
 // Numbers that are no route's are asked of as one that is too long, so that 22 and 21 come first.
 fn asked(numbers: &[u32]) -> Route {
     match route_of(numbers) {
-        RouteFound::Known(q) => q,
-        RouteFound::Unknown => Route {
+        Some(q) => q,
+        None => Route {
             prefix: RoutePrefix::IPv4(0),
             length: 255,
             origin: 0,
@@ -14,17 +14,17 @@ fn asked(numbers: &[u32]) -> Route {
     }
 }
 
-fn state_number(answer: ValidateAnswer) -> u64 {
+fn state_number(answer: Result<RouteState, ValidateError>) -> u64 {
     match answer {
-        ValidateAnswer::State(state) => state.number() as u64,
-        ValidateAnswer::Refused(_) => 0,
+        Ok(state) => state.number() as u64,
+        Err(_) => 0,
     }
 }
 
-fn answer_number(answer: ValidateAnswer) -> u8 {
+fn answer_number(answer: Result<RouteState, ValidateError>) -> u8 {
     match answer {
-        ValidateAnswer::State(_) => 0,
-        ValidateAnswer::Refused(error) => error.number(),
+        Ok(_) => 0,
+        Err(error) => error.number(),
     }
 }
 
@@ -43,12 +43,12 @@ pub extern "C" fn test_validate_by_scan(
     }
     let found = session_of(session);
     match found {
-        SessionFound::Known(s) => {
+        Some(s) => {
             let answer = validate_by_scan(s, live, working, hold, asked(route));
             *state = state_number(answer);
             answer_number(answer)
         }
-        SessionFound::Unknown => {
+        None => {
             *state = 0;
             22
         }

@@ -2,22 +2,22 @@
 use rtr_models::{RtrPdu, RtrResetQuery};
 use rtr_numbers::{at, error_value, put_numbers};
 use rtr_pdu_numbers::put_pdu;
-use rtr_stream::{Lies, Stream, StreamAnswer, StreamError};
+use rtr_stream::{Lies, Stream, StreamError};
 
 // 0: found; 1 to 12: refused; 21: more is needed; 22.
-fn search_number(answer: StreamAnswer) -> u8 {
+fn search_number(answer: Result<Option<(RtrPdu, Lies)>, SearchError>) -> u8 {
     match answer {
-        StreamAnswer::Found(_, _) => 0,
-        StreamAnswer::Refused(error) => error.number(),
-        StreamAnswer::More => 21,
-        StreamAnswer::NotAStream => 22,
+        Ok(Some((_, _))) => 0,
+        Err(SearchError::Refused(error)) => error.number(),
+        Ok(None) => 21,
+        Err(SearchError::NotAStream) => 22,
     }
 }
 
 // The PDU that was found; another where there is none.
-fn search_pdu(answer: StreamAnswer) -> RtrPdu {
+fn search_pdu(answer: Result<Option<(RtrPdu, Lies)>, SearchError>) -> RtrPdu {
     match answer {
-        StreamAnswer::Found(pdu, _) => pdu,
+        Ok(Some((pdu, _))) => pdu,
         _ => RtrPdu::ResetQuery(RtrResetQuery::new_v0()),
     }
 }
@@ -42,10 +42,10 @@ fn error_said(error: StreamError) -> [u64; 3] {
 }
 
 // Where the PDU lies, or a refusal's values.
-fn search_said(answer: StreamAnswer) -> [u64; 3] {
+fn search_said(answer: Result<Option<(RtrPdu, Lies)>, SearchError>) -> [u64; 3] {
     match answer {
-        StreamAnswer::Found(_, lies) => lies_said(lies),
-        StreamAnswer::Refused(error) => error_said(error),
+        Ok(Some((_, lies))) => lies_said(lies),
+        Err(SearchError::Refused(error)) => error_said(error),
         _ => [0, 0, 0],
     }
 }

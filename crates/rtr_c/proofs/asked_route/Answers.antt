@@ -3,5 +3,5 @@ use mathlib.Core.Path.{sym, ap}
 use Rattle.rtr_c.specs.Private.{asked_route}
 use Rattle.rtr_c.proofs.asked_route.Goals as goal
 
-pub returns-in-Unknown : goal.returns-in-Unknown
-returns-in-Unknown c = sym (ap asked_route c.in-Unknown.is)
+pub returns-in-None : goal.returns-in-None
+returns-in-None c = sym (ap asked_route c.in-None.is)

@@ -5,7 +5,7 @@ use Rattle.rtr_cache.specs.Private.{behind_of}
 use Rattle.rtr_cache.proofs.behind.Goals as goal
 
 pub overflow_add-result : goal.overflow_add-result
-overflow_add-result c = omega (arith, ap (behind_of c.args.at) c.in-Written.is, c.requires)
+overflow_add-result c = omega (arith, ap (behind_of c.args.at) c.in-Ok.is, c.requires)
 
-pub returns-in-Written : goal.returns-in-Written
-returns-in-Written c = sym (ap (behind_of c.args.at) c.in-Written.is)
+pub returns-in-Ok : goal.returns-in-Ok
+returns-in-Ok c = sym (ap (behind_of c.args.at) c.in-Ok.is)

@@ -14,7 +14,7 @@ loop-i-init c = let a = c.args in (omega arith, refl, side-starts a.version a.an
 pub record_of-requires : goal.record_of-requires
 record_of-requires c =
     let searched : SearchSays c.args.a.now c.args.a_count c.args.b.now c.args.b_count c.loop-i.i c.next_only.result = record { first = c.requires.0.0; second = c.requires.0.1; says = c.next_only.ensures } in
-    has-record searched _ c.in-At.is
+    has-record searched _ c.in-Ok-Some.is
 
 pub put_prefix-next-requires : goal.put_prefix-next-requires
 put_prefix-next-requires c =
@@ -22,24 +22,24 @@ put_prefix-next-requires c =
     let l = c.loop-i in
     let a = c.args in
     subst (λ (r : Record). Fits l.out l.next (prefix_part a.version a.announced r)) (sym c.record_of.ensures)
-    (side-fits l.invariant.2 c.in-At.p _ (found-next searched _ c.in-At.is).rest c.requires.1 l.invariant.1)
+    (side-fits l.invariant.2 c.in-Ok-Some.p _ (found-next searched _ c.in-Ok-Some.is).rest c.requires.1 l.invariant.1)
 
 pub overflow_add-i : goal.overflow_add-i
 overflow_add-i c =
     let searched : SearchSays c.args.a.now c.args.a_count c.args.b.now c.args.b_count c.loop-i.i c.next_only.result = record { first = c.requires.0.0; second = c.requires.0.1; says = c.next_only.ensures } in
-    omega (arith, (found-next searched _ c.in-At.is).below)
+    omega (arith, (found-next searched _ c.in-Ok-Some.is).below)
 
 pub loop-i-smaller : goal.loop-i-smaller
 loop-i-smaller c =
     let searched : SearchSays c.args.a.now c.args.a_count c.args.b.now c.args.b_count c.loop-i.i c.next_only.result = record { first = c.requires.0.0; second = c.requires.0.1; says = c.next_only.ensures } in
-    let x = found-next searched _ c.in-At.is in
+    let x = found-next searched _ c.in-Ok-Some.is in
     omega (arith, x.behind, x.below)
 
 pub loop-i-preserved : goal.loop-i-preserved
 loop-i-preserved c =
     let searched : SearchSays c.args.a.now c.args.a_count c.args.b.now c.args.b_count c.loop-i.i c.next_only.result = record { first = c.requires.0.0; second = c.requires.0.1; says = c.next_only.ensures } in
     let l = c.loop-i in
-    let x = found-next searched _ c.in-At.is in
+    let x = found-next searched _ c.in-Ok-Some.is in
     let a = c.args in
     let wrote = c.put_prefix-next in
     let made = c.record_of.ensures in
@@ -47,18 +47,18 @@ loop-i-preserved c =
     rw add-one (
       omega (arith, x.below),
       omega (arith, wrote.auto.out, l.invariant.1),
-      side-goes-on l.invariant.2 c.in-At.p _ x.rest _ _ (omega (arith, c.requires.1)) put,
+      side-goes-on l.invariant.2 c.in-Ok-Some.p _ x.rest _ _ (omega (arith, c.requires.1)) put,
     )
 
-pub returns-in-Nothing : goal.returns-in-Nothing
-returns-in-Nothing c =
+pub returns-in-Ok-None : goal.returns-in-Ok-None
+returns-in-Ok-None c =
     let searched : SearchSays c.args.a.now c.args.a_count c.args.b.now c.args.b_count c.loop-i.i c.next_only.result = record { first = c.requires.0.0; second = c.requires.0.1; says = c.next_only.ensures } in
-    side-ends c.loop-i.invariant.2 (none_left searched c.in-Nothing.is)
+    side-ends c.loop-i.invariant.2 (none_left searched c.in-Ok-None.is)
 
-pub returns-in-NotARoom : goal.returns-in-NotARoom
-returns-in-NotARoom c =
+pub returns-in-Err : goal.returns-in-Err
+returns-in-Err c =
     let searched : SearchSays c.args.a.now c.args.a_count c.args.b.now c.args.b_count c.loop-i.i c.next_only.result = record { first = c.requires.0.0; second = c.requires.0.1; says = c.next_only.ensures } in
-    absurd (never-refused searched c.in-NotARoom.is)
+    absurd (never-refused searched c.in-Err.is)
 
 pub returns : goal.returns
 returns c =

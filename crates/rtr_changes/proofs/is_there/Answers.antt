@@ -2,11 +2,11 @@
 use Rattle.rtr_changes.proofs.Asking.{there-told}
 use Rattle.rtr_changes.proofs.is_there.Goals as goal
 
-pub returns-in-At : goal.returns-in-At
-returns-in-At c = there-told c.args.room.now c.args.count c.args.r _ _ c.requires c.look_up.ensures c.in-At.is
+pub returns-in-Ok-At : goal.returns-in-Ok-At
+returns-in-Ok-At c = there-told c.args.room.now c.args.count c.args.r _ _ c.requires c.look_up.ensures c.in-Ok-At.is
 
-pub returns-in-Missing : goal.returns-in-Missing
-returns-in-Missing c = there-told c.args.room.now c.args.count c.args.r _ _ c.requires c.look_up.ensures c.in-Missing.is
+pub returns-in-Ok-Missing : goal.returns-in-Ok-Missing
+returns-in-Ok-Missing c = there-told c.args.room.now c.args.count c.args.r _ _ c.requires c.look_up.ensures c.in-Ok-Missing.is
 
-pub returns-in-NotARoom : goal.returns-in-NotARoom
-returns-in-NotARoom c = there-told c.args.room.now c.args.count c.args.r _ _ c.requires c.look_up.ensures c.in-NotARoom.is
+pub returns-in-Err : goal.returns-in-Err
+returns-in-Err c = there-told c.args.room.now c.args.count c.args.r _ _ c.requires c.look_up.ensures c.in-Err.is

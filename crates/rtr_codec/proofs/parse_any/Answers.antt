@@ -16,10 +16,10 @@ pub parse_typed-requires : goal.parse_typed-requires
 unfolding header_length
 parse_typed-requires c = search rules
 
-pub returns-in-Known : goal.returns-in-Known
+pub returns-in-Some : goal.returns-in-Some
 unfolding read read_versioned header_length
-returns-in-Known c = simp (le-leb _ _ c.if-input-lt-RTR_HEADER_LEN.false, ← c.be32-length.ensures, le-leb _ _ c.if-input-length_usize.false, ← c.be8-version_byte.ensures, ← c.from_u8-found.ensures, c.in-Known.is) c.parse_typed.ensures
+returns-in-Some c = simp (le-leb _ _ c.if-input-lt-RTR_HEADER_LEN.false, ← c.be32-length.ensures, le-leb _ _ c.if-input-length_usize.false, ← c.be8-version_byte.ensures, ← c.from_u8-found.ensures, c.in-Some.is) c.parse_typed.ensures
 
-pub returns-in-Unknown : goal.returns-in-Unknown
+pub returns-in-None : goal.returns-in-None
 unfolding read read_versioned header_length
-returns-in-Unknown c = simp (le-leb _ _ c.if-input-lt-RTR_HEADER_LEN.false, ← c.be32-length.ensures, le-leb _ _ c.if-input-length_usize.false, ← c.be8-version_byte.ensures, ← c.from_u8-found.ensures, c.in-Unknown.is)
+returns-in-None c = simp (le-leb _ _ c.if-input-lt-RTR_HEADER_LEN.false, ← c.be32-length.ensures, le-leb _ _ c.if-input-length_usize.false, ← c.be8-version_byte.ensures, ← c.from_u8-found.ensures, c.in-None.is)

@@ -9,19 +9,19 @@ pub returns-then-actual-lt-RTR_ERROR_REPORT_MIN_LEN : goal.returns-then-actual-l
 unfolding read_error_report
 returns-then-actual-lt-RTR_ERROR_REPORT_MIN_LEN c = simp (← c.requires.0, lt-leb _ _ c.if-actual-lt-RTR_ERROR_REPORT_MIN_LEN.true, c.invalid_length.ensures)
 
-pub returns-in-Known : goal.returns-in-Known
+pub returns-in-Some : goal.returns-in-Some
 unfolding read_error_report read_code
-returns-in-Known c =
-    let known = sym c.from_u16-found.ensures ∙ c.in-Known.is in
+returns-in-Some c =
+    let known = sym c.from_u16-found.ensures ∙ c.in-Some.is in
     simp (
       ← c.requires.0,
       le-leb _ _ c.if-actual-lt-RTR_ERROR_REPORT_MIN_LEN.false,
       ← c.be16-code.ensures,
       ← c.from_u16-found.ensures,
-      c.in-Known.is,
-      every-code c.args.version c.be16-code.result c.in-Known.error_code known,
+      c.in-Some.is,
+      every-code c.args.version c.be16-code.result c.in-Some.error_code known,
     ) c.parse_error_pdu.ensures
 
-pub returns-in-Unknown : goal.returns-in-Unknown
+pub returns-in-None : goal.returns-in-None
 unfolding read_error_report read_code
-returns-in-Unknown c = simp (← c.requires.0, le-leb _ _ c.if-actual-lt-RTR_ERROR_REPORT_MIN_LEN.false, ← c.be16-code.ensures, ← c.from_u16-found.ensures, c.in-Unknown.is)
+returns-in-None c = simp (← c.requires.0, le-leb _ _ c.if-actual-lt-RTR_ERROR_REPORT_MIN_LEN.false, ← c.be16-code.ensures, ← c.from_u16-found.ensures, c.in-None.is)

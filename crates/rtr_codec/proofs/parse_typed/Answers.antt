@@ -2,10 +2,10 @@
 use Rattle.rtr_codec.specs.Read.{read_typed}
 use Rattle.rtr_codec.proofs.parse_typed.Goals as goal
 
-pub returns-in-Known : goal.returns-in-Known
+pub returns-in-Some : goal.returns-in-Some
 unfolding read_typed
-returns-in-Known c = simp (← c.be8-pdu_type_byte.ensures, ← c.from_u8-found.ensures, c.in-Known.is) c.parse_as.ensures
+returns-in-Some c = simp (← c.be8-pdu_type_byte.ensures, ← c.from_u8-found.ensures, c.in-Some.is) c.parse_as.ensures
 
-pub returns-in-Unknown : goal.returns-in-Unknown
+pub returns-in-None : goal.returns-in-None
 unfolding read_typed
-returns-in-Unknown c = simp (← c.be8-pdu_type_byte.ensures, ← c.from_u8-found.ensures, c.in-Unknown.is)
+returns-in-None c = simp (← c.be8-pdu_type_byte.ensures, ← c.from_u8-found.ensures, c.in-None.is)

@@ -14,14 +14,14 @@ returns-then-at-input c =
 pub overflow_add-result : goal.overflow_add-result
 overflow_add-result c =
     let a = c.args in
-    omega (arith, ends-within-run in_use a.input.now a.at _ c.parse_rtr_pdu-answer-2.ensures _ _ (ap verdict c.in-Read.is) c.if-at-input.false)
+    omega (arith, ends-within-run in_use a.input.now a.at _ c.parse_rtr_pdu-answer-2.ensures _ _ (ap verdict c.in-Ok.is) c.if-at-input.false)
 
-pub returns-in-Read : goal.returns-in-Read
-returns-in-Read c =
+pub returns-in-Ok : goal.returns-in-Ok
+returns-in-Ok c =
     let a = c.args in
-    moves-on in_use a.input.now a.at _ c.parse_rtr_pdu-answer-2.ensures _ _ (ap verdict c.in-Read.is)
+    moves-on in_use a.input.now a.at _ c.parse_rtr_pdu-answer-2.ensures _ _ (ap verdict c.in-Ok.is)
 
-pub returns-in-Refused : goal.returns-in-Refused
-returns-in-Refused c =
+pub returns-in-Err : goal.returns-in-Err
+returns-in-Err c =
     let a = c.args in
-    stays in_use a.input.now a.at _ c.parse_rtr_pdu-answer-2.ensures c.in-Refused.error (ap verdict c.in-Refused.is)
+    stays in_use a.input.now a.at _ c.parse_rtr_pdu-answer-2.ensures c.in-Err.error (ap verdict c.in-Err.is)

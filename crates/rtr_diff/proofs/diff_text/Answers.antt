@@ -3,12 +3,12 @@ use Rattle.rtr_receiver.specs.Promises.{record_limit}
 use Rattle.rtr_diff.proofs.Prints.{shows-text, never-refused}
 use Rattle.rtr_diff.proofs.diff_text.Goals as goal
 
-pub returns-in-Written : goal.returns-in-Written
-returns-in-Written c =
+pub returns-in-Ok : goal.returns-in-Ok
+returns-in-Ok c =
     let a = c.args in
-    shows-text record_limit a.old.now a.new.now a.old_room.now a.new_room.now a.out.now _ _ _ c.diff-answer.result c.requires.old-size c.requires.new-size c.requires.out-size c.diff-answer.ensures _ c.in-Written.is
+    shows-text record_limit a.old.now a.new.now a.old_room.now a.new_room.now a.out.now _ _ _ c.diff-answer.result c.requires.old-size c.requires.new-size c.requires.out-size c.diff-answer.ensures _ c.in-Ok.is
 
-pub returns-in-Refused : goal.returns-in-Refused
-returns-in-Refused c =
+pub returns-in-Err : goal.returns-in-Err
+returns-in-Err c =
     let a = c.args in
-    absurd (never-refused record_limit a.old.now a.new.now a.old_room.now a.new_room.now a.out.now _ _ _ c.diff-answer.result c.requires.old-size c.requires.new-size c.requires.out-size c.diff-answer.ensures _ c.in-Refused.is)
+    absurd (never-refused record_limit a.old.now a.new.now a.old_room.now a.new_room.now a.out.now _ _ _ c.diff-answer.result c.requires.old-size c.requires.new-size c.requires.out-size c.diff-answer.ensures _ c.in-Err.is)

@@ -20,24 +20,24 @@ returns-then-new_room c = let a = c.args in new-off-size record_limit a.old.now 
 
 pub diff_new-requires : goal.diff_new-requires
 diff_new-requires c =
-    let was : WasListed record_limit c.args.old.now c.read_listing.new.room c.in-Listed.head = let a = c.args in was-listed record_limit a.old.now a.old_room.now _ _ c.if-old_room.false c.read_listing.ensures _ c.in-Listed.is in
+    let was : WasListed record_limit c.args.old.now c.read_listing.new.room c.in-Ok.head = let a = c.args in was-listed record_limit a.old.now a.old_room.now _ _ c.if-old_room.false c.read_listing.ensures _ c.in-Ok.is in
     let w = was in
     (room-ruled record_limit _ _ _ w, (count-within record_limit _ _ _ w, c.if-new_room.false))
 
-pub returns-in-Listed : goal.returns-in-Listed
-returns-in-Listed c =
-    let was : WasListed record_limit c.args.old.now c.read_listing.new.room c.in-Listed.head = let a = c.args in was-listed record_limit a.old.now a.old_room.now _ _ c.if-old_room.false c.read_listing.ensures _ c.in-Listed.is in
+pub returns-in-Ok : goal.returns-in-Ok
+returns-in-Ok c =
+    let was : WasListed record_limit c.args.old.now c.read_listing.new.room c.in-Ok.head = let a = c.args in was-listed record_limit a.old.now a.old_room.now _ _ c.if-old_room.false c.read_listing.ensures _ c.in-Ok.is in
     let a = c.args in
     let w = was in
     let n = subst (λ (t : List Record). NewRead record_limit t a.new.now a.out.now c.diff_new.new.out c.diff_new.new.new_room c.diff_new.result) (records-are record_limit _ _ _ w) c.diff_new.ensures in
     old-listed record_limit a.old.now a.new.now a.old_room.now a.new_room.now a.out.now c.if-old_room.false c.if-new_room.false w.value _ _ _ _ w.read w.room-is n
 
-pub returns-in-Refused : goal.returns-in-Refused
-returns-in-Refused c =
+pub returns-in-Err : goal.returns-in-Err
+returns-in-Err c =
     let a = c.args in
     let read = c.read_listing in
     let size = c.if-old_room.false in
-    let line = was-refused record_limit a.old.now a.old_room.now _ _ size read.ensures c.in-Refused.error c.in-Refused.is in
+    let line = was-refused record_limit a.old.now a.old_room.now _ _ size read.ensures c.in-Err.error c.in-Err.is in
     let told = c.write_refusal.ensures ∙ ap (λ (n : ℕ). puts (refusal_lines (text "old") n) a.out.now) c.line_of.ensures in
     old-refused record_limit a.old.now a.new.now a.old_room.now a.new_room.now a.out.now size c.if-new_room.false _ _ _ _ c.write_refusal.result line
     (room-left record_limit a.old.now a.old_room.now _ read.result size read.ensures) c.empty.ensures told

@@ -8,17 +8,17 @@ use Rattle.rtr_encode.proofs.Payloads.{part-is-true, refused-is-false}
 use Rattle.rtr_encode.proofs.Checks.{place-outside, text-refused, part_at, report-encodes}
 use Rattle.rtr_encode.proofs.encode_error_report.Goals as goal
 
-pub returns-in-Refused : goal.returns-in-Refused
-returns-in-Refused c =
+pub returns-in-Err : goal.returns-in-Err
+returns-in-Err c =
     let a = c.args in
-    rw c.outside.ensures (place-outside in_use (ErrorReport a.pdu) a.input.now a.out.now (simp (refused-is-false (inside a.pdu.erroneous_pdu a.input.now) _ c.erroneous_pdu_answer-copy.ensures c.in-Refused.is)))
+    rw c.outside.ensures (place-outside in_use (ErrorReport a.pdu) a.input.now a.out.now (simp (refused-is-false (inside a.pdu.erroneous_pdu a.input.now) _ c.erroneous_pdu_answer-copy.ensures c.in-Err.is)))
 
-pub returns-in-Refused-text : goal.returns-in-Refused-text
-returns-in-Refused-text c =
+pub returns-in-Err-text : goal.returns-in-Err-text
+returns-in-Err-text c =
     let a = c.args in
-    rw c.outside-in-Refused-text.ensures
+    rw c.outside-in-Err-text.ensures
     (place-outside in_use (ErrorReport a.pdu) a.input.now a.out.now
-    (simp ((part-is-true (inside a.pdu.erroneous_pdu a.input.now) _ c.erroneous_pdu_answer-copy.ensures c.in_default.is), (refused-is-false (inside a.pdu.error_text a.input.now) _ c.error_text_answer-text.ensures c.in-Refused-text.is))))
+    (simp ((part-is-true (inside a.pdu.erroneous_pdu a.input.now) _ c.erroneous_pdu_answer-copy.ensures c.in_default.is), (refused-is-false (inside a.pdu.error_text a.input.now) _ c.error_text_answer-text.ensures c.in-Err-text.is))))
 
 pub returns-then-is_well_formed : goal.returns-then-is_well_formed
 returns-then-is_well_formed c =

@@ -7,17 +7,17 @@ use Rattle.rtr_encode.proofs.Payloads.{part-is-true, refused-is-false}
 use Rattle.rtr_encode.proofs.Checks.{place-outside, part_at, key-encodes, key-inside-20}
 use Rattle.rtr_encode.proofs.encode_router_key.Goals as goal
 
-pub returns-in-Refused : goal.returns-in-Refused
-returns-in-Refused c =
+pub returns-in-Err : goal.returns-in-Err
+returns-in-Err c =
     let a = c.args in
-    rw c.outside.ensures (place-outside in_use (RouterKey a.pdu) a.input.now a.out.now (simp (refused-is-false (key_inside a.pdu.subject_key_identifier a.input.now) _ c.subject_key_identifier_answer-identifier.ensures c.in-Refused.is)))
+    rw c.outside.ensures (place-outside in_use (RouterKey a.pdu) a.input.now a.out.now (simp (refused-is-false (key_inside a.pdu.subject_key_identifier a.input.now) _ c.subject_key_identifier_answer-identifier.ensures c.in-Err.is)))
 
-pub returns-in-Refused-info : goal.returns-in-Refused-info
-returns-in-Refused-info c =
+pub returns-in-Err-info : goal.returns-in-Err-info
+returns-in-Err-info c =
     let a = c.args in
-    rw c.outside-in-Refused-info.ensures
+    rw c.outside-in-Err-info.ensures
     (place-outside in_use (RouterKey a.pdu) a.input.now a.out.now
-    (simp ((part-is-true (key_inside a.pdu.subject_key_identifier a.input.now) _ c.subject_key_identifier_answer-identifier.ensures c.in_default.is), (refused-is-false (inside a.pdu.subject_public_key_info a.input.now) _ c.subject_public_key_info_answer-info.ensures c.in-Refused-info.is))))
+    (simp ((part-is-true (key_inside a.pdu.subject_key_identifier a.input.now) _ c.subject_key_identifier_answer-identifier.ensures c.in_default.is), (refused-is-false (inside a.pdu.subject_public_key_info a.input.now) _ c.subject_public_key_info_answer-info.ensures c.in-Err-info.is))))
 
 pub encode_key_parts-requires : goal.encode_key_parts-requires
 encode_key_parts-requires c =

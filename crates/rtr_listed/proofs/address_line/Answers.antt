@@ -19,19 +19,19 @@ past-requires c =
     let there : ValueAt c.args.listing.now c.args.c (text "address=") c.in-At.from c.in-At.end = let a = c.args in subst (ValueIs a.listing.now a.c (text "address=")) c.in-At.is c.value_of.ensures in
     (omega (arith, there.inside), c.requires.1)
 
-pub returns-in-Is : goal.returns-in-Is
-returns-in-Is c =
+pub returns-in-Some : goal.returns-in-Some
+returns-in-Some c =
     let there : ValueAt c.args.listing.now c.args.c (text "address=") c.in-At.from c.in-At.end = let a = c.args in subst (ValueIs a.listing.now a.c (text "address=")) c.in-At.is c.value_of.ensures in
     let a = c.args in
-    let read : address_in a.family (between a.listing.now c.in-At.from c.in-At.end) ≡ fits c.in-Is.words = sym c.address_in.ensures ∙ ap address_said c.in-Is.is in
-    subst (λ (next : Cursor). Took (named (text "address=") (address_in a.family)) a.listing.now a.c c.in-Is.words next × Near a.listing.now 1 a.c next) (sym c.past.ensures)
-    (value-took (address_in a.family) a.listing.now a.c (text "address=") c.in-At.from c.in-At.end c.in-Is.words there read, past_near a.listing.now a.c c.in-At.end there.inside)
+    let read : address_in a.family (between a.listing.now c.in-At.from c.in-At.end) ≡ fits c.in-Some.words = sym c.address_in.ensures ∙ ap address_said c.in-Some.is in
+    subst (λ (next : Cursor). Took (named (text "address=") (address_in a.family)) a.listing.now a.c c.in-Some.words next × Near a.listing.now 1 a.c next) (sym c.past.ensures)
+    (value-took (address_in a.family) a.listing.now a.c (text "address=") c.in-At.from c.in-At.end c.in-Some.words there read, past_near a.listing.now a.c c.in-At.end there.inside)
 
-pub returns-in-Not : goal.returns-in-Not
-returns-in-Not c =
+pub returns-in-None : goal.returns-in-None
+returns-in-None c =
     let there : ValueAt c.args.listing.now c.args.c (text "address=") c.in-At.from c.in-At.end = let a = c.args in subst (ValueIs a.listing.now a.c (text "address=")) c.in-At.is c.value_of.ensures in
     let a = c.args in
-    let none : address_in a.family (between a.listing.now c.in-At.from c.in-At.end) ≡ misfits = sym c.address_in.ensures ∙ ap address_said c.in-Not.is in
+    let none : address_in a.family (between a.listing.now c.in-At.from c.in-At.end) ≡ misfits = sym c.address_in.ensures ∙ ap address_said c.in-None.is in
     subst (λ (next : Cursor). Took (named (text "address=") (address_in a.family)) a.listing.now a.c c.no_words.result.words next × Near a.listing.now 1 a.c next) (sym c.no_words.ensures)
     (value-missed (address_in a.family) a.listing.now a.c (text "address=") c.in-At.from c.in-At.end c.no_words.result.words there none, refused-near a.listing.now a.c c.requires.0)
 

@@ -21,18 +21,18 @@ returns-then-not-has_no_lead c =
 pub returns-then-n-most : goal.returns-then-n-most
 returns-then-n-most c =
     let a = c.args in
-    let f = fitting-fits (are_decimal a.value.now) (value_of a.value.now 0) _ (sym c.sum_of.ensures ∙ ap number_said c.in-Is.is) in
+    let f = fitting-fits (are_decimal a.value.now) (value_of a.value.now 0) _ (sym c.sum_of.ensures ∙ ap number_said c.in-Some.is) in
     sym (number-over a.most a.value.now (omega (arith, f.1, c.if-n-most.true)))
 
 pub returns-else-n-most : goal.returns-else-n-most
 returns-else-n-most c =
     let a = c.args in
-    let f = fitting-fits (are_decimal a.value.now) (value_of a.value.now 0) _ (sym c.sum_of.ensures ∙ ap number_said c.in-Is.is) in
+    let f = fitting-fits (are_decimal a.value.now) (value_of a.value.now 0) _ (sym c.sum_of.ensures ∙ ap number_said c.in-Some.is) in
     let lead = sym c.has_no_lead.ensures ∙ not-false _ c.if-not-has_no_lead.false-raw in
     sym (number-yes a.most a.value.now c.requires f.0 lead (omega arith) (omega (arith, f.1)) ∙ ap (λ (n : ℕ). fits n) f.1)
 
-pub returns-in-Not : goal.returns-in-Not
-returns-in-Not c =
+pub returns-in-None : goal.returns-in-None
+returns-in-None c =
     let a = c.args in
-    let none = fitting-misfits (are_decimal a.value.now) (value_of a.value.now 0) (sym c.sum_of.ensures ∙ ap number_said c.in-Not.is) in
+    let none = fitting-misfits (are_decimal a.value.now) (value_of a.value.now 0) (sym c.sum_of.ensures ∙ ap number_said c.in-None.is) in
     sym (number-not a.most a.value.now c.requires (λ d lead few. true≢false (sym d ∙ none)))

@@ -13,12 +13,12 @@ returns-then-in_live-eq0 c =
     let a = c.args in
     c.rules-then-in_live-eq0.ensures ∙ sym (by-rules-empty a.s.life.limit a.s a.live.now (own-limit a.s (holds c.is_limit.ensures c.if-not-is_limit.false-raw)) c.if-in_live-eq0.true)
 
-pub returns-in-Known : goal.returns-in-Known
-returns-in-Known c =
+pub returns-in-Some : goal.returns-in-Some
+returns-in-Some c =
     let a = c.args in
-    c.rules.ensures ∙ sym (by-rules a.s.life.limit a.s a.live.now (own-limit a.s (holds c.is_limit.ensures c.if-not-is_limit.false-raw)) _ c.in-Known.is)
+    c.rules.ensures ∙ sym (by-rules a.s.life.limit a.s a.live.now (own-limit a.s (holds c.is_limit.ensures c.if-not-is_limit.false-raw)) _ c.in-Some.is)
 
 pub returns-else-in_live-eq0 : goal.returns-else-in_live-eq0
 returns-else-in_live-eq0 c =
     let a = c.args in
-    sym (without-table a.s.life.limit a.s a.live.now c.in-NoTable.is c.if-in_live-eq0.false)
+    sym (without-table a.s.life.limit a.s a.live.now c.in-None.is c.if-in_live-eq0.false)

@@ -19,7 +19,7 @@ pub put_record-next-requires : goal.put_record-next-requires
 put_record-next-requires c =
     let a = c.args in
     let l = c.loop-i in
-    let record_is = the-record a.live.now l.i _ _ (omega arith) c.get.ensures c.in-Found.is in
+    let record_is = the-record a.live.now l.i _ _ (omega arith) c.get.ensures c.in-Some.is in
     omega (
       arith,
       l.invariant.0.place,
@@ -27,16 +27,16 @@ put_record-next-requires c =
       ap (λ (r : Record). length (record_lines r)) record_is,
     )
 
-pub returns-in-Outside : goal.returns-in-Outside
-returns-in-Outside c =
+pub returns-in-None : goal.returns-in-None
+returns-in-None c =
     absurd
-    (never-outside c.args.live.now c.loop-i.i _ (omega arith) c.get.ensures c.in-Outside.is)
+    (never-outside c.args.live.now c.loop-i.i _ (omega arith) c.get.ensures c.in-None.is)
 
 pub loop-i-preserved : goal.loop-i-preserved
 loop-i-preserved c =
     let a = c.args in
     let l = c.loop-i in
-    let record_is = the-record a.live.now l.i _ _ (omega arith) c.get.ensures c.in-Found.is in
+    let record_is = the-record a.live.now l.i _ _ (omega arith) c.get.ensures c.in-Some.is in
     let lines = ap (λ (r : Record). all_lines (records l.i a.live.now) ++ record_lines r) record_is ∙ sym (all-next l.i a.live.now) in (
       rw (add-one, ← lines) (put_then (omega arith) l.invariant.0 c.put_record-next.ensures),
       omega arith,

@@ -10,16 +10,16 @@ use Rattle.rtr_listing.proofs.records_length.Goals as goal
 pub loop-i-init : goal.loop-i-init
 loop-i-init c = (sym (ap length (all_none c.args.live.now)), omega arith, omega arith)
 
-pub returns-in-Outside : goal.returns-in-Outside
-returns-in-Outside c =
+pub returns-in-None : goal.returns-in-None
+returns-in-None c =
     absurd
-    (never-outside c.args.live.now c.loop-i.i _ (omega arith) c.get.ensures c.in-Outside.is)
+    (never-outside c.args.live.now c.loop-i.i _ (omega arith) c.get.ensures c.in-None.is)
 
 pub loop-i-preserved : goal.loop-i-preserved
 loop-i-preserved c =
     let a = c.args in
     let l = c.loop-i in
-    let record_is = the-record a.live.now l.i _ _ (omega arith) c.get.ensures c.in-Found.is in
+    let record_is = the-record a.live.now l.i _ _ (omega arith) c.get.ensures c.in-Some.is in
     let grown = all-next-length l.i a.live.now in (
       rw add-one (omega (arith, grown, ap (λ (r : Record). length (record_lines r)) record_is)),
       omega arith,

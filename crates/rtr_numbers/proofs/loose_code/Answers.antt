@@ -4,8 +4,8 @@ use Rattle.rtr_models.specs.Codes.{code_found}
 use Rattle.rtr_numbers.specs.Back.{code_or}
 use Rattle.rtr_numbers.proofs.loose_code.Goals as goal
 
-pub returns-in-Known : goal.returns-in-Known
-returns-in-Known c = ap code_or (sym c.in-Known.is ∙ c.from_u16-found.ensures ∙ ap code_found c.low16.ensures)
+pub returns-in-Some : goal.returns-in-Some
+returns-in-Some c = ap code_or (sym c.in-Some.is ∙ c.from_u16-found.ensures ∙ ap code_found c.low16.ensures)
 
-pub returns-in-Unknown : goal.returns-in-Unknown
-returns-in-Unknown c = ap code_or (sym c.in-Unknown.is ∙ c.from_u16-found.ensures ∙ ap code_found c.low16.ensures)
+pub returns-in-None : goal.returns-in-None
+returns-in-None c = ap code_or (sym c.in-None.is ∙ c.from_u16-found.ensures ∙ ap code_found c.low16.ensures)

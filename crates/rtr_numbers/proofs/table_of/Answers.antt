@@ -1,8 +1,8 @@
 -- `table_of` guesses, writes the guess again and compares. Assumes nothing.
+use Rattle.std.specs.Prelude.{Some, None}
 use mathlib.Core.Bool.{true, false}
 use Rattle.rtr_numbers.specs.Numbers.{table_numbers_of}
 use Rattle.rtr_numbers.specs.Back.{table_if}
-use Rattle.rtr_numbers.specs.declared.TableFound.{TableFound}
 use Rattle.rtr_numbers.proofs.Founds.{guess-by-test}
 use Rattle.rtr_numbers.proofs.table_of.Goals as goal
 
@@ -12,7 +12,7 @@ returns-then-is_alike c =
     let guess = c.low_table-t in
     let said = c.table_numbers-said in
     let test = c.is_alike in
-    guess-by-test table_numbers_of TableFound.Known TableFound.Unknown _ _ _ _ test.result true guess.ensures said.ensures test.ensures c.if-is_alike.true
+    guess-by-test table_numbers_of Some None _ _ _ _ test.result true guess.ensures said.ensures test.ensures c.if-is_alike.true
 
 pub returns : goal.returns
 unfolding table_if
@@ -20,4 +20,4 @@ returns c =
     let guess = c.low_table-t in
     let said = c.table_numbers-said in
     let test = c.is_alike in
-    guess-by-test table_numbers_of TableFound.Known TableFound.Unknown _ _ _ _ test.result false guess.ensures said.ensures test.ensures c.if-is_alike.false
+    guess-by-test table_numbers_of Some None _ _ _ _ test.result false guess.ensures said.ensures test.ensures c.if-is_alike.false

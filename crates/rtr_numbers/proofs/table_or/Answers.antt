@@ -3,5 +3,5 @@ use mathlib.Core.Path.{sym, ap}
 use Rattle.rtr_numbers.specs.Numbers.{table_or}
 use Rattle.rtr_numbers.proofs.table_or.Goals as goal
 
-pub returns-in-NoTable : goal.returns-in-NoTable
-returns-in-NoTable c = sym (ap table_or c.in-NoTable.is)
+pub returns-in-None : goal.returns-in-None
+returns-in-None c = sym (ap table_or c.in-None.is)

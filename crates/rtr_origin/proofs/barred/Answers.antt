@@ -13,14 +13,14 @@ returns-then-not-is_receiver c =
 pub returns-then-is_too_long : goal.returns-then-is_too_long
 returns-then-is_too_long c =
     let a = c.args in
-    bar-23 a.s.life.limit a.s a.live.now a.working.now a.hold.now a.q (sym c.is_receiver.ensures ∙ not-false _ c.if-not-is_receiver.false-raw) (ap has_table c.in-Known.is) (not-true _ (sym c.is_too_long.ensures ∙ c.if-is_too_long.true))
+    bar-23 a.s.life.limit a.s a.live.now a.working.now a.hold.now a.q (sym c.is_receiver.ensures ∙ not-false _ c.if-not-is_receiver.false-raw) (ap has_table c.in-Some.is) (not-true _ (sym c.is_too_long.ensures ∙ c.if-is_too_long.true))
 
-pub returns-in-NoTable : goal.returns-in-NoTable
-returns-in-NoTable c =
+pub returns-in-None : goal.returns-in-None
+returns-in-None c =
     let a = c.args in
-    bar-21 a.s.life.limit a.s a.live.now a.working.now a.hold.now a.q (sym c.is_receiver.ensures ∙ not-false _ c.if-not-is_receiver.false-raw) c.in-NoTable.is
+    bar-21 a.s.life.limit a.s a.live.now a.working.now a.hold.now a.q (sym c.is_receiver.ensures ∙ not-false _ c.if-not-is_receiver.false-raw) c.in-None.is
 
 pub returns-else-is_too_long : goal.returns-else-is_too_long
 returns-else-is_too_long c =
     let a = c.args in
-    bar-none a.s.life.limit a.s a.live.now a.working.now a.hold.now a.q (sym c.is_receiver.ensures ∙ not-false _ c.if-not-is_receiver.false-raw) (ap has_table c.in-Known.is) (not-false _ (sym c.is_too_long.ensures ∙ c.if-is_too_long.false))
+    bar-none a.s.life.limit a.s a.live.now a.working.now a.hold.now a.q (sym c.is_receiver.ensures ∙ not-false _ c.if-not-is_receiver.false-raw) (ap has_table c.in-Some.is) (not-false _ (sym c.is_too_long.ensures ∙ c.if-is_too_long.false))

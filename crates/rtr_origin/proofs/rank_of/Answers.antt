@@ -2,17 +2,17 @@
 use Rattle.rtr_origin.proofs.Tabled.{ranked-at, ranked-missing, ranked-never}
 use Rattle.rtr_origin.proofs.rank_of.Goals as goal
 
-pub returns-in-At : goal.returns-in-At
-returns-in-At c =
+pub returns-in-Ok-At : goal.returns-in-Ok-At
+returns-in-Ok-At c =
     let a = c.args in
-    ranked-at a.live.now a.count c.requires a.r _ _ c.in-At.is c.look_up.ensures
+    ranked-at a.live.now a.count c.requires a.r _ _ c.in-Ok-At.is c.look_up.ensures
 
-pub returns-in-Missing : goal.returns-in-Missing
-returns-in-Missing c =
+pub returns-in-Ok-Missing : goal.returns-in-Ok-Missing
+returns-in-Ok-Missing c =
     let a = c.args in
-    ranked-missing a.live.now a.count c.requires a.r _ _ c.in-Missing.is c.look_up.ensures
+    ranked-missing a.live.now a.count c.requires a.r _ _ c.in-Ok-Missing.is c.look_up.ensures
 
-pub returns-in-NotARoom : goal.returns-in-NotARoom
-returns-in-NotARoom c =
+pub returns-in-Err : goal.returns-in-Err
+returns-in-Err c =
     let a = c.args in
-    absurd (ranked-never a.live.now a.count c.requires a.r _ c.in-NotARoom.is c.look_up.ensures)
+    absurd (ranked-never a.live.now a.count c.requires a.r _ c.in-Err.is c.look_up.ensures)

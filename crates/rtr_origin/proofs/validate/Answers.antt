@@ -8,14 +8,14 @@ use Rattle.rtr_origin.proofs.validate.Goals as goal
 pub by_order-requires : goal.by_order-requires
 by_order-requires c =
     let a = c.args in
-    (live-room a.s.life.limit a.s a.live.now a.working.now a.hold.now (open_is a.s.life.limit a.s a.live.now a.working.now a.hold.now a.q _ c.in-Open.is c.barred.ensures).0, under_none a.q (contents a.s.live a.live.now))
+    (live-room a.s.life.limit a.s a.live.now a.working.now a.hold.now (open_is a.s.life.limit a.s a.live.now a.working.now a.hold.now a.q _ c.in-Ok.is c.barred.ensures).0, under_none a.q (contents a.s.live a.live.now))
 
-pub returns-in-Shut : goal.returns-in-Shut
-returns-in-Shut c =
+pub returns-in-Err : goal.returns-in-Err
+returns-in-Err c =
     let a = c.args in
-    shut-is a.s.life.limit a.s a.live.now a.working.now a.hold.now a.q _ _ c.in-Shut.is c.barred.ensures
+    shut-is a.s.life.limit a.s a.live.now a.working.now a.hold.now a.q _ _ c.in-Err.is c.barred.ensures
 
-pub returns-in-Open : goal.returns-in-Open
-returns-in-Open c =
+pub returns-in-Ok : goal.returns-in-Ok
+returns-in-Ok c =
     let a = c.args in
-    ap state c.by_order.ensures ∙ (open_is a.s.life.limit a.s a.live.now a.working.now a.hold.now a.q _ c.in-Open.is c.barred.ensures).1
+    ap state c.by_order.ensures ∙ (open_is a.s.life.limit a.s a.live.now a.working.now a.hold.now a.q _ c.in-Ok.is c.barred.ensures).1

@@ -9,16 +9,16 @@ use Rattle.rtr_origin.proofs.validate_by_scan.Goals as goal
 pub scan-requires : goal.scan-requires
 scan-requires c =
     let a = c.args in
-    size a.live.now a.s.live.records (live-room a.s.life.limit a.s a.live.now a.working.now a.hold.now (open_is a.s.life.limit a.s a.live.now a.working.now a.hold.now a.q _ c.in-Open.is c.barred.ensures).0)
+    size a.live.now a.s.live.records (live-room a.s.life.limit a.s a.live.now a.working.now a.hold.now (open_is a.s.life.limit a.s a.live.now a.working.now a.hold.now a.q _ c.in-Ok.is c.barred.ensures).0)
 
-pub returns-in-Shut : goal.returns-in-Shut
-returns-in-Shut c =
+pub returns-in-Err : goal.returns-in-Err
+returns-in-Err c =
     let a = c.args in
-    shut-is a.s.life.limit a.s a.live.now a.working.now a.hold.now a.q _ _ c.in-Shut.is c.barred.ensures
+    shut-is a.s.life.limit a.s a.live.now a.working.now a.hold.now a.q _ _ c.in-Err.is c.barred.ensures
 
-pub returns-in-Open : goal.returns-in-Open
-returns-in-Open c =
+pub returns-in-Ok : goal.returns-in-Ok
+returns-in-Ok c =
     let a = c.args in
     let t = c.as_record in
     ap state (as-named a.q t.result t.ensures.0 t.ensures.1 (contents a.s.live a.live.now) _ _ c.name.ensures c.scan.ensures)
-    ∙ (open_is a.s.life.limit a.s a.live.now a.working.now a.hold.now a.q _ c.in-Open.is c.barred.ensures).1
+    ∙ (open_is a.s.life.limit a.s a.live.now a.working.now a.hold.now a.q _ c.in-Ok.is c.barred.ensures).1

@@ -2,12 +2,12 @@
 use Rattle.rtr_receiver.proofs.Calls.{asked-written, asked-refused}
 use Rattle.rtr_receiver.proofs.asked.Goals as goal
 
-pub returns-in-Written : goal.returns-in-Written
-returns-in-Written c =
+pub returns-in-Ok : goal.returns-in-Ok
+returns-in-Ok c =
     let a = c.args in
-    asked-written a.s c.in_phase.result a.answer a.phase _ c.in-Written.is c.in_phase.ensures
+    asked-written a.s c.in_phase.result a.answer a.phase _ c.in-Ok.is c.in_phase.ensures
 
-pub returns-in-Refused : goal.returns-in-Refused
-returns-in-Refused c =
+pub returns-in-Err : goal.returns-in-Err
+returns-in-Err c =
     let a = c.args in
-    asked-refused a.s a.answer a.phase _ c.in-Refused.is
+    asked-refused a.s a.answer a.phase _ c.in-Err.is

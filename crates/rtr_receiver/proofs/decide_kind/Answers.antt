@@ -4,9 +4,9 @@ use Rattle.rtr_receiver.proofs.Pdus.{takes-record}
 use Rattle.rtr_receiver.proofs.decide_kind.Goals as goal
 
 pub decide_other-requires : goal.decide_other-requires
-decide_other-requires c = (c.requires, sym c.carried_by-carried.ensures ∙ c.in-Nothing.is)
+decide_other-requires c = (c.requires, sym c.carried_by-carried.ensures ∙ c.in-None.is)
 
-pub returns-in-Record : goal.returns-in-Record
-returns-in-Record c =
+pub returns-in-Some : goal.returns-in-Some
+returns-in-Some c =
     let a = c.args in
-    takes-record a.phase a.table a.pdu c.in_load.result _ _ (sym c.carried_by-carried.ensures ∙ c.in-Record.is) c.in_load.ensures
+    takes-record a.phase a.table a.pdu c.in_load.result _ _ (sym c.carried_by-carried.ensures ∙ c.in-Some.is) c.in_load.ensures

@@ -12,10 +12,10 @@ returns-then-not-is_receiver c =
     let a = c.args in
     (feed-refused a.s.life.limit a.s a.live.now a.working.now a.hold.now a.piece.now (sym c.is_receiver.ensures ∙ not-true _ c.if-not-is_receiver.true-raw), refl)
 
-pub returns-in-Stopped : goal.returns-in-Stopped
-returns-in-Stopped c =
+pub returns-in-Err-Stopped : goal.returns-in-Err-Stopped
+returns-in-Err-Stopped c =
     let a = c.args in
-    (feed-stopped a.s.life.limit a.s a.live.now a.working.now a.hold.now a.piece.now c.in-Stopped.stop c.in-Stopped.is (sym c.is_receiver.ensures ∙ not-false _ c.if-not-is_receiver.false-raw), refl)
+    (feed-stopped a.s.life.limit a.s a.live.now a.working.now a.hold.now a.piece.now c.in-Err-Stopped.stop c.in-Err-Stopped.is (sym c.is_receiver.ensures ∙ not-false _ c.if-not-is_receiver.false-raw), refl)
 
 pub loop-done-init : goal.loop-done-init
 loop-done-init c =
@@ -61,5 +61,5 @@ returns c =
     let working' = c.next_step-step.new.working in
     let hold' = c.next_step-step.new.hold in
     let f = feed_here l.session.life.limit l.session l.live l.working l.hold a.piece.now l.at l.updates in
-    let stepped = subst (SteppedTo l.session.life.limit f a.piece.now l.at t.session t.next t.updates live' working' hold') c.in-Done.is c.next_step-step.ensures in
+    let stepped = subst (SteppedTo l.session.life.limit f a.piece.now l.at t.session t.next t.updates live' working' hold') c.in-Some.is c.next_step-step.ensures in
     (stepped ∙ ap (fed_to l.session.life.limit) l.invariant.7 ∙ ap (λ (n : ℕ). fed_to n (feed_here a.s.life.limit a.s a.live.now a.working.now a.hold.now a.piece.now 0 0)) l.invariant.8 ∙ feed-taken a.s.life.limit a.s a.live.now a.working.now a.hold.now a.piece.now (sym c.is_receiver.ensures ∙ not-false _ c.if-not-is_receiver.false-raw), omega arith)

@@ -4,32 +4,32 @@ use Rattle.rtr_receiver.specs.declared.Stop.{Stop}
 use Rattle.rtr_receiver.proofs.Deeds.{changed-stands, refused-stands, enter-came, enters-a-room}
 use Rattle.rtr_receiver.proofs.on_announcement.Goals as goal
 
-pub returns-in-Entered : goal.returns-in-Entered
-returns-in-Entered c =
+pub returns-in-Ok : goal.returns-in-Ok
+returns-in-Ok c =
     let a = c.args in
     let pre = c.requires in
-    changed-stands a.s.life.limit a.s a.live.now a.working.now pre _ c.in-Entered.count c.enter-answer.new.room
-    (enter-came a.s.life.limit a.s a.live.now a.working.now pre a.r c.enter-answer.result c.enter-answer.new.room c.enter-answer.ensures _ c.in-Entered.is)
+    changed-stands a.s.life.limit a.s a.live.now a.working.now pre _ c.in-Ok.count c.enter-answer.new.room
+    (enter-came a.s.life.limit a.s a.live.now a.working.now pre a.r c.enter-answer.result c.enter-answer.new.room c.enter-answer.ensures _ c.in-Ok.is)
     c.with_working.result c.with_working.ensures
 
-pub returns-in-AlreadyIn : goal.returns-in-AlreadyIn
-returns-in-AlreadyIn c =
+pub returns-in-Err-AlreadyIn : goal.returns-in-Err-AlreadyIn
+returns-in-Err-AlreadyIn c =
     let a = c.args in
     let pre = c.requires in
     refused-stands a.s.life.limit a.s a.live.now a.working.now pre _ 17 c.enter-answer.new.room
-    (enter-came a.s.life.limit a.s a.live.now a.working.now pre a.r c.enter-answer.result c.enter-answer.new.room c.enter-answer.ensures _ c.in-AlreadyIn.is)
+    (enter-came a.s.life.limit a.s a.live.now a.working.now pre a.r c.enter-answer.result c.enter-answer.new.room c.enter-answer.ensures _ c.in-Err-AlreadyIn.is)
     Stop.AlreadyIn refl c.stop_with.result c.stop_with.new.working c.stop_with.ensures
 
-pub returns-in-Full : goal.returns-in-Full
-returns-in-Full c =
+pub returns-in-Err-Full : goal.returns-in-Err-Full
+returns-in-Err-Full c =
     let a = c.args in
     let pre = c.requires in
     refused-stands a.s.life.limit a.s a.live.now a.working.now pre _ 18 c.enter-answer.new.room
-    (enter-came a.s.life.limit a.s a.live.now a.working.now pre a.r c.enter-answer.result c.enter-answer.new.room c.enter-answer.ensures _ c.in-Full.is)
-    Stop.RoomFull refl c.stop_with-in-Full.result c.stop_with-in-Full.new.working c.stop_with-in-Full.ensures
+    (enter-came a.s.life.limit a.s a.live.now a.working.now pre a.r c.enter-answer.result c.enter-answer.new.room c.enter-answer.ensures _ c.in-Err-Full.is)
+    Stop.RoomFull refl c.stop_with-in-Err-Full.result c.stop_with-in-Err-Full.new.working c.stop_with-in-Err-Full.ensures
 
-pub returns-in-NotARoom : goal.returns-in-NotARoom
-returns-in-NotARoom c =
+pub returns-in-Err-NotARoom : goal.returns-in-Err-NotARoom
+returns-in-Err-NotARoom c =
     let a = c.args in
     let pre = c.requires in
-    absurd (enters-a-room a.s.life.limit a.s a.live.now a.working.now pre a.r c.enter-answer.result c.enter-answer.new.room c.enter-answer.ensures c.in-NotARoom.is)
+    absurd (enters-a-room a.s.life.limit a.s a.live.now a.working.now pre a.r c.enter-answer.result c.enter-answer.new.room c.enter-answer.ensures c.in-Err-NotARoom.is)

@@ -4,24 +4,24 @@ use Rattle.rtr_receiver.specs.declared.Stop.{Stop}
 use Rattle.rtr_receiver.proofs.Deeds.{changed-stands, refused-stands, leave-came, leaves-a-room}
 use Rattle.rtr_receiver.proofs.on_withdrawal.Goals as goal
 
-pub returns-in-Left : goal.returns-in-Left
-returns-in-Left c =
+pub returns-in-Ok : goal.returns-in-Ok
+returns-in-Ok c =
     let a = c.args in
     let pre = c.requires in
-    changed-stands a.s.life.limit a.s a.live.now a.working.now pre _ c.in-Left.count c.leave-answer.new.room
-    (leave-came a.s.life.limit a.s a.live.now a.working.now pre a.r c.leave-answer.result c.leave-answer.new.room c.leave-answer.ensures _ c.in-Left.is)
+    changed-stands a.s.life.limit a.s a.live.now a.working.now pre _ c.in-Ok.count c.leave-answer.new.room
+    (leave-came a.s.life.limit a.s a.live.now a.working.now pre a.r c.leave-answer.result c.leave-answer.new.room c.leave-answer.ensures _ c.in-Ok.is)
     c.with_working.result c.with_working.ensures
 
-pub returns-in-NotIn : goal.returns-in-NotIn
-returns-in-NotIn c =
+pub returns-in-Err-NotIn : goal.returns-in-Err-NotIn
+returns-in-Err-NotIn c =
     let a = c.args in
     let pre = c.requires in
     refused-stands a.s.life.limit a.s a.live.now a.working.now pre _ 16 c.leave-answer.new.room
-    (leave-came a.s.life.limit a.s a.live.now a.working.now pre a.r c.leave-answer.result c.leave-answer.new.room c.leave-answer.ensures _ c.in-NotIn.is)
+    (leave-came a.s.life.limit a.s a.live.now a.working.now pre a.r c.leave-answer.result c.leave-answer.new.room c.leave-answer.ensures _ c.in-Err-NotIn.is)
     Stop.NotIn refl c.stop_with.result c.stop_with.new.working c.stop_with.ensures
 
-pub returns-in-NotARoom : goal.returns-in-NotARoom
-returns-in-NotARoom c =
+pub returns-in-Err-NotARoom : goal.returns-in-Err-NotARoom
+returns-in-Err-NotARoom c =
     let a = c.args in
     let pre = c.requires in
-    absurd (leaves-a-room a.s.life.limit a.s a.live.now a.working.now pre a.r c.leave-answer.result c.leave-answer.new.room c.leave-answer.ensures c.in-NotARoom.is)
+    absurd (leaves-a-room a.s.life.limit a.s a.live.now a.working.now pre a.r c.leave-answer.result c.leave-answer.new.room c.leave-answer.ensures c.in-Err-NotARoom.is)

@@ -1,6 +1,7 @@
 -- A room as numbers: six for each record, so the first 6 n numbers are the first n records, and the spare ones are 0. A record in rule has a
 -- first number that is not 0, so the zeros behind tell how many records a room has; and numbers that keep the room rules are the room
 -- of the records that are read from them. Assumes nothing.
+use Rattle.std.specs.Prelude.{Some, None}
 use Prim.Native.Nat.{ℕ, zero, suc, ◌+◌, ◌-◌, ◌*◌, ◌<◌, ◌≤◌}
 use mathlib.Core.Bool.{true, false≢true}
 use mathlib.Core.List.{List, [], ◌∷◌, ◌++◌, append_assoc}
@@ -15,7 +16,6 @@ use lib.Seq.{take_at, drop_at, drop-cons, drop-drop, get_or-drop, length-take-le
 use Rattle.rtr_room.specs.Table.{in_rule, all_in_rule, is_table}
 use Rattle.rtr_room.specs.Room.{numbers, flat, room, record_from, record_at, record_found, records, all_zero, is_room, limit_of, copied, copy_says}
 use Rattle.rtr_room.specs.declared.Record.{Record}
-use Rattle.rtr_room.specs.declared.RecordFound.TheVariants.{Found, Outside}
 use Rattle.rtr_room.proofs.Laws.Tests.{first_of, second-of, both}
 use Rattle.rtr_room.proofs.Laws.Records.{record_is}
 use Rattle.rtr_room.proofs.Laws.Tables.{empty-table}
@@ -104,11 +104,11 @@ records-next (suc i) s =
     ap (λ (t : List Record). record_from s 0 ∷ t)
     (records-next i (drop 6 s) ∙ ap (λ (r : Record). records i (drop 6 s) ++ r ∷ []) (record-later s i))
 
-pub found_inside : (s : List ℕ) (i : ℕ) → 6 * i + 6 ≤ length s → record_found s i ≡ Found (record_at s i)
+pub found_inside : (s : List ℕ) (i : ℕ) → 6 * i + 6 ≤ length s → record_found s i ≡ Some (record_at s i)
 unfolding record_found
 found_inside s i h = simp (le-leb (6 * i + 6) (length s) h)
 
-pub found-outside : (s : List ℕ) (i : ℕ) → length s < 6 * i + 6 → record_found s i ≡ Outside
+pub found-outside : (s : List ℕ) (i : ℕ) → length s < 6 * i + 6 → record_found s i ≡ None
 unfolding record_found
 found-outside s i h = simp (lt-leb (6 * i + 6) (length s) h)
 

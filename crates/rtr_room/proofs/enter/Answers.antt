@@ -1,6 +1,7 @@
 -- `enter`: the look_up's answer decides, and a shift with a store makes room and fills it. Assumes nothing.
 use Prim.Native.Nat.{ℕ, ◌≤◌}
 use mathlib.Core.List.{List}
+use Rattle.std.specs.Prelude.{Ok}
 use mathlib.Core.Path.{◌≡◌, sym, ap, ◌∙◌}
 use native.Mathlib.Omega.{arith}
 use Rattle.rtr_room.specs.Room.{limit_of, look_up, found}
@@ -14,8 +15,8 @@ returns-then-count-room c =
     let s : List ℕ = c.args.room.now in
     let count : ℕ = c.args.count in
     let r : Record = c.args.r in
-    let at : ℕ = c.in-Missing.at in
-    let tells : missing_at at ≡ look_up s count r = sym (ap found c.in-Missing.is) ∙ c.look_up.ensures in
+    let at : ℕ = c.in-Ok-Missing.at in
+    let tells : missing_at at ≡ look_up s count r = sym (ap found (c.in-Ok-Missing.is ∙ ap Ok c.in-Ok-Missing.field-0-is)) ∙ c.look_up.ensures in
     full s count r at tells c.if-count-room.true
 
 pub overflow_mul-at : goal.overflow_mul-at
@@ -23,8 +24,8 @@ overflow_mul-at c =
     let s : List ℕ = c.args.room.now in
     let count : ℕ = c.args.count in
     let r : Record = c.args.r in
-    let at : ℕ = c.in-Missing.at in
-    let tells : missing_at at ≡ look_up s count r = sym (ap found c.in-Missing.is) ∙ c.look_up.ensures in
+    let at : ℕ = c.in-Ok-Missing.at in
+    let tells : missing_at at ≡ look_up s count r = sym (ap found (c.in-Ok-Missing.is ∙ ap Ok c.in-Ok-Missing.field-0-is)) ∙ c.look_up.ensures in
     let near : at ≤ count = at_most s count r at tells in
     let whole : count ≤ limit_of s = fits-missing s count r at tells in
     omega (arith, near, whole)
@@ -34,8 +35,8 @@ overflow_mul-count c =
     let s : List ℕ = c.args.room.now in
     let count : ℕ = c.args.count in
     let r : Record = c.args.r in
-    let at : ℕ = c.in-Missing.at in
-    let tells : missing_at at ≡ look_up s count r = sym (ap found c.in-Missing.is) ∙ c.look_up.ensures in
+    let at : ℕ = c.in-Ok-Missing.at in
+    let tells : missing_at at ≡ look_up s count r = sym (ap found (c.in-Ok-Missing.is ∙ ap Ok c.in-Ok-Missing.field-0-is)) ∙ c.look_up.ensures in
     let whole : count ≤ limit_of s = fits-missing s count r at tells in
     omega (arith, whole)
 
@@ -44,8 +45,8 @@ shift_up-requires c =
     let s : List ℕ = c.args.room.now in
     let count : ℕ = c.args.count in
     let r : Record = c.args.r in
-    let at : ℕ = c.in-Missing.at in
-    let tells : missing_at at ≡ look_up s count r = sym (ap found c.in-Missing.is) ∙ c.look_up.ensures in
+    let at : ℕ = c.in-Ok-Missing.at in
+    let tells : missing_at at ≡ look_up s count r = sym (ap found (c.in-Ok-Missing.is ∙ ap Ok c.in-Ok-Missing.field-0-is)) ∙ c.look_up.ensures in
     let near : at ≤ count = at_most s count r at tells in
     let whole : count ≤ limit_of s = fits-missing s count r at tells in
     let a = near in
@@ -53,13 +54,13 @@ shift_up-requires c =
     let d = c.if-count-room.false in
     omega arith
 
-pub overflow_mul-at-in-Missing : goal.overflow_mul-at-in-Missing
-overflow_mul-at-in-Missing c =
+pub overflow_mul-at-in-Ok-Missing : goal.overflow_mul-at-in-Ok-Missing
+overflow_mul-at-in-Ok-Missing c =
     let s : List ℕ = c.args.room.now in
     let count : ℕ = c.args.count in
     let r : Record = c.args.r in
-    let at : ℕ = c.in-Missing.at in
-    let tells : missing_at at ≡ look_up s count r = sym (ap found c.in-Missing.is) ∙ c.look_up.ensures in
+    let at : ℕ = c.in-Ok-Missing.at in
+    let tells : missing_at at ≡ look_up s count r = sym (ap found (c.in-Ok-Missing.is ∙ ap Ok c.in-Ok-Missing.field-0-is)) ∙ c.look_up.ensures in
     let near : at ≤ count = at_most s count r at tells in
     let whole : count ≤ limit_of s = fits-missing s count r at tells in
     omega (arith, near, whole)
@@ -69,8 +70,8 @@ put-requires c =
     let s : List ℕ = c.args.room.now in
     let count : ℕ = c.args.count in
     let r : Record = c.args.r in
-    let at : ℕ = c.in-Missing.at in
-    let tells : missing_at at ≡ look_up s count r = sym (ap found c.in-Missing.is) ∙ c.look_up.ensures in
+    let at : ℕ = c.in-Ok-Missing.at in
+    let tells : missing_at at ≡ look_up s count r = sym (ap found (c.in-Ok-Missing.is ∙ ap Ok c.in-Ok-Missing.field-0-is)) ∙ c.look_up.ensures in
     let near : at ≤ count = at_most s count r at tells in
     let whole : count ≤ limit_of s = fits-missing s count r at tells in
     let a = near in
@@ -83,22 +84,22 @@ overflow_add-result c =
     let s : List ℕ = c.args.room.now in
     let count : ℕ = c.args.count in
     let r : Record = c.args.r in
-    let at : ℕ = c.in-Missing.at in
-    let tells : missing_at at ≡ look_up s count r = sym (ap found c.in-Missing.is) ∙ c.look_up.ensures in
+    let at : ℕ = c.in-Ok-Missing.at in
+    let tells : missing_at at ≡ look_up s count r = sym (ap found (c.in-Ok-Missing.is ∙ ap Ok c.in-Ok-Missing.field-0-is)) ∙ c.look_up.ensures in
     let whole : count ≤ limit_of s = fits-missing s count r at tells in
     omega (arith, whole)
 
-pub returns-in-NotARoom : goal.returns-in-NotARoom
-returns-in-NotARoom c = enter-not-a-room c.args.room.now c.args.count c.args.r (sym (ap found c.in-NotARoom.is) ∙ c.look_up.ensures)
+pub returns-in-Err : goal.returns-in-Err
+returns-in-Err c = enter-not-a-room c.args.room.now c.args.count c.args.r (sym (ap found c.in-Err.is) ∙ c.look_up.ensures)
 
-pub returns-in-At : goal.returns-in-At
-returns-in-At c = already-in c.args.room.now c.args.count c.args.r c.in-At.field-0 (sym (ap found c.in-At.is) ∙ c.look_up.ensures)
+pub returns-in-Ok-At : goal.returns-in-Ok-At
+returns-in-Ok-At c = already-in c.args.room.now c.args.count c.args.r _ (sym (ap found (c.in-Ok-At.is ∙ ap Ok c.in-Ok-At.field-0-is)) ∙ c.look_up.ensures)
 
 pub returns-else-count-room : goal.returns-else-count-room
 returns-else-count-room c =
     let s : List ℕ = c.args.room.now in
     let count : ℕ = c.args.count in
     let r : Record = c.args.r in
-    let at : ℕ = c.in-Missing.at in
-    let tells : missing_at at ≡ look_up s count r = sym (ap found c.in-Missing.is) ∙ c.look_up.ensures in
+    let at : ℕ = c.in-Ok-Missing.at in
+    let tells : missing_at at ≡ look_up s count r = sym (ap found (c.in-Ok-Missing.is ∙ ap Ok c.in-Ok-Missing.field-0-is)) ∙ c.look_up.ensures in
     put-at s count r at tells c.if-count-room.false _ _ c.shift_up.ensures c.put.ensures

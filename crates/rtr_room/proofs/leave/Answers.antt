@@ -1,6 +1,7 @@
 -- `leave`: the look_up's answer decides, and a shift with a store closes the gap and clears the last place. Assumes nothing.
 use Prim.Native.Nat.{ℕ, ◌≤◌, ◌<◌}
 use mathlib.Core.List.{List}
+use Rattle.std.specs.Prelude.{Ok}
 use mathlib.Core.Path.{◌≡◌, sym, ap, ◌∙◌}
 use native.Mathlib.Omega.{arith}
 use Rattle.rtr_room.specs.Room.{limit_of, look_up, found}
@@ -14,8 +15,8 @@ overflow_mul-at c =
     let s : List ℕ = c.args.room.now in
     let count : ℕ = c.args.count in
     let r : Record = c.args.r in
-    let at : ℕ = c.in-At.at in
-    let tells : stands_at at ≡ look_up s count r = sym (ap found c.in-At.is) ∙ c.look_up.ensures in
+    let at : ℕ = c.in-Ok-At.at in
+    let tells : stands_at at ≡ look_up s count r = sym (ap found (c.in-Ok-At.is ∙ ap Ok c.in-Ok-At.field-0-is)) ∙ c.look_up.ensures in
     let near : at < count = below s count r at tells in
     let whole : count ≤ limit_of s = fits-there s count r at tells in
     omega (arith, near, whole)
@@ -25,8 +26,8 @@ overflow_mul-count c =
     let s : List ℕ = c.args.room.now in
     let count : ℕ = c.args.count in
     let r : Record = c.args.r in
-    let at : ℕ = c.in-At.at in
-    let tells : stands_at at ≡ look_up s count r = sym (ap found c.in-At.is) ∙ c.look_up.ensures in
+    let at : ℕ = c.in-Ok-At.at in
+    let tells : stands_at at ≡ look_up s count r = sym (ap found (c.in-Ok-At.is ∙ ap Ok c.in-Ok-At.field-0-is)) ∙ c.look_up.ensures in
     let whole : count ≤ limit_of s = fits-there s count r at tells in
     omega (arith, whole)
 
@@ -35,21 +36,21 @@ shift_down-requires c =
     let s : List ℕ = c.args.room.now in
     let count : ℕ = c.args.count in
     let r : Record = c.args.r in
-    let at : ℕ = c.in-At.at in
-    let tells : stands_at at ≡ look_up s count r = sym (ap found c.in-At.is) ∙ c.look_up.ensures in
+    let at : ℕ = c.in-Ok-At.at in
+    let tells : stands_at at ≡ look_up s count r = sym (ap found (c.in-Ok-At.is ∙ ap Ok c.in-Ok-At.field-0-is)) ∙ c.look_up.ensures in
     let near : at < count = below s count r at tells in
     let whole : count ≤ limit_of s = fits-there s count r at tells in
     let a = near in
     let b = whole in
     omega arith
 
-pub overflow_mul-count-in-At : goal.overflow_mul-count-in-At
-overflow_mul-count-in-At c =
+pub overflow_mul-count-in-Ok-At : goal.overflow_mul-count-in-Ok-At
+overflow_mul-count-in-Ok-At c =
     let s : List ℕ = c.args.room.now in
     let count : ℕ = c.args.count in
     let r : Record = c.args.r in
-    let at : ℕ = c.in-At.at in
-    let tells : stands_at at ≡ look_up s count r = sym (ap found c.in-At.is) ∙ c.look_up.ensures in
+    let at : ℕ = c.in-Ok-At.at in
+    let tells : stands_at at ≡ look_up s count r = sym (ap found (c.in-Ok-At.is ∙ ap Ok c.in-Ok-At.field-0-is)) ∙ c.look_up.ensures in
     let near : at < count = below s count r at tells in
     let whole : count ≤ limit_of s = fits-there s count r at tells in
     omega (arith, near, whole)
@@ -59,8 +60,8 @@ overflow_sub-count c =
     let s : List ℕ = c.args.room.now in
     let count : ℕ = c.args.count in
     let r : Record = c.args.r in
-    let at : ℕ = c.in-At.at in
-    let tells : stands_at at ≡ look_up s count r = sym (ap found c.in-At.is) ∙ c.look_up.ensures in
+    let at : ℕ = c.in-Ok-At.at in
+    let tells : stands_at at ≡ look_up s count r = sym (ap found (c.in-Ok-At.is ∙ ap Ok c.in-Ok-At.field-0-is)) ∙ c.look_up.ensures in
     let near : at < count = below s count r at tells in
     let whole : count ≤ limit_of s = fits-there s count r at tells in
     omega (arith, near, whole)
@@ -70,8 +71,8 @@ put-requires c =
     let s : List ℕ = c.args.room.now in
     let count : ℕ = c.args.count in
     let r : Record = c.args.r in
-    let at : ℕ = c.in-At.at in
-    let tells : stands_at at ≡ look_up s count r = sym (ap found c.in-At.is) ∙ c.look_up.ensures in
+    let at : ℕ = c.in-Ok-At.at in
+    let tells : stands_at at ≡ look_up s count r = sym (ap found (c.in-Ok-At.is ∙ ap Ok c.in-Ok-At.field-0-is)) ∙ c.look_up.ensures in
     let near : at < count = below s count r at tells in
     let whole : count ≤ limit_of s = fits-there s count r at tells in
     let a = near in
@@ -83,22 +84,22 @@ overflow_sub-result c =
     let s : List ℕ = c.args.room.now in
     let count : ℕ = c.args.count in
     let r : Record = c.args.r in
-    let at : ℕ = c.in-At.at in
-    let tells : stands_at at ≡ look_up s count r = sym (ap found c.in-At.is) ∙ c.look_up.ensures in
+    let at : ℕ = c.in-Ok-At.at in
+    let tells : stands_at at ≡ look_up s count r = sym (ap found (c.in-Ok-At.is ∙ ap Ok c.in-Ok-At.field-0-is)) ∙ c.look_up.ensures in
     let near : at < count = below s count r at tells in
     omega (arith, near)
 
-pub returns-in-NotARoom : goal.returns-in-NotARoom
-returns-in-NotARoom c = leave-not-a-room c.args.room.now c.args.count c.args.r (sym (ap found c.in-NotARoom.is) ∙ c.look_up.ensures)
+pub returns-in-Err : goal.returns-in-Err
+returns-in-Err c = leave-not-a-room c.args.room.now c.args.count c.args.r (sym (ap found c.in-Err.is) ∙ c.look_up.ensures)
 
-pub returns-in-Missing : goal.returns-in-Missing
-returns-in-Missing c = not_in c.args.room.now c.args.count c.args.r c.in-Missing.field-0 (sym (ap found c.in-Missing.is) ∙ c.look_up.ensures)
+pub returns-in-Ok-Missing : goal.returns-in-Ok-Missing
+returns-in-Ok-Missing c = not_in c.args.room.now c.args.count c.args.r _ (sym (ap found (c.in-Ok-Missing.is ∙ ap Ok c.in-Ok-Missing.field-0-is)) ∙ c.look_up.ensures)
 
-pub returns-in-At : goal.returns-in-At
-returns-in-At c =
+pub returns-in-Ok-At : goal.returns-in-Ok-At
+returns-in-Ok-At c =
     let s : List ℕ = c.args.room.now in
     let count : ℕ = c.args.count in
     let r : Record = c.args.r in
-    let at : ℕ = c.in-At.at in
-    let tells : stands_at at ≡ look_up s count r = sym (ap found c.in-At.is) ∙ c.look_up.ensures in
+    let at : ℕ = c.in-Ok-At.at in
+    let tells : stands_at at ≡ look_up s count r = sym (ap found (c.in-Ok-At.is ∙ ap Ok c.in-Ok-At.field-0-is)) ∙ c.look_up.ensures in
     left-from s count r at tells _ _ c.shift_down.ensures c.put.ensures

@@ -4,16 +4,16 @@ use native.Mathlib.Omega.{arith}
 use Rattle.rtr_codec.specs.Answers.{verdict}
 use Rattle.rtr_round.proofs.recode.Goals as goal
 
-pub returns-in-Read : goal.returns-in-Read
-returns-in-Read c = (
+pub returns-in-Ok : goal.returns-in-Ok
+returns-in-Ok c = (
   λ i. omega (arith, c.shared_slice_known-1.given i),
-  ap verdict (sym c.in-Read.is) ∙ c.parse_rtr_pdu.ensures,
+  ap verdict (sym c.in-Ok.is) ∙ c.parse_rtr_pdu.ensures,
   c.encode.ensures,
 )
 
-pub returns-in-Refused : goal.returns-in-Refused
-returns-in-Refused c = (
+pub returns-in-Err : goal.returns-in-Err
+returns-in-Err c = (
   λ i. omega (arith, c.shared_slice_known-1.given i),
-  ap verdict (sym c.in-Refused.is) ∙ c.parse_rtr_pdu.ensures,
+  ap verdict (sym c.in-Err.is) ∙ c.parse_rtr_pdu.ensures,
   refl,
 )

@@ -28,7 +28,7 @@ keep_rest-requires-then-left-whole c =
     let n = c.bytes_needed-length.result in
     let left : length (drop a.at piece) ≡ length piece - a.at = length-drop a.at piece in
     let name : n ≡ needed (drop a.at piece) = c.bytes_needed-length.ensures ∙ ap needed (rest_part a.at piece) in
-    let i = fits-of (length hold) n (get_or piece (a.at + 1) 0) c.test_length-test.result c.test_length-test.ensures c.in-Fits.is in
+    let i = fits-of (length hold) n (get_or piece (a.at + 1) 0) c.test_length-test.result c.test_length-test.ensures c.in-Ok.is in
     (omega arith, omega (arith, i.fits))
 
 pub returns-then-left-whole : goal.returns-then-left-whole
@@ -39,53 +39,53 @@ returns-then-left-whole c =
     let n = c.bytes_needed-length.result in
     let left : length (drop a.at piece) ≡ length piece - a.at = length-drop a.at piece in
     let name : n ≡ needed (drop a.at piece) = c.bytes_needed-length.ensures ∙ ap needed (rest_part a.at piece) in
-    let i = fits-of (length hold) n (get_or piece (a.at + 1) 0) c.test_length-test.result c.test_length-test.ensures c.in-Fits.is in
+    let i = fits-of (length hold) n (get_or piece (a.at + 1) 0) c.test_length-test.result c.test_length-test.ensures c.in-Ok.is in
     rest-kept hold c.keep_rest-then-left-whole.new.hold piece 0 a.at (omega arith) (omega arith)
     (piece_cut hold piece a.at (omega arith) n name i (omega arith)) c.keep_rest-then-left-whole.result c.keep_rest-then-left-whole.ensures
 
-pub returns-in-Refused : goal.returns-in-Refused
-returns-in-Refused c =
+pub returns-in-Err : goal.returns-in-Err
+returns-in-Err c =
     let a = c.args in
     let hold = a.hold.now in
     let piece = a.piece.now in
     let n = c.bytes_needed-length.result in
     let left : length (drop a.at piece) ≡ length piece - a.at = length-drop a.at piece in
     let name : n ≡ needed (drop a.at piece) = c.bytes_needed-length.ensures ∙ ap needed (rest_part a.at piece) in
-    let error = c.in-Refused.error in
+    let error = c.in-Err.error in
     piece-refused hold piece a.at (omega arith) hold n (get_or piece (a.at + 1) 0) error name refl
-    (refusal-of (length hold) n (get_or piece (a.at + 1) 0) c.test_length-test.result error c.test_length-test.ensures c.in-Refused.is)
+    (refusal-of (length hold) n (get_or piece (a.at + 1) 0) c.test_length-test.result error c.test_length-test.ensures c.in-Err.is)
 
-pub returns-in-Read : goal.returns-in-Read
-returns-in-Read c =
+pub returns-in-Ok : goal.returns-in-Ok
+returns-in-Ok c =
     let a = c.args in
     let hold = a.hold.now in
     let piece = a.piece.now in
     let n = c.bytes_needed-length.result in
     let left : length (drop a.at piece) ≡ length piece - a.at = length-drop a.at piece in
     let name : n ≡ needed (drop a.at piece) = c.bytes_needed-length.ensures ∙ ap needed (rest_part a.at piece) in
-    let i = fits-of (length hold) n (get_or piece (a.at + 1) 0) c.test_length-test.result c.test_length-test.ensures c.in-Fits.is in
+    let i = fits-of (length hold) n (get_or piece (a.at + 1) 0) c.test_length-test.result c.test_length-test.ensures c.in-Ok.is in
     let whole = piece-whole hold piece a.at (omega arith) n name i (omega arith) in
     let part : take (a.at + n - a.at) (drop a.at piece) ≡ take n (drop a.at piece) =
     let gone : a.at + n - a.at ≡ n = omega arith in
     ap (λ m. take m (drop a.at piece)) gone in
     let read_here = c.parse_rtr_pdu-answer.ensures ∙ ap (read in_use) part in
-    found-in-piece hold piece n a.at _ _ _ (omega arith) (heard-read _ _ _ _ read_here c.in-Read.is)
+    found-in-piece hold piece n a.at _ _ _ (omega arith) (heard-read _ _ _ _ read_here c.in-Ok.is)
     ∙ sym (ap (outcome_of 0 a.at) whole)
 
-pub returns-in-Refused-answer : goal.returns-in-Refused-answer
-returns-in-Refused-answer c =
+pub returns-in-Err-answer : goal.returns-in-Err-answer
+returns-in-Err-answer c =
     let a = c.args in
     let hold = a.hold.now in
     let piece = a.piece.now in
     let n = c.bytes_needed-length.result in
     let left : length (drop a.at piece) ≡ length piece - a.at = length-drop a.at piece in
     let name : n ≡ needed (drop a.at piece) = c.bytes_needed-length.ensures ∙ ap needed (rest_part a.at piece) in
-    let i = fits-of (length hold) n (get_or piece (a.at + 1) 0) c.test_length-test.result c.test_length-test.ensures c.in-Fits.is in
+    let i = fits-of (length hold) n (get_or piece (a.at + 1) 0) c.test_length-test.result c.test_length-test.ensures c.in-Ok.is in
     let whole = piece-whole hold piece a.at (omega arith) n name i (omega arith) in
     let part : take (a.at + n - a.at) (drop a.at piece) ≡ take n (drop a.at piece) =
     let gone : a.at + n - a.at ≡ n = omega arith in
     ap (λ m. take m (drop a.at piece)) gone in
     let read_here = c.parse_rtr_pdu-answer.ensures ∙ ap (read in_use) part in
-    let error = c.in-Refused-answer.error in
-    refused-alike hold piece _ 0 a.at _ _ (StreamError.Read error) _ (heard-refused _ _ error read_here c.in-Refused-answer.is)
+    let error = c.in-Err-answer.error in
+    refused-alike hold piece _ 0 a.at _ _ (StreamError.Read error) _ (heard-refused _ _ error read_here c.in-Err-answer.is)
     ∙ sym (ap (outcome_of 0 a.at) whole)

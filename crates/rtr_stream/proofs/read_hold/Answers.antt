@@ -9,20 +9,20 @@ use Rattle.rtr_stream.proofs.read_hold.Goals as goal
 pub slice_bounds-parse_rtr_pdu-end : goal.slice_bounds-parse_rtr_pdu-end
 slice_bounds-parse_rtr_pdu-end c = sym (length-take-le _ _ (omega arith))
 
-pub returns-in-Read : goal.returns-in-Read
-returns-in-Read c =
+pub returns-in-Ok : goal.returns-in-Ok
+returns-in-Ok c =
     let a = c.args in (
       (λ piece at before go h.
           found-in-hold a.hold.now piece a.whole before at a.next go _ _ (omega arith) h
-          (heard-read _ _ _ _ c.parse_rtr_pdu-answer.ensures c.in-Read.is)),
+          (heard-read _ _ _ _ c.parse_rtr_pdu-answer.ensures c.in-Ok.is)),
       refl,
     )
 
-pub returns-in-Refused : goal.returns-in-Refused
-returns-in-Refused c =
+pub returns-in-Err-Refused : goal.returns-in-Err-Refused
+returns-in-Err-Refused c =
     let a = c.args in (
       (λ piece at before go h.
-          refused-alike a.hold.now piece _ before at a.next go (StreamError.Read c.in-Refused.error) _
-          (heard-refused _ _ _ c.parse_rtr_pdu-answer.ensures c.in-Refused.is)),
+          refused-alike a.hold.now piece _ before at a.next go (StreamError.Read c.in-Err-Refused.error) _
+          (heard-refused _ _ _ c.parse_rtr_pdu-answer.ensures c.in-Err-Refused.is)),
       refl,
     )

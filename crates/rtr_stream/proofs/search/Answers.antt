@@ -63,7 +63,7 @@ returns c =
     let a = c.args in
     let l = c.loop-done in
     let t = c.one_turn-t.result in
-    let turned = subst (TurnedTo l.hold l.held a.piece.now l.next t.held t.next c.one_turn-t.new.hold) c.in-Done.is c.one_turn-t.ensures in record {
+    let turned = subst (TurnedTo l.hold l.held a.piece.now l.next t.held t.next c.one_turn-t.new.hold) c.in-Some.is c.one_turn-t.ensures in record {
       says = turned
           ∙ outcomes-alike l.held a.stream.held l.next a.at l.invariant.3 (search_here l.hold l.held a.piece.now l.next)
           ∙ ap (outcome_of a.stream.held a.at) l.invariant.2

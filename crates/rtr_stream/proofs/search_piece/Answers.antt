@@ -10,16 +10,16 @@ returns-then-at-piece c =
     let a = c.args in
     nothing_left a.hold.now a.piece.now 0 a.at (omega arith) (omega arith)
 
-pub returns-in-Done : goal.returns-in-Done
-returns-in-Done c =
+pub returns-in-Some : goal.returns-in-Some
+returns-in-Some c =
     let a = c.args in
     let t = c.from_piece-t in
-    subst (TurnedTo a.hold.now 0 a.piece.now a.at t.result.held t.result.next t.new.hold) c.in-Done.is t.ensures
+    subst (TurnedTo a.hold.now 0 a.piece.now a.at t.result.held t.result.next t.new.hold) c.in-Some.is t.ensures
 
-pub returns-in-Again : goal.returns-in-Again
-returns-in-Again c =
+pub returns-in-None : goal.returns-in-None
+returns-in-None c =
     let a = c.args in
     let t = c.from_piece-t in
-    let turned = subst (TurnedTo a.hold.now 0 a.piece.now a.at t.result.held t.result.next t.new.hold) c.in-Again.is t.ensures in
+    let turned = subst (TurnedTo a.hold.now 0 a.piece.now a.at t.result.held t.result.next t.new.hold) c.in-None.is t.ensures in
     let none : ⊥ = omega (arith, turned.1) in
     absurd none

@@ -17,20 +17,20 @@ returns-then-length-eq8 c =
     let t = c.read_hold.result in (
       judged hold 8 t.then t.held t.next _ _ c.read_hold.ensures.0
           (header-whole hold n c.requires c.bytes_needed-length.ensures
-          (fits-of (length hold) n (get_or hold 1 0) c.test_length-test.result c.test_length-test.ensures c.in-Fits.is)
+          (fits-of (length hold) n (get_or hold 1 0) c.test_length-test.result c.test_length-test.ensures c.in-Ok.is)
           c.if-length-eq8.true),
       c.read_hold.ensures.1,
     )
 
-pub returns-in-Refused : goal.returns-in-Refused
-returns-in-Refused c =
+pub returns-in-Err : goal.returns-in-Err
+returns-in-Err c =
     let hold = c.args.hold.now in
     let n = c.bytes_needed-length.result in
-    let error = c.in-Refused.error in (
+    let error = c.in-Err.error in (
       (λ piece at before go h.
           refused-alike hold piece (take 8 hold) before at _ go error _
           (header_refused hold n c.requires c.bytes_needed-length.ensures (get_or hold 1 0) _ refl
-          (refusal-of (length hold) n (get_or hold 1 0) c.test_length-test.result error c.test_length-test.ensures c.in-Refused.is))),
+          (refusal-of (length hold) n (get_or hold 1 0) c.test_length-test.result error c.test_length-test.ensures c.in-Err.is))),
       refl,
     )
 
@@ -38,5 +38,5 @@ pub returns-else-length-eq8 : goal.returns-else-length-eq8
 returns-else-length-eq8 c =
     let hold = c.args.hold.now in
     let n = c.bytes_needed-length.result in
-    let i = fits-of (length hold) n (get_or hold 1 0) c.test_length-test.result c.test_length-test.ensures c.in-Fits.is in
+    let i = fits-of (length hold) n (get_or hold 1 0) c.test_length-test.result c.test_length-test.ensures c.in-Ok.is in
     ((waiting-waits in_use (header-waits hold n c.requires c.bytes_needed-length.ensures i c.if-length-eq8.false), refl), refl)

@@ -7,10 +7,10 @@ use Rattle.rtr_walk.proofs.Steps.{walk-read, walk_refused}
 use Rattle.rtr_walk.proofs.walk.Goals as goal
 
 pub walk_pdu-requires : goal.walk_pdu-requires
-walk_pdu-requires c = (omega arith, (_, sym c.parse_rtr_pdu.ensures ∙ ap verdict c.in-Read.is))
+walk_pdu-requires c = (omega arith, (_, sym c.parse_rtr_pdu.ensures ∙ ap verdict c.in-Ok.is))
 
-pub returns-in-Read : goal.returns-in-Read
-returns-in-Read c = c.walk_pdu.ensures ∙ sym (walk-read in_use _ _ _ (sym c.parse_rtr_pdu.ensures ∙ ap verdict c.in-Read.is))
+pub returns-in-Ok : goal.returns-in-Ok
+returns-in-Ok c = c.walk_pdu.ensures ∙ sym (walk-read in_use _ _ _ (sym c.parse_rtr_pdu.ensures ∙ ap verdict c.in-Ok.is))
 
-pub returns-in-Refused : goal.returns-in-Refused
-returns-in-Refused c = sym (walk_refused in_use _ c.in-Refused.error (sym c.parse_rtr_pdu.ensures ∙ ap verdict c.in-Refused.is))
+pub returns-in-Err : goal.returns-in-Err
+returns-in-Err c = sym (walk_refused in_use _ c.in-Err.error (sym c.parse_rtr_pdu.ensures ∙ ap verdict c.in-Err.is))

@@ -9,15 +9,15 @@ use Rattle.rtr_origin.proofs.peer.place_of.Goals as goal
 
 pub by_order-state-requires : goal.by_order-state-requires
 by_order-state-requires c =
-    let q = c.in-Known.q in
+    let q = c.in-Some.q in
     (c.requires.0, survey-is-low c.args.live.now c.args.count c.requires.0 q _ (c.bounds_for-b.ensures ∙ ap (λ (v : Families). bounds_for v q.prefix) c.requires.1))
 
-pub returns-in-Known : goal.returns-in-Known
-returns-in-Known c =
+pub returns-in-Some : goal.returns-in-Some
+returns-in-Some c =
     let a = c.args in
-    place-known (records a.count a.live.now) a.numbers.now _ c.route_of.ensures _ _ _ c.in-Known.is c.by_order-state.ensures c.number.ensures
+    place-known (records a.count a.live.now) a.numbers.now _ c.route_of.ensures _ _ _ c.in-Some.is c.by_order-state.ensures c.number.ensures
 
-pub returns-in-Unknown : goal.returns-in-Unknown
-returns-in-Unknown c =
+pub returns-in-None : goal.returns-in-None
+returns-in-None c =
     let a = c.args in
-    place-unknown (records a.count a.live.now) a.numbers.now _ c.route_of.ensures c.in-Unknown.is
+    place-unknown (records a.count a.live.now) a.numbers.now _ c.route_of.ensures c.in-None.is

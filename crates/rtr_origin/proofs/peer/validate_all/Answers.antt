@@ -20,7 +20,7 @@ pub returns-then-states-needed : goal.returns-then-states-needed
 returns-then-states-needed c =
     let a = c.args in
     let shape = sym c.is_receiver.ensures ∙ not-false _ c.if-not-is_receiver.false-raw in
-    short-list a.s.life.limit a.s a.live.now a.working.now a.hold.now a.routes.now a.states.now shape c.if-routes-ne0.false (ap has_table c.in-Known.is) c.if-states-needed.true
+    short-list a.s.life.limit a.s a.live.now a.working.now a.hold.now a.routes.now a.states.now shape c.if-routes-ne0.false (ap has_table c.in-Some.is) c.if-states-needed.true
 
 pub fill_states-requires : goal.fill_states-requires
 fill_states-requires c =
@@ -28,14 +28,14 @@ fill_states-requires c =
     let shape = sym c.is_receiver.ensures ∙ not-false _ c.if-not-is_receiver.false-raw in
     (live-room a.s.life.limit a.s a.live.now a.working.now a.hold.now shape, c.if-states-needed.false)
 
-pub returns-in-NoTable : goal.returns-in-NoTable
-returns-in-NoTable c =
+pub returns-in-None : goal.returns-in-None
+returns-in-None c =
     let a = c.args in
     let shape = sym c.is_receiver.ensures ∙ not-false _ c.if-not-is_receiver.false-raw in
-    untabled-list a.s.life.limit a.s a.live.now a.working.now a.hold.now a.routes.now a.states.now shape c.if-routes-ne0.false c.in-NoTable.is
+    untabled-list a.s.life.limit a.s a.live.now a.working.now a.hold.now a.routes.now a.states.now shape c.if-routes-ne0.false c.in-None.is
 
 pub returns-else-states-needed : goal.returns-else-states-needed
 returns-else-states-needed c =
     let a = c.args in
     let shape = sym c.is_receiver.ensures ∙ not-false _ c.if-not-is_receiver.false-raw in
-    whole-list a.s.life.limit a.s a.live.now a.working.now a.hold.now a.routes.now a.states.now shape c.if-routes-ne0.false (ap has_table c.in-Known.is) _ c.if-states-needed.false c.fill_states.ensures
+    whole-list a.s.life.limit a.s a.live.now a.working.now a.hold.now a.routes.now a.states.now shape c.if-routes-ne0.false (ap has_table c.in-Some.is) _ c.if-states-needed.false c.fill_states.ensures
