@@ -1,6 +1,6 @@
 -- A slice is read as a PDU of n bytes exactly if the PDU stands in its first n bytes (`read-exactly`). One way: a check (`need`) that passes says what it tested, so each kind follows from its last line. The other: each check
 -- passes by what stands there. Assumes nothing.
-use Rattle.std.specs.Prelude.{Option, Some, None, ⊤}
+use Rattle.std.specs.Prelude.{Option, Some, None}
 use Prim.Native.Nat.{ℕ, ◌+◌, ◌-◌, ◌≤◌}
 use mathlib.Core.Bool.{Bool, true, false, ◌&&◌}
 use mathlib.Core.List.{List}

@@ -1,6 +1,6 @@
 -- A slice is refused by a number with values exactly in the cases of specs/Refusals.antt (`refused-exactly`). One way: a check that fails gives its case, those before it being passed, in the order in which `read`
 -- has them. The other: by what a case says of the bytes each check before it passes and its own fails. Assumes nothing.
-use Rattle.std.specs.Prelude.{Option, Some, None, ⊤}
+use Rattle.std.specs.Prelude.{Option, Some, None}
 use Prim.Native.Nat.{ℕ, zero, suc, ◌+◌, ◌≤◌, ◌<◌}
 use mathlib.Core.Bool.{Bool, true, false, cond, ◌&&◌, ◌||◌}
 use mathlib.Core.List.{List, [], ◌∷◌}
