@@ -1,6 +1,6 @@
 -- What each public function promises leaves one result; none writes lent memory. `Post` is the contract as Rattle reads it off the source.
 -- Assumes nothing.
-use Rattle.std.specs.Prelude.{Result, Ok, Err, Option, Some, None}
+use Rattle.std.specs.Prelude.{Result, Ok, Err, Option, Some, None, ℕ}
 use mathlib.Core.Path.{◌≡◌, refl}
 use Rattle.rtr_base.proofs.Unique.{only_one, only-this}
 use Rattle.rtr_changes.specs.Changes.{OnlySays, only_said}

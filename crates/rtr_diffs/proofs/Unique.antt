@@ -1,6 +1,6 @@
 -- What `diff` promises leaves one result, one content of the output and one of each room. `Post` is the contract as Rattle reads it off the source, and `s` the
 -- parameters as the function returns. Assumes nothing.
-use Rattle.std.specs.Prelude.{Result, Ok, Err}
+use Rattle.std.specs.Prelude.{Result, Ok, Err, ℕ}
 use mathlib.Core.Bool.{cond}
 use mathlib.Core.Path.{◌≡◌, refl, sym, ap, ◌∙◌}
 use lib.Dec.{eqb}

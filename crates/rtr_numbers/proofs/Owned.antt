@@ -1,6 +1,6 @@
 -- Whoever holds a session record holds numbers that fit their types: what owning a value of a Rattle type tells (`Is`), case by case.
 -- Assumes nothing.
-use Rattle.std.specs.Prelude.{Option, Some, None, ⊤}
+use Rattle.std.specs.Prelude.{Option, Some, None, ⊤, ℕ}
 use mathlib.Core.List.{List}
 use native.Mathlib.Omega.{arith}
 use mir.Val.{Val}

@@ -1,6 +1,6 @@
 -- What a PDU value of Rattle's types has, and that an End of Data has the intervals of its version: such a PDU comes back from its numbers
 -- (proofs/Laws.antt).
-use Rattle.std.specs.Prelude.{Option, Some, None}
+use Rattle.std.specs.Prelude.{Option, Some, None, ℕ}
 use Rattle.rtr_models.specs.declared.RtrProtocolVersion.{RtrProtocolVersion}
 use Rattle.rtr_models.specs.declared.RtrProtocolVersion.TheVariants.{V0, V1}
 use Rattle.rtr_models.specs.declared.RtrPdu.{RtrPdu}

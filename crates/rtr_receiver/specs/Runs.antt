@@ -1,6 +1,6 @@
 -- Demand 3's other side (the design, section 5): calls one after another, each meeting its promise, from a fresh start. `notify` changes nothing, a refused start begins no run, a second start
 -- begins a new one; H is the same throughout. What a call leaves of the hold past the held count is anything. proofs/Coded.antt: the code's calls are these steps.
-use Rattle.std.specs.Prelude.{◌≡◌, ℕ, Bool, true, false, List, [], ◌∷◌, ◌++◌, length, Result, Ok}
+use Rattle.std.specs.Prelude.{◌≡◌, ℕ, Bool, true, false, List, [], ◌∷◌, ◌++◌, length, Result, Ok, ⊤}
 use Rattle.rtr_models.specs.declared.RtrProtocolVersion.{RtrProtocolVersion}
 use Rattle.rtr_receiver.specs.Contents.{Rooms, contents}
 use Rattle.rtr_receiver.specs.History.{Event, Live}

@@ -53,7 +53,14 @@ pub enum Lies {
     InHold(Place),
 }
 
-// The answer, the place in the piece to go on from, and the stream then.
+// Why a search breaks off without a PDU and without the wish for more: a refusal of the stream, or 22.
+#[derive(Clone, Copy)]
+pub enum SearchError {
+    Refused(StreamError),
+    NotAStream,
+}
+
+// The answer (a PDU and where it lies, or the wish for more), the place in the piece to go on from, and the stream then.
 #[derive(Clone, Copy)]
 pub struct Searched {
     pub stream: Stream,

@@ -1,5 +1,5 @@
 -- What `walk` promises leaves one result: level, end, number and values tell each answer apart. Assumes nothing.
-use Rattle.std.specs.Prelude.{Result, Ok, Err}
+use Rattle.std.specs.Prelude.{Result, Ok, Err, ℕ}
 use mathlib.Core.Path.{◌≡◌, refl, ap, ◌∙◌}
 use Rattle.rtr_base.proofs.Unique.{only_one}
 use Rattle.rtr_codec.specs.declared.RtrError.{RtrError}

@@ -55,8 +55,8 @@ returns-in-Err c =
     piece-refused hold piece a.at (omega arith) hold n (get_or piece (a.at + 1) 0) error name refl
     (refusal-of (length hold) n (get_or piece (a.at + 1) 0) c.test_length-test.result error c.test_length-test.ensures c.in-Err.is)
 
-pub returns-in-Ok : goal.returns-in-Ok
-returns-in-Ok c =
+pub returns-in-Ok-answer : goal.returns-in-Ok-answer
+returns-in-Ok-answer c =
     let a = c.args in
     let hold = a.hold.now in
     let piece = a.piece.now in
@@ -69,7 +69,7 @@ returns-in-Ok c =
     let gone : a.at + n - a.at ≡ n = omega arith in
     ap (λ m. take m (drop a.at piece)) gone in
     let read_here = c.parse_rtr_pdu-answer.ensures ∙ ap (read in_use) part in
-    found-in-piece hold piece n a.at _ _ _ (omega arith) (heard-read _ _ _ _ read_here c.in-Ok.is)
+    found-in-piece hold piece n a.at _ _ _ (omega arith) (heard-read _ _ _ _ read_here c.in-Ok-answer.is)
     ∙ sym (ap (outcome_of 0 a.at) whole)
 
 pub returns-in-Err-answer : goal.returns-in-Err-answer

@@ -18,11 +18,11 @@ returns-in-Ok c =
       refl,
     )
 
-pub returns-in-Err-Refused : goal.returns-in-Err-Refused
-returns-in-Err-Refused c =
+pub returns-in-Err : goal.returns-in-Err
+returns-in-Err c =
     let a = c.args in (
       (λ piece at before go h.
-          refused-alike a.hold.now piece _ before at a.next go (StreamError.Read c.in-Err-Refused.error) _
-          (heard-refused _ _ _ c.parse_rtr_pdu-answer.ensures c.in-Err-Refused.is)),
+          refused-alike a.hold.now piece _ before at a.next go (StreamError.Read c.in-Err.error) _
+          (heard-refused _ _ _ c.parse_rtr_pdu-answer.ensures c.in-Err.is)),
       refl,
     )
