@@ -27,9 +27,9 @@ use rtr_encode::{EncodeError};
 use rtr_listed::{ListedError};
 use rtr_listing::{Head, ListError};
 use rtr_models::*;
-use rtr_origin::{PeerError, Route, RoutePrefix};
+use rtr_origin::{RouteState, ValidateError, PeerError, Route, RoutePrefix};
 use Option<(RtrPdu, usize)>;
-use rtr_receiver::{AskError};
+use rtr_receiver::{Comparison, NotAReceiver, FeedError, AskError};
 use rtr_walk::{WalkEnd};
 
 // How many numbers a listing's head is.

@@ -16,7 +16,7 @@ ghost use Rattle.rtr_receiver.specs.Fits.{TableNumbersFit};
 ghost use Rattle.rtr_cache.specs.Serves.{RoomFits};
 
 use rtr_changes::{next_only};
-use rtr_encode::{
+use rtr_encode::{EncodeError, 
     encode_cache_response, encode_end_of_data, encode_ipv4_prefix, encode_ipv6_prefix,
 };
 use rtr_models::{
@@ -24,7 +24,7 @@ use rtr_models::{
     RtrProtocolVersion,
 };
 use rtr_receiver::{RECORD_LIMIT, Table};
-use rtr_room::{Record, get, rules};
+use rtr_room::{NotARoom, Record, get, rules};
 
 // Why no run is written.
 #[derive(Clone, Copy)]

@@ -5,7 +5,7 @@ ghost use Rattle.std.specs.Prelude.{◌+◌, ◌*◌, ◌≤◌, ◌≡◌, leng
 ghost use Rattle.rtr_room.specs.Room.{record_at, stands, limit_of};
 ghost use Rattle.rtr_changes.specs.Changes.{next_only, only_said, only_number};
 
-use rtr_room::{Record, get, look_up};
+use rtr_room::{Position, NotARoom, Record, get, look_up};
 
 impl Result<Option<usize>, NotARoom> {
     // Document 01's number of it, or 0 where it is no refusal.

@@ -11,8 +11,9 @@ ghost use Rattle.rtr_codec.specs.Run.{read_at, run_said};
 ghost use Rattle.rtr_held.specs.Times.{FedTimes};
 ghost use Rattle.rtr_receiver.specs.Promises.{FedAs, full_ask_says, change_ask_says, ask_said, reconnect_says, reconnect_said, notify_says, notify_said};
 
-use rtr_codec::{RunRead, read_at};
-use rtr_receiver::{
+use rtr_models::RtrPdu;
+use rtr_codec::{RtrError, RunRead, read_at};
+use rtr_receiver::{AskError, Comparison, NotAReceiver, 
     AskedSession, Done, Fed, Reconnected, Session,
     change_ask, feed, full_ask, notify, reconnect,
 };

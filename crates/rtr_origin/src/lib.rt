@@ -2,8 +2,8 @@
 #![tactic(auto)]
 
 use rtr_models::Ipv6Addr;
-use rtr_receiver::{Session, is_receiver};
-use rtr_room::{Record, look_up};
+use rtr_receiver::{NotAReceiver, Session, is_receiver};
+use rtr_room::{Position, Record, look_up};
 
 mod peer;
 

@@ -15,11 +15,11 @@ ghost use Rattle.rtr_receiver.specs.Private.{AnnouncedAt, GatheredOne, GatheredT
 use rtr_codec::{parse_rtr_pdu};
 use rtr_encode::{EncodeError, encode_reset_query, encode_serial_query};
 use rtr_models::*;
-use rtr_room::{
+use rtr_room::{LeaveError, EnterError, Position, 
     Record, copy, empty, enter, leave,
     look_up, merge, rules,
 };
-use rtr_stream::{Stream, StreamError, is_stream, search};
+use rtr_stream::{SearchError, Stream, StreamError, is_stream, search};
 
 // How many records a room has at the most.
 pub const RECORD_LIMIT: usize = 1024;
@@ -97,6 +97,11 @@ pub struct Session {
 
 // ---- Answers
 
+// Refusal 22: memory that is not of receiver shape.
+#[derive(Clone, Copy)]
+pub struct NotAReceiver;
+
+
 #[derive(Clone, Copy)]
 pub enum AskError {
     NotAReceiver,
@@ -109,6 +114,13 @@ pub enum AskError {
 pub struct AskedSession {
     pub session: Session,
     pub answer: Result<usize, AskError>,
+}
+
+// Why a feed does not go on.
+#[derive(Clone, Copy)]
+pub enum FeedError {
+    Stopped(Stop),
+    NotAReceiver,
 }
 
 // What a feed did: bytes taken, updates finished, and whether it goes on.
@@ -129,6 +141,17 @@ pub struct Fed {
 pub struct Reconnected {
     pub session: Session,
     pub answer: Result<(), NotAReceiver>,
+}
+
+// A Serial Notify beside the table's serial.
+#[derive(Clone, Copy)]
+pub enum Comparison {
+    None,
+    OtherSession,
+    Same,
+    Newer,
+    Older,
+    Undefined,
 }
 
 impl Stop {

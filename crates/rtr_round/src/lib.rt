@@ -5,7 +5,7 @@
 ghost use Rattle.rtr_round.specs.Calls.{Recoded, Sent};
 
 use rtr_codec::{RtrError, parse_rtr_pdu};
-use rtr_encode::{encode};
+use rtr_encode::{EncodeError, encode};
 use rtr_models::RtrPdu;
 
 // Reads a slice and encodes what was read.

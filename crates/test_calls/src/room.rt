@@ -1,7 +1,7 @@
 // The room's calls. A record is six numbers.
 use crate::narrow::*;
 use rtr_numbers::{at, put_numbers};
-use rtr_room::{Record};
+use rtr_room::{LeaveError, EnterError, Position, Record};
 
 fn record_of(n: &[u64]) -> Record {
     Record {

@@ -1,6 +1,6 @@
 // A route's state by the scan, beside the library's call, which goes by the table's order.
 use rtr_numbers::{session_of};
-use rtr_origin::{Route, RoutePrefix, route_of, validate_by_scan};
+use rtr_origin::{RouteState, ValidateError, Route, RoutePrefix, route_of, validate_by_scan};
 
 // Numbers that are no route's are asked of as one that is too long, so that 22 and 21 come first.
 fn asked(numbers: &[u32]) -> Route {

@@ -2,7 +2,7 @@
 use rtr_models::{RtrPdu, RtrResetQuery};
 use rtr_numbers::{at, error_value, put_numbers};
 use rtr_pdu_numbers::put_pdu;
-use rtr_stream::{Lies, Stream, StreamError};
+use rtr_stream::{SearchError, Lies, Stream, StreamError};
 
 // 0: found; 1 to 12: refused; 21: more is needed; 22.
 fn search_number(answer: Result<Option<(RtrPdu, Lies)>, SearchError>) -> u8 {
