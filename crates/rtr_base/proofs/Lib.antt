@@ -1,3 +1,4 @@
 pub mod Unique
 pub mod Copies
 pub mod Overs
+pub mod Told

@@ -1,4 +1,5 @@
 -- The run step: what one announced prefix does to the feed from its first byte on, and what several do, one after another. Assumes nothing.
+use Rattle.std.proofs.lemmas.Option.{some_pair_parts}
 use Rattle.std.specs.Prelude.{Some, Result, Ok, Err, None}
 use Rattle.std.proofs.Common.{◌≡◌, ℕ, ◌+◌, ◌<◌, ◌≤◌, Bool, true, false, cond, not, ◌||◌, eqb, leb, List, [], length, take, drop, sym, refl, ap, ◌∙◌, subst, ap₂, ⊎_elim, arith, length-drop, take-append-drop, length-take-le, drop-drop, eqb-true, leb-true}
 use mathlib.Core.Bool.{false≢true}
@@ -47,12 +48,12 @@ named-so pdu a b x y e f h = subst (λ (z : Record). Prefixes pdu b z) f (subst 
 announces-entry : (pdu : RtrPdu) (x : Record) → carried_by pdu ≡ Some (true, x) → Prefixes pdu true x × ((kind : LoadKind) (session : ℕ) → is_due (type_of pdu) (Stage.loading kind session) ≡ true)
 unfolding carried_by
 announces-entry (IPv4Prefix p) x e =
-    let is : announces p.flags ≡ true = cc in
-    let same : ipv4_record p.prefix_length p.max_length p.prefix p.asn ≡ x = cc in
+    let is : announces p.flags ≡ true = (some_pair_parts _ _ _ _ e).0 in
+    let same : ipv4_record p.prefix_length p.max_length p.prefix p.asn ≡ x = (some_pair_parts _ _ _ _ e).1 in
     (named-so (IPv4Prefix p) _ true _ x is same (Prefixes.ipv4 p), λ kind session. refl)
 announces-entry (IPv6Prefix p) x e =
-    let is : announces p.flags ≡ true = cc in
-    let same : ipv6_record p.prefix_length p.max_length p.prefix.w0 p.prefix.w1 p.prefix.w2 p.prefix.w3 p.asn ≡ x = cc in
+    let is : announces p.flags ≡ true = (some_pair_parts _ _ _ _ e).0 in
+    let same : ipv6_record p.prefix_length p.max_length p.prefix.w0 p.prefix.w1 p.prefix.w2 p.prefix.w3 p.asn ≡ x = (some_pair_parts _ _ _ _ e).1 in
     (named-so (IPv6Prefix p) _ true _ x is same (Prefixes.ipv6 p), λ kind session. refl)
 announces-entry (SerialNotify p) x e = absurd (let z : ◌≡◌ {A = ℕ} 0 1 = cc in omega arith)
 announces-entry (SerialQuery p) x e = absurd (let z : ◌≡◌ {A = ℕ} 0 1 = cc in omega arith)

@@ -1,4 +1,5 @@
 -- Receiver shape on tables: what a receiver's parts have to do with each other, kept by every PDU and every stop. Assumes nothing.
+use Rattle.std.proofs.lemmas.Option.{some_pair_parts}
 use Rattle.std.specs.Prelude.{Option, Some, None}
 use Rattle.std.proofs.Common.{◌≡◌, ℕ, ◌≤◌, Bool, true, false, cond, eqb, ◌⊎◌, List, [], length, sym, refl, ap, ◌∙◌, inl, inr, arith, le-leb}
 use mathlib.Core.Bool.{false≢true}
@@ -87,12 +88,12 @@ reset-not-loading (stopped number values) due = refl
 pub entry-in-rule : (pdu : RtrPdu) (announced : Bool) (x : Record) → LengthsInRule pdu → carried_by pdu ≡ Some (announced, x) → in_rule x ≡ true
 unfolding carried_by
 entry-in-rule (IPv4Prefix p) announced x l e =
-    let same : ipv4_record p.prefix_length p.max_length p.prefix p.asn ≡ x = cc in
+    let same : ipv4_record p.prefix_length p.max_length p.prefix p.asn ≡ x = (some_pair_parts _ _ _ _ e).1 in
     sym (ap in_rule same)
     ∙ ipv4-in-rule p.prefix_length p.max_length (omega arith) (omega arith) p.prefix p.asn
     ∙ simp (le-leb p.prefix_length p.max_length l.0, le-leb p.max_length 32 l.1)
 entry-in-rule (IPv6Prefix p) announced x l e =
-    let same : ipv6_record p.prefix_length p.max_length p.prefix.w0 p.prefix.w1 p.prefix.w2 p.prefix.w3 p.asn ≡ x = cc in
+    let same : ipv6_record p.prefix_length p.max_length p.prefix.w0 p.prefix.w1 p.prefix.w2 p.prefix.w3 p.asn ≡ x = (some_pair_parts _ _ _ _ e).1 in
     sym (ap in_rule same)
     ∙ ipv6-in-rule p.prefix_length p.max_length (omega arith) (omega arith) p.prefix.w0 p.prefix.w1 p.prefix.w2 p.prefix.w3 p.asn
     ∙ simp (le-leb p.prefix_length p.max_length l.0, le-leb p.max_length 128 l.1)

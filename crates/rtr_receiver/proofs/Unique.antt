@@ -154,7 +154,7 @@ left_in_lem (Err FeedError.NotAReceiver) taken updates left hold = refl
 
 answer_back : (stop : Stop) → answer_in (ending_of (stopped_by (stop_said stop))) ≡ Err (FeedError.Stopped stop)
 unfolding answer_in
-answer_back stop = ap (λ (s : Stage). answer_in (ending_of s)) (stopped-stage stop) ∙ ap Err (FeedError.Stopped (stop-back stop))
+answer_back stop = ap (λ (s : Stage). answer_in (ending_of s)) (stopped-stage stop) ∙ ap (λ (s : Stop). Err (FeedError.Stopped s)) (stop-back stop)
 
 fed_by : (a : Result ⊤ FeedError) (taken updates : ℕ) (s : Session) (live working : Rooms) (hold : List ℕ) → fed_of (fed_said_by a taken updates (leaves s live working hold) hold) ≡ record { session = s; done = record { taken = taken; updates = updates; answer = a } }
 unfolding fed_of answer_in

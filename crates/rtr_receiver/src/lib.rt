@@ -12,12 +12,11 @@ ghost use Rattle.rtr_receiver.specs.Receiver.{changed_to, finish, no_update, on_
 ghost use Rattle.rtr_receiver.specs.Promises.{NotifySays, stop_said, change_under_way, is_loading, stage_of, receiver_of, in_order, is_receiver, FedAs, start_says, start_said, full_ask_says, change_ask_says, ask_said, reconnect_says, reconnect_said, notify_says, notify_said, record_limit, is_limit, tabled, cleared};
 ghost use Rattle.rtr_receiver.specs.Private.{AnnouncedAt, GatheredOne, GatheredTo, TakenTo, may_gather, BothRooms, Stands, Did, response_in, reset_in, end_in, carried_by, carried_out, Makes, Updates, Decides, DecidesOn, Filled, stopped_session, asked_for, after_pdu, feed_here, StepAsks, Stepped};
 
-use rtr_codec::{parse_rtr_pdu};
+use rtr_codec::parse_rtr_pdu;
 use rtr_encode::{EncodeError, encode_reset_query, encode_serial_query};
 use rtr_models::*;
-use rtr_room::{LeaveError, EnterError, Position, 
-    Record, copy, empty, enter, leave,
-    look_up, merge, rules,
+use rtr_room::{
+    EnterError, LeaveError, Position, Record, copy, empty, enter, leave, look_up, merge, rules,
 };
 use rtr_stream::{SearchError, Stream, StreamError, is_stream, search};
 
@@ -100,7 +99,6 @@ pub struct Session {
 // Refusal 22: memory that is not of receiver shape.
 #[derive(Clone, Copy)]
 pub struct NotAReceiver;
-
 
 #[derive(Clone, Copy)]
 pub enum AskError {
@@ -450,7 +448,12 @@ fn compare(serial: u32, table: u32) -> Result<Comparison, NotAReceiver>
 }
 
 // Whether the last Serial Notify tells of something newer than the table.
-pub fn notify(s: Session, live: &[u32], working: &[u32], hold: &[u8]) -> Result<Comparison, NotAReceiver>
+pub fn notify(
+    s: Session,
+    live: &[u32],
+    working: &[u32],
+    hold: &[u8],
+) -> Result<Comparison, NotAReceiver>
     ensures { notify_said result ≡ notify_says s.life.limit s live.now working.now hold.now }
 {
     if !is_receiver(s, live, working, hold) {
@@ -565,8 +568,7 @@ fn on_announcement(s: Session, live: &[u32], working: &mut [u32], r: Record) -> 
     ensures { Stands s.life.limit result live.now working.new (changed_to (enter s.life.limit r (records s.working.records working.old)) (receiver_of s live.now working.old [])) }
 {
     let in_working = s.working;
-    let answer = enter(working, in_working.records, r);
-    match answer {
+    match enter(working, in_working.records, r) {
         Ok(count) => with_working(s, count),
         Err(EnterError::AlreadyIn) => stop_with(s, working, Stop::AlreadyIn),
         Err(EnterError::Full) => stop_with(s, working, Stop::RoomFull),
@@ -580,8 +582,7 @@ fn on_withdrawal(s: Session, live: &[u32], working: &mut [u32], r: Record) -> Se
     ensures { Stands s.life.limit result live.now working.new (changed_to (leave r (records s.working.records working.old)) (receiver_of s live.now working.old [])) }
 {
     let in_working = s.working;
-    let answer = leave(working, in_working.records, r);
-    match answer {
+    match leave(working, in_working.records, r) {
         Ok(count) => with_working(s, count),
         Err(LeaveError::NotIn) => stop_with(s, working, Stop::NotIn),
         Err(LeaveError::NotARoom) => stop_with(s, working, Stop::NotIn),
@@ -593,7 +594,7 @@ fn finish(s: Session, live: &mut [u32], working: &mut [u32], p: RtrEndOfData) ->
     requires { BothRooms s.life.limit s live.old working.old }
     ensures { Stands s.life.limit result live.new working.new (finish p (receiver_of s live.old working.old [])) }
 {
-    copy(working, live);
+    let _ = copy(working, live);
     empty(working);
     let life = s.life;
     let note = s.note;
@@ -772,7 +773,7 @@ fn fill(live: &[u32], working: &mut [u32], kind: LoadKind, in_live: Counts) -> C
             Counts { records: 0 }
         }
         LoadKind::Change => {
-            copy(live, working);
+            let _ = copy(live, working);
             in_live
         }
     }
@@ -896,29 +897,32 @@ fn one_step(
     let searched = search(hold, Stream { held: s.held }, piece, at);
     let next = searched.next;
     let stream = searched.stream;
-    let answer = searched.answer;
-    match answer {
-        Ok(Some((pdu, _))) => {
-            let d = on_pdu(with_held(s, 0), live, working, pdu);
-            after_pdu(d, next, updates)
-        }
-        Err(SearchError::Refused(error)) => Step {
-            session: stop_with(s, working, Stop::Stream(error)),
-            next,
-            updates,
-            then: Some(Err(FeedError::Stopped(Stop::Stream(error)))),
+    match searched.answer {
+        Ok(found) => match found {
+            Some((pdu, _)) => {
+                let d = on_pdu(with_held(s, 0), live, working, pdu);
+                after_pdu(d, next, updates)
+            }
+            None => Step {
+                session: with_held(s, stream.held),
+                next,
+                updates,
+                then: Some(Ok(())),
+            },
         },
-        Ok(None) => Step {
-            session: with_held(s, stream.held),
-            next,
-            updates,
-            then: Some(Ok(())),
-        },
-        Err(SearchError::NotAStream) => Step {
-            session: s,
-            next,
-            updates,
-            then: Some(Err(FeedError::NotAReceiver)),
+        Err(error) => match error {
+            SearchError::Refused(error) => Step {
+                session: stop_with(s, working, Stop::Stream(error)),
+                next,
+                updates,
+                then: Some(Err(FeedError::Stopped(Stop::Stream(error)))),
+            },
+            SearchError::NotAStream => Step {
+                session: s,
+                next,
+                updates,
+                then: Some(Err(FeedError::NotAReceiver)),
+            },
         },
     }
 }
@@ -992,9 +996,7 @@ fn gather_one(
         Some((record, next)) => match look_up(working, count, record) {
             Ok(Position::Missing(_)) => match enter(tail, n, record) {
                 Ok(_) => next,
-                Err(EnterError::AlreadyIn) => at,
-                Err(EnterError::Full) => at,
-                Err(EnterError::NotARoom) => at,
+                Err(_) => at,
             },
             _ => at,
         },

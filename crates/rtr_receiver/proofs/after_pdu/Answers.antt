@@ -5,10 +5,10 @@ use Rattle.rtr_receiver.proofs.Pdus.{goes_on, step_is}
 use borrow.Enum.Refused.{opened}
 use Rattle.rtr_receiver.proofs.after_pdu.Goals as goal
 
-pub returns-in-Err-Stopped : goal.returns-in-Err-Stopped
-returns-in-Err-Stopped c =
+pub returns-in-Stopped : goal.returns-in-Stopped
+returns-in-Stopped c =
     let a = c.args in
-    step_is a.d a.next a.updates _ (ap goes_on_in (sym c.in-Err-Stopped.is))
+    step_is a.d a.next a.updates _ (ap goes_on_in (sym c.in-Stopped.is))
 
 pub returns-in_default : goal.returns-in_default
 returns-in_default c =

@@ -12,10 +12,10 @@ returns-then-not-is_receiver c =
     let a = c.args in
     (feed-refused a.s.life.limit a.s a.live.now a.working.now a.hold.now a.piece.now (sym c.is_receiver.ensures ∙ not-true _ c.if-not-is_receiver.true-raw), refl)
 
-pub returns-in-Err-Stopped : goal.returns-in-Err-Stopped
-returns-in-Err-Stopped c =
+pub returns-in-Stopped : goal.returns-in-Stopped
+returns-in-Stopped c =
     let a = c.args in
-    (feed-stopped a.s.life.limit a.s a.live.now a.working.now a.hold.now a.piece.now c.in-Err-Stopped.stop c.in-Err-Stopped.is (sym c.is_receiver.ensures ∙ not-false _ c.if-not-is_receiver.false-raw), refl)
+    (feed-stopped a.s.life.limit a.s a.live.now a.working.now a.hold.now a.piece.now c.in-Stopped.stop c.in-Stopped.is (sym c.is_receiver.ensures ∙ not-false _ c.if-not-is_receiver.false-raw), refl)
 
 pub loop-done-init : goal.loop-done-init
 loop-done-init c =

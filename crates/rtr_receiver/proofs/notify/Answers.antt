@@ -14,21 +14,21 @@ pub returns-then-session-t : goal.returns-then-session-t
 returns-then-session-t c =
     let a = c.args in
     notify-is a.s.life.limit a.s a.live.now a.working.now a.hold.now Notified.other_session (holds c.is_receiver.ensures c.if-not-is_receiver.false-raw)
-    (of-other-session a.s.table a.s.note _ _ _ c.in-Some.is c.in-Some.is c.if-session-t.true)
+    (of-other-session a.s.table a.s.note _ _ _ c.in-Some.is c.in-Some-note.is c.if-session-t.true)
 
-pub returns-in-Ok-None : goal.returns-in-Ok-None
-returns-in-Ok-None c =
+pub returns-in-None : goal.returns-in-None
+returns-in-None c =
     let a = c.args in
-    notify-is a.s.life.limit a.s a.live.now a.working.now a.hold.now Notified.none (holds c.is_receiver.ensures c.if-not-is_receiver.false-raw) (without-table a.s.table a.s.note c.in-Ok-None.is)
+    notify-is a.s.life.limit a.s a.live.now a.working.now a.hold.now Notified.none (holds c.is_receiver.ensures c.if-not-is_receiver.false-raw) (without-table a.s.table a.s.note c.in-None.is)
 
-pub returns-in-Ok-None : goal.returns-in-Ok-None
-returns-in-Ok-None c =
+pub returns-in-None-note : goal.returns-in-None-note
+returns-in-None-note c =
     let a = c.args in
-    notify-is a.s.life.limit a.s a.live.now a.working.now a.hold.now Notified.none (holds c.is_receiver.ensures c.if-not-is_receiver.false-raw) (without-note a.s.table a.s.note _ c.in-Some.is c.in-Ok-None.is)
+    notify-is a.s.life.limit a.s a.live.now a.working.now a.hold.now Notified.none (holds c.is_receiver.ensures c.if-not-is_receiver.false-raw) (without-note a.s.table a.s.note _ c.in-Some.is c.in-None-note.is)
 
 pub returns-else-session-t : goal.returns-else-session-t
 returns-else-session-t c =
     let a = c.args in
     c.compare.ensures
     ∙ notify-is a.s.life.limit a.s a.live.now a.working.now a.hold.now _ (holds c.is_receiver.ensures c.if-not-is_receiver.false-raw)
-    (of-same-session a.s.table a.s.note _ _ _ c.in-Some.is c.in-Some.is c.if-session-t.false)
+    (of-same-session a.s.table a.s.note _ _ _ c.in-Some.is c.in-Some-note.is c.if-session-t.false)

@@ -1,6 +1,6 @@
 -- `one_step`: the search's answer decides, and what is left of the session and the rooms stands for what the definition says. Assumes nothing.
-use Rattle.std.specs.Prelude.{Ok, ⊤}
-use Rattle.std.proofs.Common.{◌≡◌, [], length, sym, refl, subst, arith}
+use Rattle.std.proofs.Common.{◌≡◌, [], length, Ok, sym, refl, subst, arith}
+use Rattle.rtr_base.proofs.Told.{ok_told, err_told}
 use Rattle.rtr_receiver.specs.Receiver.{on_pdu}
 use Rattle.rtr_receiver.specs.Promises.{receiver_of, fed_to, fed_said_by, leaves}
 use Rattle.rtr_receiver.specs.Private.{BothRooms, Did, Stepped, feed_here}
@@ -28,17 +28,17 @@ after_pdu-requires c =
     let r = c.search-searched.result in
     let hold' = c.search-searched.new.hold in
     let same : length hold' ≡ length hold = omega (arith, c.hold-1.given) in
-    let pdu = c.in-Ok-Some.pdu in
-    let lies = c.in-Ok-Some.field-1 in
+    let pdu = c.in-Some.pdu in
+    let lies = c.in-Some.field-0-1 in
     let did = subst
     (λ (t : Session). Did t.life.limit c.on_pdu-d.result c.on_pdu-d.new.live c.on_pdu-d.new.working (on_pdu t.life.limit pdu (receiver_of t live working [])))
     c.with_held.ensures
     c.on_pdu-d.ensures in
-    let most = step_counts a.s.life.limit a.s live working hold piece a.at a.updates shape pre.1 r hold' same c.search-searched.ensures.says pdu lies c.in-Ok-Some.is c.on_pdu-d.result c.on_pdu-d.new.live c.on_pdu-d.new.working pre.2 pre.3 did in
+    let most = step_counts a.s.life.limit a.s live working hold piece a.at a.updates shape pre.1 r hold' same c.search-searched.ensures.says pdu lies (ok_told r.answer _ _ c.in-Ok.is c.in-Some.is) c.on_pdu-d.result c.on_pdu-d.new.live c.on_pdu-d.new.working pre.2 pre.3 did in
     omega (arith, c.well_formed)
 
-pub returns-in-Ok-Some : goal.returns-in-Ok-Some
-returns-in-Ok-Some c =
+pub returns-in-Some : goal.returns-in-Some
+returns-in-Some c =
     let a = c.args in
     let live = a.live.now in
     let working = a.working.now in
@@ -49,19 +49,19 @@ returns-in-Ok-Some c =
     let r = c.search-searched.result in
     let hold' = c.search-searched.new.hold in
     let same : length hold' ≡ length hold = omega (arith, c.hold-1.given) in
-    let pdu = c.in-Ok-Some.pdu in
-    let lies = c.in-Ok-Some.field-1 in
+    let pdu = c.in-Some.pdu in
+    let lies = c.in-Some.field-0-1 in
     let did = subst
     (λ (t : Session). Did t.life.limit c.on_pdu-d.result c.on_pdu-d.new.live c.on_pdu-d.new.working (on_pdu t.life.limit pdu (receiver_of t live working [])))
     c.with_held.ensures
     c.on_pdu-d.ensures in
     subst (λ (t : Step). Stepped a.s.life.limit (feed_here a.s.life.limit a.s live working hold piece a.at a.updates) piece a.at t c.on_pdu-d.new.live c.on_pdu-d.new.working hold')
     (sym c.after_pdu.ensures)
-    (step-pdu a.s.life.limit a.s live working hold piece a.at a.updates shape pre.1 r hold' same c.search-searched.ensures.says pdu lies c.in-Ok-Some.is
+    (step-pdu a.s.life.limit a.s live working hold piece a.at a.updates shape pre.1 r hold' same c.search-searched.ensures.says pdu lies (ok_told r.answer _ _ c.in-Ok.is c.in-Some.is)
     c.on_pdu-d.result c.on_pdu-d.new.live c.on_pdu-d.new.working pre.2 pre.3 did)
 
-pub returns-in-Err-Refused : goal.returns-in-Err-Refused
-returns-in-Err-Refused c =
+pub returns-in-Refused : goal.returns-in-Refused
+returns-in-Refused c =
     let a = c.args in
     let live = a.live.now in
     let working = a.working.now in
@@ -72,12 +72,12 @@ returns-in-Err-Refused c =
     let r = c.search-searched.result in
     let hold' = c.search-searched.new.hold in
     let same : length hold' ≡ length hold = omega (arith, c.hold-1.given) in
-    let error = c.in-Err-Refused.error in
+    let error = c.in-Refused.error in
     step-stop a.s.life.limit a.s live working hold piece a.at a.updates shape pre.1 r hold' same c.search-searched.ensures.says error c.stop_with.result c.stop_with.new.working
-    c.in-Err-Refused.is c.stop_with.ensures.0 c.stop_with.ensures.1
+    (err_told r.answer _ _ c.in-Err.is c.in-Refused.is) c.stop_with.ensures.0 c.stop_with.ensures.1
 
-pub returns-in-Ok-None : goal.returns-in-Ok-None
-returns-in-Ok-None c =
+pub returns-in-None : goal.returns-in-None
+returns-in-None c =
     let a = c.args in
     let live = a.live.now in
     let working = a.working.now in
@@ -89,11 +89,11 @@ returns-in-Ok-None c =
     let hold' = c.search-searched.new.hold in
     let same : length hold' ≡ length hold = omega (arith, c.hold-1.given) in
     subst (λ (t : Session). fed_said_by (Ok tt) r.next a.updates (leaves t live working hold') hold' ≡ fed_to a.s.life.limit (feed_here a.s.life.limit a.s live working hold piece a.at a.updates))
-    (sym c.with_held-in-Ok-None.ensures)
-    (step-more a.s.life.limit a.s live working hold piece a.at a.updates shape pre.1 r hold' same c.search-searched.ensures.says c.in-Ok-None.is)
+    (sym c.with_held-in-None.ensures)
+    (step-more a.s.life.limit a.s live working hold piece a.at a.updates shape pre.1 r hold' same c.search-searched.ensures.says (ok_told r.answer _ _ c.in-Ok.is c.in-None.is))
 
-pub returns-in-Err-NotAStream : goal.returns-in-Err-NotAStream
-returns-in-Err-NotAStream c =
+pub returns-in-NotAStream : goal.returns-in-NotAStream
+returns-in-NotAStream c =
     let a = c.args in
     let live = a.live.now in
     let working = a.working.now in
@@ -104,4 +104,4 @@ returns-in-Err-NotAStream c =
     let r = c.search-searched.result in
     let hold' = c.search-searched.new.hold in
     let same : length hold' ≡ length hold = omega (arith, c.hold-1.given) in
-    absurd (step-never a.s.life.limit a.s live working hold piece a.at a.updates shape pre.1 r hold' same c.search-searched.ensures.says c.in-Err-NotAStream.is)
+    absurd (step-never a.s.life.limit a.s live working hold piece a.at a.updates shape pre.1 r hold' same c.search-searched.ensures.says (err_told r.answer _ _ c.in-Err.is c.in-NotAStream.is))

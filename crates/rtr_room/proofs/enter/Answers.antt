@@ -1,7 +1,7 @@
 -- `enter`: the look_up's answer decides, and a shift with a store makes room and fills it. Assumes nothing.
 use Prim.Native.Nat.{ℕ, ◌≤◌}
 use mathlib.Core.List.{List}
-use Rattle.std.specs.Prelude.{Ok}
+use Rattle.rtr_base.proofs.Told.{ok_told}
 use mathlib.Core.Path.{◌≡◌, sym, ap, ◌∙◌}
 use native.Mathlib.Omega.{arith}
 use Rattle.rtr_room.specs.Room.{limit_of, look_up, found}
@@ -16,7 +16,7 @@ returns-then-count-room c =
     let count : ℕ = c.args.count in
     let r : Record = c.args.r in
     let at : ℕ = c.in-Ok-Missing.at in
-    let tells : missing_at at ≡ look_up s count r = sym (ap found (c.in-Ok-Missing.is ∙ ap Ok c.in-Ok-Missing.field-0-is)) ∙ c.look_up.ensures in
+    let tells : missing_at at ≡ look_up s count r = sym (ap found (ok_told c.look_up.result _ _ c.in-Ok-Missing.is c.in-Ok-Missing.field-0-is)) ∙ c.look_up.ensures in
     full s count r at tells c.if-count-room.true
 
 pub overflow_mul-at : goal.overflow_mul-at
@@ -25,7 +25,7 @@ overflow_mul-at c =
     let count : ℕ = c.args.count in
     let r : Record = c.args.r in
     let at : ℕ = c.in-Ok-Missing.at in
-    let tells : missing_at at ≡ look_up s count r = sym (ap found (c.in-Ok-Missing.is ∙ ap Ok c.in-Ok-Missing.field-0-is)) ∙ c.look_up.ensures in
+    let tells : missing_at at ≡ look_up s count r = sym (ap found (ok_told c.look_up.result _ _ c.in-Ok-Missing.is c.in-Ok-Missing.field-0-is)) ∙ c.look_up.ensures in
     let near : at ≤ count = at_most s count r at tells in
     let whole : count ≤ limit_of s = fits-missing s count r at tells in
     omega (arith, near, whole)
@@ -36,7 +36,7 @@ overflow_mul-count c =
     let count : ℕ = c.args.count in
     let r : Record = c.args.r in
     let at : ℕ = c.in-Ok-Missing.at in
-    let tells : missing_at at ≡ look_up s count r = sym (ap found (c.in-Ok-Missing.is ∙ ap Ok c.in-Ok-Missing.field-0-is)) ∙ c.look_up.ensures in
+    let tells : missing_at at ≡ look_up s count r = sym (ap found (ok_told c.look_up.result _ _ c.in-Ok-Missing.is c.in-Ok-Missing.field-0-is)) ∙ c.look_up.ensures in
     let whole : count ≤ limit_of s = fits-missing s count r at tells in
     omega (arith, whole)
 
@@ -46,7 +46,7 @@ shift_up-requires c =
     let count : ℕ = c.args.count in
     let r : Record = c.args.r in
     let at : ℕ = c.in-Ok-Missing.at in
-    let tells : missing_at at ≡ look_up s count r = sym (ap found (c.in-Ok-Missing.is ∙ ap Ok c.in-Ok-Missing.field-0-is)) ∙ c.look_up.ensures in
+    let tells : missing_at at ≡ look_up s count r = sym (ap found (ok_told c.look_up.result _ _ c.in-Ok-Missing.is c.in-Ok-Missing.field-0-is)) ∙ c.look_up.ensures in
     let near : at ≤ count = at_most s count r at tells in
     let whole : count ≤ limit_of s = fits-missing s count r at tells in
     let a = near in
@@ -60,7 +60,7 @@ overflow_mul-at-in-Ok-Missing c =
     let count : ℕ = c.args.count in
     let r : Record = c.args.r in
     let at : ℕ = c.in-Ok-Missing.at in
-    let tells : missing_at at ≡ look_up s count r = sym (ap found (c.in-Ok-Missing.is ∙ ap Ok c.in-Ok-Missing.field-0-is)) ∙ c.look_up.ensures in
+    let tells : missing_at at ≡ look_up s count r = sym (ap found (ok_told c.look_up.result _ _ c.in-Ok-Missing.is c.in-Ok-Missing.field-0-is)) ∙ c.look_up.ensures in
     let near : at ≤ count = at_most s count r at tells in
     let whole : count ≤ limit_of s = fits-missing s count r at tells in
     omega (arith, near, whole)
@@ -71,7 +71,7 @@ put-requires c =
     let count : ℕ = c.args.count in
     let r : Record = c.args.r in
     let at : ℕ = c.in-Ok-Missing.at in
-    let tells : missing_at at ≡ look_up s count r = sym (ap found (c.in-Ok-Missing.is ∙ ap Ok c.in-Ok-Missing.field-0-is)) ∙ c.look_up.ensures in
+    let tells : missing_at at ≡ look_up s count r = sym (ap found (ok_told c.look_up.result _ _ c.in-Ok-Missing.is c.in-Ok-Missing.field-0-is)) ∙ c.look_up.ensures in
     let near : at ≤ count = at_most s count r at tells in
     let whole : count ≤ limit_of s = fits-missing s count r at tells in
     let a = near in
@@ -85,7 +85,7 @@ overflow_add-result c =
     let count : ℕ = c.args.count in
     let r : Record = c.args.r in
     let at : ℕ = c.in-Ok-Missing.at in
-    let tells : missing_at at ≡ look_up s count r = sym (ap found (c.in-Ok-Missing.is ∙ ap Ok c.in-Ok-Missing.field-0-is)) ∙ c.look_up.ensures in
+    let tells : missing_at at ≡ look_up s count r = sym (ap found (ok_told c.look_up.result _ _ c.in-Ok-Missing.is c.in-Ok-Missing.field-0-is)) ∙ c.look_up.ensures in
     let whole : count ≤ limit_of s = fits-missing s count r at tells in
     omega (arith, whole)
 
@@ -93,7 +93,7 @@ pub returns-in-Err : goal.returns-in-Err
 returns-in-Err c = enter-not-a-room c.args.room.now c.args.count c.args.r (sym (ap found c.in-Err.is) ∙ c.look_up.ensures)
 
 pub returns-in-Ok-At : goal.returns-in-Ok-At
-returns-in-Ok-At c = already-in c.args.room.now c.args.count c.args.r _ (sym (ap found (c.in-Ok-At.is ∙ ap Ok c.in-Ok-At.field-0-is)) ∙ c.look_up.ensures)
+returns-in-Ok-At c = already-in c.args.room.now c.args.count c.args.r _ (sym (ap found (ok_told c.look_up.result _ _ c.in-Ok-At.is c.in-Ok-At.field-0-is)) ∙ c.look_up.ensures)
 
 pub returns-else-count-room : goal.returns-else-count-room
 returns-else-count-room c =
@@ -101,5 +101,5 @@ returns-else-count-room c =
     let count : ℕ = c.args.count in
     let r : Record = c.args.r in
     let at : ℕ = c.in-Ok-Missing.at in
-    let tells : missing_at at ≡ look_up s count r = sym (ap found (c.in-Ok-Missing.is ∙ ap Ok c.in-Ok-Missing.field-0-is)) ∙ c.look_up.ensures in
+    let tells : missing_at at ≡ look_up s count r = sym (ap found (ok_told c.look_up.result _ _ c.in-Ok-Missing.is c.in-Ok-Missing.field-0-is)) ∙ c.look_up.ensures in
     put-at s count r at tells c.if-count-room.false _ _ c.shift_up.ensures c.put.ensures

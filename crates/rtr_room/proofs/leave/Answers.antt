@@ -1,7 +1,7 @@
 -- `leave`: the look_up's answer decides, and a shift with a store closes the gap and clears the last place. Assumes nothing.
 use Prim.Native.Nat.{ℕ, ◌≤◌, ◌<◌}
 use mathlib.Core.List.{List}
-use Rattle.std.specs.Prelude.{Ok}
+use Rattle.rtr_base.proofs.Told.{ok_told}
 use mathlib.Core.Path.{◌≡◌, sym, ap, ◌∙◌}
 use native.Mathlib.Omega.{arith}
 use Rattle.rtr_room.specs.Room.{limit_of, look_up, found}
@@ -16,7 +16,7 @@ overflow_mul-at c =
     let count : ℕ = c.args.count in
     let r : Record = c.args.r in
     let at : ℕ = c.in-Ok-At.at in
-    let tells : stands_at at ≡ look_up s count r = sym (ap found (c.in-Ok-At.is ∙ ap Ok c.in-Ok-At.field-0-is)) ∙ c.look_up.ensures in
+    let tells : stands_at at ≡ look_up s count r = sym (ap found (ok_told c.look_up.result _ _ c.in-Ok-At.is c.in-Ok-At.field-0-is)) ∙ c.look_up.ensures in
     let near : at < count = below s count r at tells in
     let whole : count ≤ limit_of s = fits-there s count r at tells in
     omega (arith, near, whole)
@@ -27,7 +27,7 @@ overflow_mul-count c =
     let count : ℕ = c.args.count in
     let r : Record = c.args.r in
     let at : ℕ = c.in-Ok-At.at in
-    let tells : stands_at at ≡ look_up s count r = sym (ap found (c.in-Ok-At.is ∙ ap Ok c.in-Ok-At.field-0-is)) ∙ c.look_up.ensures in
+    let tells : stands_at at ≡ look_up s count r = sym (ap found (ok_told c.look_up.result _ _ c.in-Ok-At.is c.in-Ok-At.field-0-is)) ∙ c.look_up.ensures in
     let whole : count ≤ limit_of s = fits-there s count r at tells in
     omega (arith, whole)
 
@@ -37,7 +37,7 @@ shift_down-requires c =
     let count : ℕ = c.args.count in
     let r : Record = c.args.r in
     let at : ℕ = c.in-Ok-At.at in
-    let tells : stands_at at ≡ look_up s count r = sym (ap found (c.in-Ok-At.is ∙ ap Ok c.in-Ok-At.field-0-is)) ∙ c.look_up.ensures in
+    let tells : stands_at at ≡ look_up s count r = sym (ap found (ok_told c.look_up.result _ _ c.in-Ok-At.is c.in-Ok-At.field-0-is)) ∙ c.look_up.ensures in
     let near : at < count = below s count r at tells in
     let whole : count ≤ limit_of s = fits-there s count r at tells in
     let a = near in
@@ -50,7 +50,7 @@ overflow_mul-count-in-Ok-At c =
     let count : ℕ = c.args.count in
     let r : Record = c.args.r in
     let at : ℕ = c.in-Ok-At.at in
-    let tells : stands_at at ≡ look_up s count r = sym (ap found (c.in-Ok-At.is ∙ ap Ok c.in-Ok-At.field-0-is)) ∙ c.look_up.ensures in
+    let tells : stands_at at ≡ look_up s count r = sym (ap found (ok_told c.look_up.result _ _ c.in-Ok-At.is c.in-Ok-At.field-0-is)) ∙ c.look_up.ensures in
     let near : at < count = below s count r at tells in
     let whole : count ≤ limit_of s = fits-there s count r at tells in
     omega (arith, near, whole)
@@ -61,7 +61,7 @@ overflow_sub-count c =
     let count : ℕ = c.args.count in
     let r : Record = c.args.r in
     let at : ℕ = c.in-Ok-At.at in
-    let tells : stands_at at ≡ look_up s count r = sym (ap found (c.in-Ok-At.is ∙ ap Ok c.in-Ok-At.field-0-is)) ∙ c.look_up.ensures in
+    let tells : stands_at at ≡ look_up s count r = sym (ap found (ok_told c.look_up.result _ _ c.in-Ok-At.is c.in-Ok-At.field-0-is)) ∙ c.look_up.ensures in
     let near : at < count = below s count r at tells in
     let whole : count ≤ limit_of s = fits-there s count r at tells in
     omega (arith, near, whole)
@@ -72,7 +72,7 @@ put-requires c =
     let count : ℕ = c.args.count in
     let r : Record = c.args.r in
     let at : ℕ = c.in-Ok-At.at in
-    let tells : stands_at at ≡ look_up s count r = sym (ap found (c.in-Ok-At.is ∙ ap Ok c.in-Ok-At.field-0-is)) ∙ c.look_up.ensures in
+    let tells : stands_at at ≡ look_up s count r = sym (ap found (ok_told c.look_up.result _ _ c.in-Ok-At.is c.in-Ok-At.field-0-is)) ∙ c.look_up.ensures in
     let near : at < count = below s count r at tells in
     let whole : count ≤ limit_of s = fits-there s count r at tells in
     let a = near in
@@ -85,7 +85,7 @@ overflow_sub-result c =
     let count : ℕ = c.args.count in
     let r : Record = c.args.r in
     let at : ℕ = c.in-Ok-At.at in
-    let tells : stands_at at ≡ look_up s count r = sym (ap found (c.in-Ok-At.is ∙ ap Ok c.in-Ok-At.field-0-is)) ∙ c.look_up.ensures in
+    let tells : stands_at at ≡ look_up s count r = sym (ap found (ok_told c.look_up.result _ _ c.in-Ok-At.is c.in-Ok-At.field-0-is)) ∙ c.look_up.ensures in
     let near : at < count = below s count r at tells in
     omega (arith, near)
 
@@ -93,7 +93,7 @@ pub returns-in-Err : goal.returns-in-Err
 returns-in-Err c = leave-not-a-room c.args.room.now c.args.count c.args.r (sym (ap found c.in-Err.is) ∙ c.look_up.ensures)
 
 pub returns-in-Ok-Missing : goal.returns-in-Ok-Missing
-returns-in-Ok-Missing c = not_in c.args.room.now c.args.count c.args.r _ (sym (ap found (c.in-Ok-Missing.is ∙ ap Ok c.in-Ok-Missing.field-0-is)) ∙ c.look_up.ensures)
+returns-in-Ok-Missing c = not_in c.args.room.now c.args.count c.args.r _ (sym (ap found (ok_told c.look_up.result _ _ c.in-Ok-Missing.is c.in-Ok-Missing.field-0-is)) ∙ c.look_up.ensures)
 
 pub returns-in-Ok-At : goal.returns-in-Ok-At
 returns-in-Ok-At c =
@@ -101,5 +101,5 @@ returns-in-Ok-At c =
     let count : ℕ = c.args.count in
     let r : Record = c.args.r in
     let at : ℕ = c.in-Ok-At.at in
-    let tells : stands_at at ≡ look_up s count r = sym (ap found (c.in-Ok-At.is ∙ ap Ok c.in-Ok-At.field-0-is)) ∙ c.look_up.ensures in
+    let tells : stands_at at ≡ look_up s count r = sym (ap found (ok_told c.look_up.result _ _ c.in-Ok-At.is c.in-Ok-At.field-0-is)) ∙ c.look_up.ensures in
     left-from s count r at tells _ _ c.shift_down.ensures c.put.ensures
