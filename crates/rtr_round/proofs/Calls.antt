@@ -12,6 +12,7 @@ use borrow.Author.Tests.{le-leb}
 use denote.Ref.{Bor}
 use lib.ListN.{length, take, drop}
 use lib.Seq.{take_at}
+use Rattle.rtr_models.specs.declared.PlaceOutside.{PlaceOutside as Outside}
 use Rattle.rtr_models.specs.Parts.{inside, key_inside, PartOf, part_number, number_if}
 use Rattle.rtr_models.specs.declared.Place.{Place}
 use Rattle.rtr_models.specs.declared.RtrRouterKey.{RtrRouterKey}
@@ -175,7 +176,7 @@ pub call-unread : (κs : _) (a : _) (error : RtrError) (st : _) → recode.Post 
 call-unread κs a error st calls = (calls.2, λ k values e. (refused-exactly in_use a.0.now k values).0 (sym calls.1 ∙ e))
 
 -- ---- The parts of what was read, asked for by the eight calls, are never refused by 11, and each is that very part of the slice
-answer-part : (r : Result ⊤ PlaceOutside) (fits : Bool) → fits ≡ true → part_number r ≡ number_if fits → r ≡ Ok tt
+answer-part : (r : Result ⊤ Outside) (fits : Bool) → fits ≡ true → part_number r ≡ number_if fits → r ≡ Ok tt
 answer-part (Ok tt) fits f e = refl
 answer-part (Err refusal) fits f e = absurd (let z : 11 ≡ 0 = e ∙ ap number_if f in omega arith)
 
