@@ -1,6 +1,6 @@
 -- Who is ready for a run: a receiver whose ask was written (`full-ask-ready`, `change-ask-ready`), and one that was served and asks again (`served-again`). So nothing that
 -- `Ready` asks for keeps a receiver out: its serial, intervals and note, and for a full run its live table, are anything. Assumes nothing.
-use Rattle.std.specs.Prelude.{Option, Some, ⊤}
+use Rattle.std.specs.Prelude.{Option, Some}
 use Prim.Native.Nat.{ℕ, ◌≤◌}
 use mathlib.Core.Bool.{Bool, cond}
 use mathlib.Core.List.{List, [], ◌∷◌}

@@ -1,6 +1,6 @@
 -- A run in a history: by History's page exactly one update finishes by it, the changes of the run under what its End of Data said, and the table that it makes is the second one
 -- (`run-finishes`, `run-finished`). So rtr-table's listing of a full run of version 1 is the table's own (`full-run-listed`). Assumes nothing.
-use Rattle.std.specs.Prelude.{Option, Some, ⊤}
+use Rattle.std.specs.Prelude.{Option, Some}
 use Prim.Native.Nat.{ℕ, ◌≤◌}
 use mathlib.Core.Bool.{Bool, cond}
 use mathlib.Core.List.{List, [], ◌∷◌, ◌++◌, map, map-append, append_assoc, append-nil}

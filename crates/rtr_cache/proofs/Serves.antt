@@ -1,5 +1,5 @@
 -- A receiver that is fed a run: PDU by PDU along `changes-apply`, over both versions, both kinds and every cut (`run-serves`), and in memory (`run-served`). Assumes nothing.
-use Rattle.std.specs.Prelude.{Option, Some, ⊤}
+use Rattle.std.specs.Prelude.{Option, Some}
 use Prim.Native.Nat.{ℕ, ◌+◌, ◌≤◌}
 use mathlib.Core.Bool.{Bool, true, false, cond}
 use mathlib.Core.List.{List, [], ◌∷◌, ◌++◌, map, append_assoc, append-nil}

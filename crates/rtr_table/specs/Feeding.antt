@@ -11,6 +11,7 @@ use Rattle.rtr_receiver.specs.declared.LoadKind.{LoadKind}
 use Rattle.rtr_receiver.specs.declared.Session.{Session}
 use Rattle.rtr_receiver.specs.declared.FeedError.{FeedError}
 use Rattle.rtr_receiver.specs.declared.NotAReceiver.{NotAReceiver}
+use Rattle.rtr_table.specs.declared.Ended.{Ended}
 
 abbrev pub memory : Session → Rooms → Rooms → List ℕ → Memory
 memory s live working hold = record { session = s; live = live; working = working; hold = hold }

@@ -1,6 +1,7 @@
 use mathlib.Core.Path.{refl, sym, subst}
 use native.Mathlib.Numerals.{add-one}
 use native.Mathlib.Omega.{arith}
+use Rattle.rtr_base.proofs.Told.{ok_told}
 use Rattle.rtr_room.specs.declared.Record.{Record}
 use Rattle.rtr_listing.specs.Private.{Fits, Put}
 use Rattle.rtr_cache.proofs.RunParts.{prefix_part}
@@ -14,7 +15,7 @@ loop-i-init c = let a = c.args in (omega arith, refl, side-starts a.version a.an
 pub record_of-requires : goal.record_of-requires
 record_of-requires c =
     let searched : SearchSays c.args.a.now c.args.a_count c.args.b.now c.args.b_count c.loop-i.i c.next_only.result = record { first = c.requires.0.0; second = c.requires.0.1; says = c.next_only.ensures } in
-    has-record searched _ c.in-Ok-Some.is
+    has-record searched _ (ok_told c.next_only.result _ _ c.in-Ok-Some.is c.in-Ok-Some.field-0-is)
 
 pub put_prefix-next-requires : goal.put_prefix-next-requires
 put_prefix-next-requires c =
@@ -22,24 +23,24 @@ put_prefix-next-requires c =
     let l = c.loop-i in
     let a = c.args in
     subst (λ (r : Record). Fits l.out l.next (prefix_part a.version a.announced r)) (sym c.record_of.ensures)
-    (side-fits l.invariant.2 c.in-Ok-Some.p _ (found-next searched _ c.in-Ok-Some.is).rest c.requires.1 l.invariant.1)
+    (side-fits l.invariant.2 c.in-Ok-Some.p _ (found-next searched _ (ok_told c.next_only.result _ _ c.in-Ok-Some.is c.in-Ok-Some.field-0-is)).rest c.requires.1 l.invariant.1)
 
 pub overflow_add-i : goal.overflow_add-i
 overflow_add-i c =
     let searched : SearchSays c.args.a.now c.args.a_count c.args.b.now c.args.b_count c.loop-i.i c.next_only.result = record { first = c.requires.0.0; second = c.requires.0.1; says = c.next_only.ensures } in
-    omega (arith, (found-next searched _ c.in-Ok-Some.is).below)
+    omega (arith, (found-next searched _ (ok_told c.next_only.result _ _ c.in-Ok-Some.is c.in-Ok-Some.field-0-is)).below)
 
 pub loop-i-smaller : goal.loop-i-smaller
 loop-i-smaller c =
     let searched : SearchSays c.args.a.now c.args.a_count c.args.b.now c.args.b_count c.loop-i.i c.next_only.result = record { first = c.requires.0.0; second = c.requires.0.1; says = c.next_only.ensures } in
-    let x = found-next searched _ c.in-Ok-Some.is in
+    let x = found-next searched _ (ok_told c.next_only.result _ _ c.in-Ok-Some.is c.in-Ok-Some.field-0-is) in
     omega (arith, x.behind, x.below)
 
 pub loop-i-preserved : goal.loop-i-preserved
 loop-i-preserved c =
     let searched : SearchSays c.args.a.now c.args.a_count c.args.b.now c.args.b_count c.loop-i.i c.next_only.result = record { first = c.requires.0.0; second = c.requires.0.1; says = c.next_only.ensures } in
     let l = c.loop-i in
-    let x = found-next searched _ c.in-Ok-Some.is in
+    let x = found-next searched _ (ok_told c.next_only.result _ _ c.in-Ok-Some.is c.in-Ok-Some.field-0-is) in
     let a = c.args in
     let wrote = c.put_prefix-next in
     let made = c.record_of.ensures in
@@ -53,7 +54,7 @@ loop-i-preserved c =
 pub returns-in-Ok-None : goal.returns-in-Ok-None
 returns-in-Ok-None c =
     let searched : SearchSays c.args.a.now c.args.a_count c.args.b.now c.args.b_count c.loop-i.i c.next_only.result = record { first = c.requires.0.0; second = c.requires.0.1; says = c.next_only.ensures } in
-    side-ends c.loop-i.invariant.2 (none_left searched c.in-Ok-None.is)
+    side-ends c.loop-i.invariant.2 (none_left searched (ok_told c.next_only.result _ _ c.in-Ok-None.is c.in-Ok-None.field-0-is))
 
 pub returns-in-Err : goal.returns-in-Err
 returns-in-Err c =

@@ -5,6 +5,7 @@ use mathlib.Core.Path.{◌≡◌, ap, ◌∙◌}
 use native.Mathlib.Numerals.{add-one}
 use native.Mathlib.Omega.{arith}
 use lib.ListN.{length, drop, length-append}
+use Rattle.rtr_base.proofs.Told.{ok_told}
 use Rattle.rtr_models.specs.declared.RtrProtocolVersion.{RtrProtocolVersion}
 use Rattle.rtr_room.specs.Room.{records, record_at}
 use Rattle.rtr_room.specs.declared.Record.{Record}
@@ -20,7 +21,7 @@ loop-i-init c = (omega arith, omega arith, λ v announced. omega arith)
 pub record_of-requires : goal.record_of-requires
 record_of-requires c =
     let searched : SearchSays c.args.a.now c.args.a_count c.args.b.now c.args.b_count c.loop-i.i c.next_only.result = record { first = c.requires.0.0; second = c.requires.0.1; says = c.next_only.ensures } in
-    has-record searched _ c.in-Ok-Some.is
+    has-record searched _ (ok_told c.next_only.result _ _ c.in-Ok-Some.is c.in-Ok-Some.field-0-is)
 
 pub overflow_add-sum : goal.overflow_add-sum
 overflow_add-sum c =
@@ -30,12 +31,12 @@ overflow_add-sum c =
 pub overflow_add-i : goal.overflow_add-i
 overflow_add-i c =
     let searched : SearchSays c.args.a.now c.args.a_count c.args.b.now c.args.b_count c.loop-i.i c.next_only.result = record { first = c.requires.0.0; second = c.requires.0.1; says = c.next_only.ensures } in
-    omega (arith, (found-next searched _ c.in-Ok-Some.is).below)
+    omega (arith, (found-next searched _ (ok_told c.next_only.result _ _ c.in-Ok-Some.is c.in-Ok-Some.field-0-is)).below)
 
 pub loop-i-smaller : goal.loop-i-smaller
 loop-i-smaller c =
     let searched : SearchSays c.args.a.now c.args.a_count c.args.b.now c.args.b_count c.loop-i.i c.next_only.result = record { first = c.requires.0.0; second = c.requires.0.1; says = c.next_only.ensures } in
-    let x = found-next searched _ c.in-Ok-Some.is in omega (arith, x.behind, x.below)
+    let x = found-next searched _ (ok_told c.next_only.result _ _ c.in-Ok-Some.is c.in-Ok-Some.field-0-is) in omega (arith, x.behind, x.below)
 
 pub loop-i-preserved : goal.loop-i-preserved
 loop-i-preserved c =
@@ -43,7 +44,7 @@ loop-i-preserved c =
     let t : List Record = records c.args.b_count c.args.b.now in
     let searched : SearchSays c.args.a.now c.args.a_count c.args.b.now c.args.b_count c.loop-i.i c.next_only.result = record { first = c.requires.0.0; second = c.requires.0.1; says = c.next_only.ensures } in
     let l = c.loop-i in
-    let x = found-next searched _ c.in-Ok-Some.is in
+    let x = found-next searched _ (ok_told c.next_only.result _ _ c.in-Ok-Some.is c.in-Ok-Some.field-0-is) in
     let left = drop (suc c.in-Ok-Some.p) s in
     let r = record_at c.args.a.now c.in-Ok-Some.p in
     let sum_is : (v : RtrProtocolVersion) (announced : Bool) → l.sum + c.prefix_size-sum.result + length (side_bytes v announced left t) ≡ length (side_bytes v announced s t) =
@@ -59,7 +60,7 @@ returns-in-Ok-None c =
     let t : List Record = records c.args.b_count c.args.b.now in
     let ended : (i sum : ℕ) → (i ≤ c.args.a_count) × (sum ≤ 32 * i) × ((v : RtrProtocolVersion) (announced : Bool) → sum + length (side_bytes v announced (drop i (records c.args.a_count c.args.a.now)) (records c.args.b_count c.args.b.now)) ≡ length (side_bytes v announced (records c.args.a_count c.args.a.now) (records c.args.b_count c.args.b.now))) → without (drop i s) t ≡ [] → ((v : RtrProtocolVersion) (announced : Bool) → sum ≡ length (side_bytes v announced s t)) × (sum ≤ 32 * c.args.a_count) = λ i sum inv none. (λ v announced. omega (arith, inv.2 v announced, ap length (side-none v announced (drop i s) t none)), omega (arith, inv.0, inv.1)) in
     let searched : SearchSays c.args.a.now c.args.a_count c.args.b.now c.args.b_count c.loop-i.i c.next_only.result = record { first = c.requires.0.0; second = c.requires.0.1; says = c.next_only.ensures } in
-    ended _ _ c.loop-i.invariant (none_left searched c.in-Ok-None.is)
+    ended _ _ c.loop-i.invariant (none_left searched (ok_told c.next_only.result _ _ c.in-Ok-None.is c.in-Ok-None.field-0-is))
 
 pub returns-in-Err : goal.returns-in-Err
 returns-in-Err c =

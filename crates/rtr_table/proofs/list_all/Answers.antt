@@ -7,6 +7,7 @@ use Rattle.rtr_table.proofs.Feeds.{ends-count}
 use Rattle.rtr_table.proofs.Laws.{listed-left}
 use Rattle.rtr_table.proofs.list_all.Goals as goal
 use Rattle.rtr_receiver.specs.declared.NotAReceiver.{NotAReceiver}
+use Rattle.rtr_table.specs.declared.Ended.{Ended}
 
 pub table_text-requires : goal.table_text-requires
 table_text-requires g c =
