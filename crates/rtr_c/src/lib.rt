@@ -22,13 +22,11 @@ ghost use Rattle.rtr_c.specs.Private.{feed_number, notify_number, notify_compare
 ghost use Rattle.rtr_c.specs.Runs.{memory, LeadsOn, Begins};
 
 use rtr_cache::{RunError};
-use Result<(RtrPdu, usize), RtrError>;
 use rtr_encode::{EncodeError};
 use rtr_listed::{ListedError};
 use rtr_listing::{Head, ListError};
 use rtr_models::*;
 use rtr_origin::{RouteState, ValidateError, PeerError, Route, RoutePrefix};
-use Option<(RtrPdu, usize)>;
 use rtr_receiver::{Comparison, NotAReceiver, FeedError, AskError};
 use rtr_walk::{WalkEnd};
 

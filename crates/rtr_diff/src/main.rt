@@ -11,7 +11,6 @@ ghost use Rattle.rtr_diff.specs.Printing.{IsPrefixLen, Shows, Sized};
 ghost use Rattle.rtr_diffs.specs.Diffs.{diff_text};
 
 use rtr_diffs::diff;
-use Result<usize, ListError>;
 use rtr_receiver::RECORD_LIMIT;
 use std::io::Read;
 use std::rt::Files;

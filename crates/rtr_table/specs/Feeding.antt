@@ -67,4 +67,4 @@ HeardAll m last m' = (pieces : List (List ℕ)) × Input m last m' pieces
 abbrev pub Ends : Result Ended NotAReceiver → List ℕ → Rooms → Rooms → List ℕ → Type 0
 Ends (Ok e) query live working hold =
     (asked : Memory) × Run record_limit V1 (length hold) (Call.ask LoadKind.Full query ∷ []) asked × HeardAll asked e.last (memory e.session live working hold)
-Ends (Err (record {})) query live working hold = length live ≡ 6 * record_limit → length working ≡ 6 * record_limit → 8 ≤ length hold → ⊥
+Ends (Err refusal) query live working hold = length live ≡ 6 * record_limit → length working ≡ 6 * record_limit → 8 ≤ length hold → ⊥

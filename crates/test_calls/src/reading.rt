@@ -1,7 +1,6 @@
 // Reading by place and through a run, a PDU's payloads, and an End of Data with absent intervals.
 use crate::narrow::*;
 use rtr_codec::{RtrError, RunRead, parse_rtr_pdu, read_at};
-use Result<usize, EncodeError>;
 use rtr_models::*;
 use rtr_numbers::{at, error_value, put_numbers};
 use rtr_pdu_numbers::{put_pdu};
