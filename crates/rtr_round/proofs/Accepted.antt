@@ -1,6 +1,6 @@
 -- What an accepted read says of the PDU that it gives: its version, type and values are the numbers at their places, what follows the fixed fields is named where it stands, its encoding is at most as long as the PDU read, its kind's
 -- rules hold, and it is its own reading back. `Found` says so; by the kinds, from how the PDU stands in the slice (`read-exactly` of rtr_codec). Assumes nothing.
-use Rattle.std.specs.Prelude.{Option, Some, ⊤}
+use Rattle.std.specs.Prelude.{Option, Some}
 use Prim.Native.Nat.{ℕ, ◌+◌, ◌-◌, ◌≤◌}
 use mathlib.Core.Bool.{Bool, true, false}
 use mathlib.Core.List.{List, [], ◌++◌}

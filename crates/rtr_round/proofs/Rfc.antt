@@ -1,7 +1,7 @@
 -- Reading and encoding held to the RFCs' own pictures (specs/Rfc.antt), which know nothing of either. `rfc-exactly`: a slice of bytes is read as a PDU of n
 -- bytes exactly if its first n bytes are the RFCs' picture of it. By `read-exactly` of rtr_codec the PDU stands in the slice, number by number; a picture's
 -- fields stand there exactly if their numbers are read there (Pictures). Assumes nothing.
-use Rattle.std.specs.Prelude.{Some, ⊤}
+use Rattle.std.specs.Prelude.{Some}
 use Prim.Native.Nat.{ℕ, ◌+◌, ◌-◌, ◌≤◌}
 use mathlib.Core.Bool.{true, false, or-false}
 use mathlib.Core.List.{List}
