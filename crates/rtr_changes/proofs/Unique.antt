@@ -6,7 +6,7 @@ use Rattle.rtr_base.proofs.Unique.{only_one, only-this}
 use Rattle.rtr_changes.specs.Changes.{OnlySays, only_said}
 use Rattle.rtr_changes.specs.Changes.OnlySays.{only_at, none_only, refused}
 use Rattle.rtr_changes.proofs.next_only.Reads as next-only
-use Rattle.rtr_changes.proofs.Only.number.Reads as number
+use Rattle.rtr_changes.proofs.only_number.Reads as number
 use Rattle.rtr_room.specs.declared.NotARoom.{NotARoom}
 
 -- the answer that says so

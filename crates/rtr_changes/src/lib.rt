@@ -7,16 +7,13 @@ ghost use Rattle.rtr_changes.specs.Changes.{next_only, only_said, only_number};
 
 use rtr_room::{Position, NotARoom, Record, get, look_up};
 
-impl Result<Option<usize>, NotARoom> {
-    // Document 01's number of it, or 0 where it is no refusal.
-    pub fn number(self) -> u8
-        ensures { result ≡ only_number (only_said self) }
-    {
-        match self {
-            Ok(Some(_)) => 0,
-            Ok(None) => 0,
-            Err(_) => 22,
-        }
+// Document 01's number of what `next_only` answers, or 0 where it is no refusal.
+pub fn only_number(answer: Result<Option<usize>, NotARoom>) -> u8
+    ensures { result ≡ only_number (only_said answer) }
+{
+    match answer {
+        Ok(_) => 0,
+        Err(_) => 22,
     }
 }
 

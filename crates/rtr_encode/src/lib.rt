@@ -321,23 +321,19 @@ fn put_long(out: &mut [u8], at: usize, part: &[u8])
     ensures { out.new ≡ over out.old at part.now }
 {
     let last = part.len() - 32;
-    let mut i = 0;
-    while i < last {
+    for i in (0..last).step_by(32) {
         put_32(out, at + i, part, i);
-        i += 32;
     }
     put_32(out, at + last, part, last);
 }
 
-// One by one.
+// One by one. Not by `copy_from_slice`: it calls C's memmove, and the library for hosts is to need memset alone.
 fn put_few(out: &mut [u8], at: usize, part: &[u8])
     requires { at + length part.now ≤ length out.old }
     ensures { out.new ≡ over out.old at part.now }
 {
-    let mut i = 0;
-    while i < part.len() {
-        out[at + i] = part[i];
-        i += 1;
+    for (i, byte) in part.iter().enumerate() {
+        out[at + i] = *byte;
     }
 }
 

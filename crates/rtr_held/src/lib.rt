@@ -46,10 +46,8 @@ pub fn feed_times(
 )
     ensures { FedTimes piece.now (record { session = session.old; live = live.old; working = working.old; hold = hold.old }) count (record { session = session.new; live = live.new; working = working.new; hold = hold.new }) }
 {
-    let mut left = count;
-    while left > 0 {
+    for _i in 0..count {
         let _done = feed_in_place(session, live, working, hold, piece);
-        left -= 1;
     }
 }
 

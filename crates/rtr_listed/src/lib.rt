@@ -642,7 +642,7 @@ fn read_records(listing: &[u8], c: Cursor, count: usize, room: &mut [u32]) -> Cu
             return next;
         }
         let entry = read.entry;
-        enter(room, i, entry);
+        let _ = enter(room, i, entry);
         i += 1;
     }
     next

@@ -1,5 +1,5 @@
 -- What a call comes to: refused by 22, refused by 9, or written. Assumes nothing.
-use Rattle.std.specs.Prelude.{Some, None, ⊤}
+use Rattle.std.specs.Prelude.{Some, None}
 use Prim.Native.Nat.{ℕ, ◌*◌, ◌≤◌, ◌<◌}
 use mathlib.Core.Bool.{Bool, true, false, not, ◌&&◌, and-true, and-false, or-true, true≢false}
 use mathlib.Core.List.{List, [], ◌∷◌, ◌++◌}

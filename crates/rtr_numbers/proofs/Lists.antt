@@ -1,14 +1,14 @@
--- `alike` decides whether two lists are one, and a loop that copies a list over one of its length leaves that list. Assumes nothing.
-use Prim.Native.Nat.{ℕ, suc, ◌+◌, ◌<◌}
+-- `alike` decides whether two lists are one, and `==` of slices is it. Assumes nothing.
+use Prim.Native.Nat.{ℕ}
 use mathlib.Core.Bool.{Bool, true, false, cond, ◌&&◌}
-use mathlib.Core.List.{List, [], ◌∷◌, ◌++◌, append-nil}
-use mathlib.Core.Path.{◌≡◌, refl, sym, ap, ◌∙◌}
-use native.Mathlib.Numerals.{add-one}
+use mathlib.Core.List.{List, [], ◌∷◌}
+use mathlib.Core.Path.{◌≡◌, refl, ap, ◌∙◌}
 use native.Mathlib.Omega.{arith}
 use borrow.Author.Tests.{eqb-true, eq-eqb}
 use lib.Dec.{eqb}
-use lib.ListN.{length, take, drop, set, get_or}
-use lib.Seq.{length-take-le, take-length, drop-length, take-suc, drop-cons, append_snoc, set_at}
+use lib.ListN.{length}
+use Rattle.std.specs.Prelude.{nat_eq}
+use Rattle.std.specs.Cmp.Lexicographic.{pointwise}
 use Rattle.rtr_numbers.specs.Back.{alike}
 
 pub alike_refl : (a : List ℕ) → alike a a ≡ true
@@ -30,35 +30,13 @@ alike_same (x ∷ xs) (y ∷ ys) e = go (eqb x y) refl e (alike_same xs ys)
         cc
     go false p q rest = absurd (let z : ◌≡◌ {A = ℕ} 0 1 = cc in omega arith)
 
-pub alike_of : (a b : List ℕ) → a ≡ b → true ≡ alike a b
-alike_of a b e = sym (ap (alike a) (sym e) ∙ alike_refl a)
-
-pub alike-not : (a b : List ℕ) → (a ≡ b → ⊥) → false ≡ alike a b
-alike-not a b h = go (alike a b) refl
-  where
-    go : (t : Bool) → alike a b ≡ t → false ≡ t
-    go true e = absurd (h (alike_same a b e))
-    go false e = refl
-
--- the first i of s stand over those of d, and one store more puts the next there
-pub stored_next : (d s : List ℕ) (i : ℕ) (cur : List ℕ) → cur ≡ take i s ++ drop i d → i < length s → length s ≡ length d
-    → set cur i (get_or s i 0) ≡ take (i + 1) s ++ drop (i + 1) d
-stored_next d s i cur e p q =
-    ap (λ (x : List ℕ). set x i (get_or s i 0)) (e ∙ ap (λ (x : List ℕ). take i s ++ x) (drop-cons d i 0 (omega arith)))
-    ∙ set_at (take i s) (get_or d i 0) (drop (suc i) d) (get_or s i 0) i (length-take-le i s (omega arith))
-    ∙ sym (append_snoc (take i s) (get_or s i 0) (drop (suc i) d))
-    ∙ ap (λ (x : List ℕ). x ++ drop (suc i) d) (sym (take-suc s i 0 p))
-    ∙ ap (λ (k : ℕ). take k s ++ drop k d) (sym (add-one i))
-
--- all of s are in
-pub stored-whole : (d s : List ℕ) (i : ℕ) (cur : List ℕ) → cur ≡ take i s ++ drop i d → i ≡ length s → length s ≡ length d → cur ≡ s
-stored-whole d s i cur e p q =
-    e
-    ∙ ap (λ (k : ℕ). take k s ++ drop k d) p
-    ∙ ap (λ (x : List ℕ). x ++ drop (length s) d) (take-length s)
-    ∙ ap (λ (k : ℕ). s ++ drop k d) q
-    ∙ ap (λ (x : List ℕ). s ++ x) (drop-length d)
-    ∙ append-nil s
+-- and `==` of slices is it
+pub alike-pointwise : (a b : List ℕ) → pointwise nat_eq a b ≡ alike a b
+unfolding alike
+alike-pointwise [] [] = refl
+alike-pointwise [] (y ∷ ys) = refl
+alike-pointwise (x ∷ xs) [] = refl
+alike-pointwise (x ∷ xs) (y ∷ ys) = ap (λ (t : Bool). nat_eq x y && t) (alike-pointwise xs ys)
 
 -- what was said is set where there are as many numbers as it has
 pub put-said : (n said y x : List ℕ) (k : ℕ) (r : Bool) →

@@ -1,17 +1,19 @@
 -- Whoever holds a session record holds numbers that fit their types: what owning a value of a Rattle type tells (`Is`), case by case.
 -- Assumes nothing.
 use Rattle.std.specs.Prelude.{Option, Some, None, ⊤, ℕ}
-use mathlib.Core.List.{List}
+use mathlib.Core.List.{List, [], ◌∷◌}
 use native.Mathlib.Omega.{arith}
 use mir.Val.{Val}
 use denote.Laws.{Is}
 use denote.Enum.Declared as enum
 use denote.Struct.Declared as struct
+use denote.Struct.Tuple.{Tuple}
+use denote.Builtin.{u16, u32}
 use Rattle.rtr_codec.specs.contracts.RtrError as error-type
 use Rattle.rtr_receiver.specs.contracts.Stop as stop-type
 use Rattle.rtr_receiver.specs.contracts.Phase as phase-type
-use Rattle.rtr_receiver.specs.contracts.LiveTable as table-type
-use Rattle.rtr_receiver.specs.contracts.Note as note-type
+use Rattle.std.specs.contracts.option.Option.{the_row as option-of}
+use Rattle.rtr_receiver.specs.contracts.Table as table-type
 use Rattle.rtr_receiver.specs.contracts.Session as session-type
 use Rattle.rtr_codec.specs.declared.RtrError.{RtrError}
 use Rattle.rtr_codec.specs.declared.RtrError.TheVariants.{IncompletePdu, InvalidProtocolVersion, InvalidPduType, InvalidLength, RouterKeyInV0, InvalidPrefixLength, InvalidErrorCode, InvalidUtf8}
@@ -51,11 +53,11 @@ phase-owned Phase.AskedChange vs h = tt
 phase-owned (Phase.Loading kind session) vs h = omega arith
 phase-owned (Phase.Stopped stop) vs h = stop-owned stop _ h.1.1.1.1.0
 
-table-owned : (t : Option Table) (vs : List Val) → Is (enum.row table-type.the_type) t vs → TableFits t
+table-owned : (t : Option Table) (vs : List Val) → Is (option-of (struct.row table-type.the_type)) t vs → TableFits t
 table-owned None vs h = tt
 table-owned (Some t) vs h = (omega arith, omega arith, omega arith, omega arith, omega arith)
 
-note-owned : (n : Option (ℕ × ℕ)) (vs : List Val) → Is (enum.row note-type.the_type) n vs → NoteFits n
+note-owned : (n : Option (ℕ × ℕ)) (vs : List Val) → Is (option-of (Tuple (u16 ∷ u32 ∷ []))) n vs → NoteFits n
 note-owned None vs h = tt
 note-owned (Some (session, serial)) vs h = (omega arith, omega arith)
 

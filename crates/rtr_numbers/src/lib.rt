@@ -80,17 +80,16 @@ pub fn at(numbers: &[u64], i: usize) -> u64
 
 // ---- Lists of numbers
 
-// Sets the numbers lent to those said where there are as many; else nothing is set.
+// Sets the numbers lent to those said where there are as many; else nothing is set. Not by `copy_from_slice`: it calls C's memmove, and the library for hosts is to
+// need memset alone.
 pub fn put_numbers(numbers: &mut [u64], said: &[u64]) -> bool
     ensures { (result ≡ eqb (length numbers.old) (length said.now)) × (numbers.new ≡ cond (eqb (length numbers.old) (length said.now)) said.now numbers.old) }
 {
     if numbers.len() != said.len() {
         return false;
     }
-    let mut i = 0;
-    while i < said.len() {
-        numbers[i] = said[i];
-        i += 1;
+    for (i, n) in said.iter().enumerate() {
+        numbers[i] = *n;
     }
     true
 }
@@ -99,17 +98,7 @@ pub fn put_numbers(numbers: &mut [u64], said: &[u64]) -> bool
 pub fn is_alike(a: &[u64], b: &[u64]) -> bool
     ensures { result ≡ alike a.now b.now }
 {
-    if a.len() != b.len() {
-        return false;
-    }
-    let mut i = 0;
-    while i < a.len() {
-        if a[i] != b[i] {
-            return false;
-        }
-        i += 1;
-    }
-    true
+    a == b
 }
 
 // ---- A session's numbers

@@ -124,15 +124,13 @@ pub fn is_stream(hold: &[u8], held: usize) -> bool
     held < whole
 }
 
-// A part goes into the hold behind what is held.
+// A part goes into the hold behind what is held. Not by `copy_from_slice`: it calls C's memmove, and the library for hosts is to need memset alone.
 fn put_part(hold: &mut [u8], held: usize, part: &[u8])
     requires { held + length part.now ≤ length hold.old }
     ensures { take (held + length part.now) hold.new ≡ take held hold.old ++ part.now }
 {
-    let mut i = 0;
-    while i < part.len() {
-        hold[held + i] = part[i];
-        i += 1;
+    for (i, byte) in part.iter().enumerate() {
+        hold[held + i] = *byte;
     }
 }
 

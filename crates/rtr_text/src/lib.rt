@@ -51,6 +51,7 @@ pub fn well_formed_up_to(text: &[u8]) -> usize
     ensures { result ≡ well_formed_up_to text.now }
 {
     let mut at = row_1_run(text, 0);
+    // A hand count: each turn goes on by what it read, so there is nothing for a `for` to go over.
     loop {
         let n = character_at(text, at);
         if n == 0 {

@@ -39,6 +39,7 @@ pub(crate) fn row_1_run(text: &[u8], at: usize) -> usize
 {
     let n = text.len();
     let mut end = at;
+    // A hand count: the run goes on from where this stops, so a `for` by steps would need `end` and a `break` besides.
     while 16 <= n - end && (high_bits(text, end) | high_bits(text, end + 8)) == 0 {
         end += 16;
     }

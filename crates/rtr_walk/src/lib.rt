@@ -23,10 +23,8 @@ pub enum WalkEnd {
 pub fn walk(input: &[u8]) -> Result<(u8, WalkEnd), RtrError>
     ensures { walk_said result ≡ walk in_use input.now }
 {
-    match parse_rtr_pdu(input) {
-        Ok((pdu, _)) => walk_pdu(pdu, input, 16),
-        Err(error) => Err(error),
-    }
+    let (pdu, _) = parse_rtr_pdu(input)?;
+    walk_pdu(pdu, input, 16)
 }
 
 // Only a report has bytes inside; the level is what is used up of the 16. The PDU is the slice's own, so a report's part is shorter than the slice.

@@ -1,23 +1,10 @@
 use native.Mathlib.Omega.{arith}
-use lib.ListN.{length-set}
-use lib.Seq.{paste-zero}
 use Rattle.rtr_base.proofs.Copies.{copied-one-more}
 use Rattle.rtr_base.proofs.Overs.{copied-whole}
 use Rattle.rtr_encode.proofs.put_few.Goals as goal
 
-pub loop-i-init : goal.loop-i-init
-loop-i-init c = (paste-zero c.args.out.now c.args.at c.args.part.now, omega arith, omega arith)
-
 pub loop-i-preserved : goal.loop-i-preserved
-loop-i-preserved c =
-    let a = c.args in
-    let at-loop = c.loop-i in (
-      copied-one-more a.out.now a.at a.part.now at-loop.i at-loop.out at-loop.invariant.0 (omega arith) (omega arith),
-      omega arith,
-      simp length-set (omega arith),
-    )
+loop-i-preserved c = copied-one-more c.args.out.now c.args.at c.args.part.now c.loop-i.i c.loop-i.out c.loop-i.invariant (omega arith) (omega arith)
 
 pub returns : goal.returns
-returns c =
-    let a = c.args in
-    copied-whole a.out.now a.at a.part.now c.loop-i.i c.loop-i.out c.loop-i.invariant.0 (omega arith)
+returns c = copied-whole c.args.out.now c.args.at c.args.part.now c.loop-i.i c.loop-i.out c.loop-i.invariant (omega arith)

@@ -1,13 +1,6 @@
--- `put_part` copies: at the loop's head the hold is as it was with the part's first i bytes in it behind what is held. The measure is what is
--- left of the part. Assumes nothing.
-use Prim.Native.Nat.{◌≤◌, ◌-◌}
-use mathlib.Core.Path.{◌≡◌}
-use lib.ListN.{length}
-use lib.Seq.{paste}
+-- `put_part` copies: at the loop's head the part's first i bytes stand in the hold behind what is held. Assumes nothing.
+use Rattle.std.proofs.Common.{◌≡◌, ◌+◌, ◌++◌, take}
 use Rattle.rtr_stream.proofs.put_part.Given as goal
 
 abbrev pub invariant-loop-i : goal.invariant-loop-i
-invariant-loop-i l = (l.hold ≡ paste l.initial.hold l.held l.part l.i) × (l.i ≤ length l.part) × (length l.hold ≡ length l.initial.hold)
-
-abbrev pub decreases-loop-i : goal.decreases-loop-i
-decreases-loop-i l = length l.part - l.i
+invariant-loop-i l = take (l.held + l.i) l.hold ≡ take l.held l.initial.hold ++ take l.i l.part

@@ -11,8 +11,9 @@ use borrow.Fn.Kinds.{In}
 use borrow.Fn.PlainCycle.{Measures, is, falls, and}
 use Rattle.rtr_models.specs.declared.RtrPdu.{RtrPdu}
 use Rattle.rtr_codec.specs.Reading.{in_use}
+use Rattle.rtr_codec.specs.Read.{Verdict}
 use Rattle.rtr_codec.specs.Read.Verdict.{accepted}
-use Rattle.rtr_codec.specs.Answers.{verdict}
+use Rattle.rtr_codec.specs.Answers.{refusal}
 use Rattle.rtr_codec.proofs.RtrError.number.Reads as number-reads
 use Rattle.rtr_codec.proofs.parse_rtr_pdu.Reads as parse-rtr-pdu-reads
 use Rattle.rtr_models.proofs.RtrErrorReport.erroneous_pdu_part.Reads as erroneous-pdu-part-reads
@@ -31,6 +32,10 @@ use Rattle.rtr_walk.proofs.+walk_pdu_walk_report.Tie.{close}
 
 below : {a b t : ℕ} → b ≡ t → a < b → a < t
 below e h = omega arith
+
+-- a read that gives a PDU gives the one that is handed on, which is the same
+also-read : {handed pdu : RtrPdu} {consumed : ℕ} {v : Verdict} → handed ≡ pdu → accepted pdu consumed ≡ v → v ≡ accepted handed consumed
+also-read {consumed = consumed} same gives = sym gives ∙ ap (λ (p : RtrPdu). accepted p consumed) (sym same)
 
 -- a measure of `walk_pdu` and one of `walk_report`, by the levels left and the bytes of the slice: it falls where a shorter part is handed over, and
 -- where a level is used up
@@ -112,8 +117,11 @@ module _
     walk-report-parse-rtr-pdu-requires : (t : ℕ) → walk-report-lts.Need-parse_rtr_pdu-requires (walk-report-calls t) (walk-report-at t) walk-report.Post
     walk-report-parse-rtr-pdu-requires t c κs = search rules
 
-    walk-report-enum-known-pdu : (t : ℕ) → walk-report-lts.Need-enum_known-pdu (walk-report-calls t) (walk-report-at t) walk-report.Post
-    walk-report-enum-known-pdu t c = search rules
+    walk-report-enum-told-at-1 : (t : ℕ) → walk-report-lts.Need-enum_told_at-1 (walk-report-calls t) (walk-report-at t) walk-report.Post
+    walk-report-enum-told-at-1 t c = search rules
+
+    walk-report-way-copy-out-pdu : (t : ℕ) → walk-report-lts.Need-way_copy_out-pdu (walk-report-calls t) (walk-report-at t) walk-report.Post
+    walk-report-way-copy-out-pdu t c = search rules
 
     walk-report-overflow-sub-left : (t : ℕ) → walk-report-lts.Need-overflow_sub-left (walk-report-calls t) (walk-report-at t) walk-report.Post
     walk-report-overflow-sub-left t c = omega arith
@@ -122,22 +130,22 @@ module _
     pub walk-report-walk-pdu-requires : (t : ℕ) → walk-report-lts.Need-walk_pdu-requires (walk-report-calls t) (walk-report-at t) walk-report.Post
     walk-report-walk-pdu-requires t c κs = (
       below c.requires.0 (level-falls c.args.left (length c.args.part.now) (omega (arith, c.if-left-eq0.false))),
-      (omega arith, (_, sym c.parse_rtr_pdu.ensures ∙ ap verdict c.in-Read.is)),
+      (omega arith, (_, also-read c.in-Ok.pdu-is c.in-Ok.ensures)),
     )
 
-    walk-report-enum-known-error : (t : ℕ) → walk-report-lts.Need-enum_known-error (walk-report-calls t) (walk-report-at t) walk-report.Post
-    walk-report-enum-known-error t c = search rules
+    walk-report-way-copy-out-error : (t : ℕ) → walk-report-lts.Need-way_copy_out-error (walk-report-calls t) (walk-report-at t) walk-report.Post
+    walk-report-way-copy-out-error t c = search rules
 
     walk-report-number-requires : (t : ℕ) → walk-report-lts.Need-number-requires (walk-report-calls t) (walk-report-at t) walk-report.Post
     walk-report-number-requires t c κs = search rules
 
-    walk-report-returns-in-read : (t : ℕ) → walk-report-lts.Need-returns-in-Read (walk-report-calls t) (walk-report-at t) walk-report.Post
-    walk-report-returns-in-read t c =
-        c.walk_pdu.ensures ∙ sym (inside-read in_use _ _ _ _ c.if-part-eq0.false c.if-left-eq0.false (omega arith) (sym c.parse_rtr_pdu.ensures ∙ ap verdict c.in-Read.is))
+    walk-report-returns-in-ok : (t : ℕ) → walk-report-lts.Need-returns-in-Ok (walk-report-calls t) (walk-report-at t) walk-report.Post
+    walk-report-returns-in-ok t c =
+        c.walk_pdu.ensures ∙ sym (inside-read in_use _ _ _ _ c.if-part-eq0.false c.if-left-eq0.false (omega arith) (also-read c.in-Ok.pdu-is c.in-Ok.ensures))
 
-    walk-report-returns-in-refused : (t : ℕ) → walk-report-lts.Need-returns-in-Refused (walk-report-calls t) (walk-report-at t) walk-report.Post
-    walk-report-returns-in-refused t c =
-        sym (inside-refused in_use _ _ _ c.in-Refused.error _ c.number.ensures c.if-part-eq0.false c.if-left-eq0.false (sym c.parse_rtr_pdu.ensures ∙ ap verdict c.in-Refused.is))
+    walk-report-returns-in-err : (t : ℕ) → walk-report-lts.Need-returns-in-Err (walk-report-calls t) (walk-report-at t) walk-report.Post
+    walk-report-returns-in-err t c =
+        sym (inside-refused in_use _ _ _ _ _ c.number.ensures c.if-part-eq0.false c.if-left-eq0.false (sym c.in-Err.ensures ∙ ap refusal (sym c.in-Err.error-is)))
 
     ends : {M : Type 1} → statement M
     ends =
@@ -155,13 +163,14 @@ module _
         (walk-report-returns-then-part-eq0 t)
         (walk-report-returns-then-left-eq0 t)
         (walk-report-parse-rtr-pdu-requires t)
-        (walk-report-enum-known-pdu t)
+        (walk-report-enum-told-at-1 t)
+        (walk-report-way-copy-out-pdu t)
         (walk-report-overflow-sub-left t)
         (walk-report-walk-pdu-requires t)
-        (walk-report-enum-known-error t)
+        (walk-report-way-copy-out-error t)
         (walk-report-number-requires t)
-        (walk-report-returns-in-read t)
-        (walk-report-returns-in-refused t))
+        (walk-report-returns-in-ok t)
+        (walk-report-returns-in-err t))
 
 -- the cycle ends by the levels that are left
 pub +walk_pdu_walk_report_spec : {M : Type 1} → statement M
