@@ -11,7 +11,7 @@ use Rattle.rtr_listed.specs.Promises.ListedSays.{says, refused}
 use Rattle.rtr_listed.specs.declared.ListedError.{ListedError}
 use Rattle.rtr_listed.proofs.ListedError.number.Reads as listed-error-number
 use Rattle.rtr_listed.proofs.read_listing.Reads as read-listing
-use Rattle.rtr_listed.specs.declared.Head.{Head}
+use Rattle.rtr_listing.specs.declared.Head.{Head}
 
 -- the answer that says so
 abbrev pub answer_of : ListedSays → Result Head ListedError

@@ -1,6 +1,7 @@
 -- The round trips of a PDU, for readers and for the crates above: one that fits its types comes back from its numbers, and numbers that give
 -- a PDU are its. Assumes nothing.
-use Rattle.std.specs.Prelude.{Some, None}
+use Rattle.std.proofs.lemmas.Option.{some_pair_parts}
+use Rattle.std.specs.Prelude.{Some, None, Option}
 use Prim.Native.Nat.{ℕ}
 use mathlib.Core.Bool.{Bool, true, false, cond}
 use mathlib.Core.List.{List}
@@ -46,11 +47,11 @@ numbers-of-pdu n pdu k e = go (loose_pdu (loose_version (get_or n 1 0)) n) (alik
   where
     go : (x : RtrPdu) (b : Bool) →
         alike (pdu_numbers x (get_or n 2 0)) n ≡ b →
-        cond b (Some (x, (get_or n 2 0))) None ≡ Some (pdu, k) →
+        cond {A = Option (RtrPdu × ℕ)} b (Some (x, get_or n 2 0)) None ≡ Some (pdu, k) →
         n ≡ pdu_numbers pdu k
     go x true p q =
-        let same : x ≡ pdu = cc in
-        let took : get_or n 2 0 ≡ k = cc in
+        let same : x ≡ pdu = (some_pair_parts _ _ _ _ q).0 in
+        let took : get_or n 2 0 ≡ k = (some_pair_parts _ _ _ _ q).1 in
         sym (alike_same (pdu_numbers x (get_or n 2 0)) n p) ∙ ap (λ (y : RtrPdu). pdu_numbers y (get_or n 2 0)) same ∙ ap (pdu_numbers pdu) took
     go x false p q = absurd (let z : ◌≡◌ {A = ℕ} 0 1 = cc in omega arith)
 
@@ -58,9 +59,9 @@ pub pdu-found-fits : (n : List ℕ) (pdu : RtrPdu) (k : ℕ) → pdu_of n ≡ So
 unfolding pdu_if
 pdu-found-fits n pdu k e = go (loose_pdu (loose_version (get_or n 1 0)) n) (pdu-fits (loose_version (get_or n 1 0)) n) (alike (pdu_numbers (loose_pdu (loose_version (get_or n 1 0)) n) (get_or n 2 0)) n) e
   where
-    go : (x : RtrPdu) → PduFits x → (b : Bool) → cond b (Some (x, (get_or n 2 0))) None ≡ Some (pdu, k) → PduFits pdu
+    go : (x : RtrPdu) → PduFits x → (b : Bool) → cond {A = Option (RtrPdu × ℕ)} b (Some (x, get_or n 2 0)) None ≡ Some (pdu, k) → PduFits pdu
     go x h true q =
-        let same : x ≡ pdu = cc in
+        let same : x ≡ pdu = (some_pair_parts _ _ _ _ q).0 in
         rw same at h
     go x h false q = absurd (let z : ◌≡◌ {A = ℕ} 0 1 = cc in omega arith)
 

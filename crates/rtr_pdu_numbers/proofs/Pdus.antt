@@ -1,5 +1,5 @@
 -- A PDU whose numbers fit is guessed from its numbers, and a guess always fits. Assumes nothing.
-use Rattle.std.specs.Prelude.{Option, Some, None, ⊤}
+use Rattle.std.specs.Prelude.{Option, Some, None}
 use Prim.Native.Nat.{ℕ, ◌%◌}
 use mathlib.Core.List.{List}
 use mathlib.Core.Path.{◌≡◌, refl}

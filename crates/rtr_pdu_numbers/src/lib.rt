@@ -192,7 +192,7 @@ fn seconds(version: RtrProtocolVersion, default: u32, interval: Option<u32>) -> 
 {
     match version {
         RtrProtocolVersion::V0 => 0,
-        RtrProtocolVersion::V1 => wide32(interval.or(default)),
+        RtrProtocolVersion::V1 => wide32(interval.unwrap_or(default)),
     }
 }
 

@@ -12,9 +12,9 @@ use borrow.Author.Tests.{le-leb}
 use denote.Ref.{Bor}
 use lib.ListN.{length, take, drop}
 use lib.Seq.{take_at}
+use Rattle.rtr_models.specs.declared.PlaceOutside.{PlaceOutside as Outside}
 use Rattle.rtr_models.specs.Parts.{inside, key_inside, PartOf, part_number, number_if}
 use Rattle.rtr_models.specs.declared.Place.{Place}
-use Rattle.rtr_models.specs.declared.PlaceOutside as outside
 use Rattle.rtr_models.specs.declared.RtrRouterKey.{RtrRouterKey}
 use Rattle.rtr_models.specs.declared.RtrErrorReport.{RtrErrorReport}
 use Rattle.rtr_models.specs.declared.RtrPdu.{RtrPdu}
@@ -176,9 +176,9 @@ pub call-unread : (κs : _) (a : _) (error : RtrError) (st : _) → recode.Post 
 call-unread κs a error st calls = (calls.2, λ k values e. (refused-exactly in_use a.0.now k values).0 (sym calls.1 ∙ e))
 
 -- ---- The parts of what was read, asked for by the eight calls, are never refused by 11, and each is that very part of the slice
-answer-part : (r : Result ⊤ outside.PlaceOutside) (fits : Bool) → fits ≡ true → part_number r ≡ number_if fits → r ≡ Ok tt
+answer-part : (r : Result ⊤ Outside) (fits : Bool) → fits ≡ true → part_number r ≡ number_if fits → r ≡ Ok tt
 answer-part (Ok tt) fits f e = refl
-answer-part (Err e11) fits f e = absurd (let z : 11 ≡ 0 = e ∙ ap number_if f in omega arith)
+answer-part (Err refusal) fits f e = absurd (let z : 11 ≡ 0 = e ∙ ap number_if f in omega arith)
 
 part-is : (fits : Bool) (p : Place) (slice r : Bor (List ℕ)) → fits ≡ true → PartOf fits p slice r → PartOf true p slice r
 part-is fits p slice r f e = subst (λ (b : Bool). PartOf b p slice r) f e

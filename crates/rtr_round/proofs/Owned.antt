@@ -5,10 +5,10 @@ use Prim.Native.Nat.{ℕ, ◌<◌, ◌≤◌}
 use mathlib.Core.List.{List}
 use native.Mathlib.Omega.{arith}
 use mir.Val.{Val}
-use denote.Builtin.{u32}
 use denote.Laws.{Is}
+use denote.Builtin.{u32}
 use denote.Enum.Declared as enum
-use Rattle.std.specs.contracts.option.Option as option-type
+use Rattle.std.specs.contracts.option.Option.{the_row as option-of}
 use Rattle.rtr_models.specs.contracts.RtrPdu as pdu-type
 use Rattle.rtr_models.proofs.Laws.{code-at-most-8}
 use Rattle.rtr_models.specs.Values.{seconds_or}
@@ -24,7 +24,7 @@ use Rattle.rtr_encode.proofs.Laws.{encoded-length-is}
 use Rattle.rtr_round.specs.RoundTrip.{ValuesFit}
 
 -- an interval, or the default in its place, fits 32 bits
-interval-owned : (i : Option ℕ) (vs : List Val) → Is (enum.row (option-type.the_type u32)) i vs → (default : ℕ) → default < 4294967296 → seconds_or default i < 4294967296
+interval-owned : (i : Option ℕ) (vs : List Val) → Is (option-of u32) i vs → (default : ℕ) → default < 4294967296 → seconds_or default i < 4294967296
 interval-owned None vs h default small = small
 interval-owned (Some n) vs h default small = omega arith
 

@@ -1,3 +1,4 @@
+use Rattle.rtr_base.proofs.Told.{ok_told}
 use Rattle.std.specs.Prelude.{Ok, Err, Some, None}
 use Prim.Native.Nat.{ℕ, suc}
 use mathlib.Core.List.{List, []}
@@ -25,7 +26,7 @@ record_of-requires c =
     let s : List Record = records c.args.a_count c.args.a.now in
     let t : List Record = records c.args.b_count c.args.b.now in
     let next : (p : ℕ) → c.next_only.result ≡ Ok (Some p) → NextAt s t c.args.a.now c.args.a_count c.loop-i.i p = λ p e. next-at (room-of-rules _ _ _ c.requires.0) (room-of-rules _ _ _ c.requires.1) _ _ c.next_only.ensures p e in
-    omega (arith, (next _ c.in-Ok-Some.is).below, (rules-size record_limit _ _ c.requires.0).0, (rules-size record_limit _ _ c.requires.0).1)
+    omega (arith, (next _ (ok_told c.next_only.result _ _ c.in-Ok-Some.is c.in-Ok-Some.field-0-is)).below, (rules-size record_limit _ _ c.requires.0).0, (rules-size record_limit _ _ c.requires.0).1)
 
 pub overflow_add-sum : goal.overflow_add-sum
 overflow_add-sum c =
@@ -37,14 +38,14 @@ overflow_add-i c =
     let s : List Record = records c.args.a_count c.args.a.now in
     let t : List Record = records c.args.b_count c.args.b.now in
     let next : (p : ℕ) → c.next_only.result ≡ Ok (Some p) → NextAt s t c.args.a.now c.args.a_count c.loop-i.i p = λ p e. next-at (room-of-rules _ _ _ c.requires.0) (room-of-rules _ _ _ c.requires.1) _ _ c.next_only.ensures p e in
-    omega (arith, (next _ c.in-Ok-Some.is).below)
+    omega (arith, (next _ (ok_told c.next_only.result _ _ c.in-Ok-Some.is c.in-Ok-Some.field-0-is)).below)
 
 pub loop-i-smaller : goal.loop-i-smaller
 loop-i-smaller c =
     let s : List Record = records c.args.a_count c.args.a.now in
     let t : List Record = records c.args.b_count c.args.b.now in
     let next : (p : ℕ) → c.next_only.result ≡ Ok (Some p) → NextAt s t c.args.a.now c.args.a_count c.loop-i.i p = λ p e. next-at (room-of-rules _ _ _ c.requires.0) (room-of-rules _ _ _ c.requires.1) _ _ c.next_only.ensures p e in
-    let x = next _ c.in-Ok-Some.is in omega (arith, x.behind, x.below)
+    let x = next _ (ok_told c.next_only.result _ _ c.in-Ok-Some.is c.in-Ok-Some.field-0-is) in omega (arith, x.behind, x.below)
 
 pub loop-i-preserved : goal.loop-i-preserved
 loop-i-preserved c =
@@ -53,7 +54,7 @@ loop-i-preserved c =
     let next : (p : ℕ) → c.next_only.result ≡ Ok (Some p) → NextAt s t c.args.a.now c.args.a_count c.loop-i.i p = λ p e. next-at (room-of-rules _ _ _ c.requires.0) (room-of-rules _ _ _ c.requires.1) _ _ c.next_only.ensures p e in
     let a = c.args in
     let l = c.loop-i in
-    let x = next _ c.in-Ok-Some.is in
+    let x = next _ (ok_told c.next_only.result _ _ c.in-Ok-Some.is c.in-Ok-Some.field-0-is) in
     let r = c.record_of in
     let whole = ap length (side-next a.announced (drop l.i s) (drop (suc c.in-Ok-Some.p) s) t _ x.rest) ∙ length-append (change_lines a.announced _) (side_lines a.announced (drop (suc c.in-Ok-Some.p) s) t) in
     let made = ap (λ (e : Record). length (change_lines a.announced e)) r.ensures in
@@ -66,7 +67,7 @@ returns-in-Ok-None c =
     let nothing : c.next_only.result ≡ Ok None → without (drop c.loop-i.i s) t ≡ [] = λ e. next-nothing (room-of-rules _ _ _ c.requires.0) (room-of-rules _ _ _ c.requires.1) _ _ c.next_only.ensures e in
     let a = c.args in
     let l = c.loop-i in
-    let none = ap length (side-none a.announced (drop l.i s) t (nothing c.in-Ok-None.is)) in
+    let none = ap length (side-none a.announced (drop l.i s) t (nothing (ok_told c.next_only.result _ _ c.in-Ok-None.is c.in-Ok-None.field-0-is))) in
     (omega (arith, l.invariant.2, none), omega (arith, l.invariant.1, l.invariant.0))
 
 pub returns-in-Err : goal.returns-in-Err
