@@ -1,6 +1,6 @@
 -- The lines of the table, of the calls: at each line's input the contract of `parse_rtr_pdu`, `encode`, `walk` or `notify`, as Rattle reads it off the source (`Post`), leaves that answer alone. Each follows from
 -- the line's own statement (`edges-hold`), whatever the line, so a line that is added is proved of the calls too. Assumes nothing.
-use Rattle.std.specs.Prelude.{Some, ⊤, Ok}
+use Rattle.std.specs.Prelude.{Some, Ok}
 use Prim.Native.Nat.{ℕ}
 use mathlib.Core.Bool.{true}
 use mathlib.Core.List.{List, [], ◌∷◌}

@@ -3,12 +3,12 @@
 #![tactic(auto)]
 
 use rtr_codec::{RtrError, parse_rtr_pdu};
-use rtr_encode::{EncodeError};
+use rtr_encode::EncodeError;
 use rtr_models::{
-    Place, RtrEndOfData, RtrErrorCode, RtrErrorReport, RtrIPv4Prefix, RtrPdu,
-    RtrProtocolVersion, RtrRouterKey,
+    Place, RtrEndOfData, RtrErrorCode, RtrErrorReport, RtrIPv4Prefix, RtrPdu, RtrProtocolVersion,
+    RtrRouterKey,
 };
-use rtr_walk::{WalkEnd};
+use rtr_walk::WalkEnd;
 use std::io;
 
 // ---- Printing
@@ -77,8 +77,7 @@ fn say_refusal(out: &impl Print, error: RtrError) -> io::Result<()> {
 }
 
 fn say_report(out: &impl Print, p: RtrErrorReport, input: &[u8]) -> io::Result<()> {
-    let code = p.error_code;
-    say_number(out, b" code=", code.to_u16() as u64)?;
+    say_number(out, b" code=", p.error_code.to_u16() as u64)?;
     say(out, b" encap=")?;
     say_hex(out, p.erroneous_pdu_part(input))?;
     say(out, b" text=")?;
@@ -87,10 +86,8 @@ fn say_report(out: &impl Print, p: RtrErrorReport, input: &[u8]) -> io::Result<(
 
 // Of a PDU that is no Error Report type and version alone: none of the edges has one.
 fn say_pdu(out: &impl Print, pdu: RtrPdu, input: &[u8]) -> io::Result<()> {
-    let pdu_type = pdu.pdu_type();
-    let version = pdu.version();
-    say_number(out, b" type=", pdu_type.to_u8() as u64)?;
-    say_number(out, b" version=", version.to_u8() as u64)?;
+    say_number(out, b" type=", pdu.pdu_type().to_u8() as u64)?;
+    say_number(out, b" version=", pdu.version().to_u8() as u64)?;
     match pdu {
         RtrPdu::ErrorReport(p) => say_report(out, p, input),
         _ => Ok(()),
@@ -149,10 +146,7 @@ fn report_of(input: &[u8], out: &mut [u8]) -> usize {
         whole,
         none,
     );
-    match rtr_encode::encode_error_report(report, input, out) {
-        Ok(n) => n,
-        Err(_) => 0,
-    }
+    rtr_encode::encode_error_report(report, input, out).unwrap_or(0)
 }
 
 fn copy_back(from: &[u8], n: usize, to: &mut [u8]) {
@@ -449,33 +443,31 @@ fn end_of_data(version: RtrProtocolVersion, refresh: Option<u32>, expire: Option
 
 fn ends_of_data(out: &impl Print) -> io::Result<()> {
     let none = b"";
-    let absent = None;
-    let one = Some(1);
     show_encode(
         out,
         b"end of data, defaults",
-        end_of_data(RtrProtocolVersion::V1, absent, absent),
+        end_of_data(RtrProtocolVersion::V1, None, None),
         none,
         24,
     )?;
     show_encode(
         out,
         b"end of data, one given",
-        end_of_data(RtrProtocolVersion::V1, one, absent),
+        end_of_data(RtrProtocolVersion::V1, Some(1), None),
         none,
         64,
     )?;
     show_encode(
         out,
         b"end of data in v0",
-        end_of_data(RtrProtocolVersion::V0, one, one),
+        end_of_data(RtrProtocolVersion::V0, Some(1), Some(1)),
         none,
         12,
     )?;
     show_encode(
         out,
         b"end of data, room 23",
-        end_of_data(RtrProtocolVersion::V1, one, one),
+        end_of_data(RtrProtocolVersion::V1, Some(1), Some(1)),
         none,
         23,
     )?;
@@ -495,10 +487,7 @@ fn prefix(flags: u8, prefix_length: u8, max_length: u8) -> RtrPdu {
 
 fn say_run(out: &impl Print, answer: Result<(RtrPdu, usize), RtrError>) -> io::Result<()> {
     match answer {
-        Ok((pdu, _)) => {
-            let version = pdu.version();
-            say_number(out, b"version=", version.to_u8() as u64)
-        }
+        Ok((pdu, _)) => say_number(out, b"version=", pdu.version().to_u8() as u64),
         Err(error) => say_refusal(out, error),
     }
 }
@@ -507,12 +496,10 @@ fn say_run(out: &impl Print, answer: Result<(RtrPdu, usize), RtrError>) -> io::R
 fn show_run(out: &impl Print, label: &[u8], at: usize) -> io::Result<()> {
     let run = b"\x01\x02\x00\x00\x00\x00\x00\x08\x00\x02\x00\x00\x00\x00\x00\x08";
     let read = rtr_codec::read_at(run, at);
-    let next = read.next;
-    let answer = read.answer;
     say(out, label)?;
     say(out, b": ")?;
-    say_run(out, answer)?;
-    say_number(out, b" next=", next as u64)?;
+    say_run(out, read.answer)?;
+    say_number(out, b" next=", read.next as u64)?;
     say(out, b"\n")
 }
 

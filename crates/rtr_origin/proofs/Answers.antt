@@ -1,6 +1,6 @@
 -- What the calls answer: the shared refusals are those of the promise, a receiver's live room is the room of a table, and what both engines
 -- find of it is its state. Assumes nothing.
-use Rattle.std.specs.Prelude.{None, Result, Ok, Err, ⊤}
+use Rattle.std.specs.Prelude.{Option, Some, None, is_some, Result, Ok, Err, ⊤}
 use Prim.Native.Nat.{ℕ, ◌≤◌, ◌<◌}
 use mathlib.Core.Bool.{Bool, true, false, cond, not}
 use mathlib.Core.List.{List}
@@ -18,6 +18,7 @@ use Rattle.rtr_receiver.specs.History.{has_table}
 use Rattle.rtr_receiver.specs.Promises.{is_receiver}
 use Rattle.rtr_receiver.specs.Promises.Reason.{live_over, live_rules}
 use Rattle.rtr_receiver.specs.declared.Session.{Session}
+use Rattle.rtr_receiver.specs.declared.Table.{Table}
 use Rattle.rtr_receiver.proofs.Shape.{shape-exactly}
 use Rattle.rtr_origin.specs.Origin.{longest_in, state_of}
 use Rattle.rtr_origin.specs.Promises.{validate_says, route_refusal}
@@ -41,6 +42,15 @@ over n q e = rw e (go (leb q.length n) refl)
     go : (b : Bool) → leb q.length n ≡ b → ltb n q.length ≡ not b
     go true w = le-ltb n q.length (leb-true q.length n w)
     go false w = lt-ltb n q.length (leb-false q.length n w)
+
+-- what the test for a table says
+pub tabled : (t : Option Table) (b : Bool) → is_some t ≡ not b → b ≡ false → has_table t ≡ true
+tabled None b e w = e ∙ ap not w
+tabled (Some _) b e w = refl
+
+pub untabled : (t : Option Table) (b : Bool) → is_some t ≡ not b → b ≡ true → t ≡ None
+untabled None b e w = refl
+untabled (Some _) b e w = absurd (cc)
 
 module _ (limit : ℕ) (s : Session) (live working : Rooms) (hold : List ℕ) (q : Route) where
   pub bar-22 : is_receiver limit s live working hold ≡ false → 22 ≡ bar_says limit s live working hold q

@@ -17,7 +17,7 @@ is_ipv4 first w1 w2 w3 = eqb (first / 65536) 4 && (leb (first % 65536) 32 && (eq
 abbrev pub is_ipv6 : ℕ → Bool
 is_ipv6 first = eqb (first / 65536) 6 && leb (first % 65536) 128
 
--- the route that has these numbers; Unknown where none has: not six of them, another family, too long for it, or a spare that is not 0
+-- the route that has these numbers; None where none has: not six of them, another family, too long for it, or a spare that is not 0
 unfoldable pub route_of : List ℕ → Option Route
 route_of n =
     cond (eqb (length n) 6)

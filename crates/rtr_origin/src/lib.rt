@@ -421,22 +421,25 @@ fn is_too_long(q: Route) -> bool
 }
 
 // 22, then 21, then 23.
-fn barred(s: Session, live: &[u32], working: &[u32], hold: &[u8], q: Route) -> Result<(), ValidateError>
+fn barred(
+    s: Session,
+    live: &[u32],
+    working: &[u32],
+    hold: &[u8],
+    q: Route,
+) -> Result<(), ValidateError>
     ensures { bar_said result ≡ bar_says s.life.limit s live.now working.now hold.now q }
 {
     if !is_receiver(s, live, working, hold) {
         return Err(ValidateError::NotAReceiver);
     }
-    let table = s.table;
-    match table {
-        None => Err(ValidateError::NoTable),
-        Some(_) => {
-            if is_too_long(q) {
-                return Err(ValidateError::TooLong);
-            }
-            Ok(())
-        }
+    if s.table.is_none() {
+        return Err(ValidateError::NoTable);
     }
+    if is_too_long(q) {
+        return Err(ValidateError::TooLong);
+    }
+    Ok(())
 }
 
 // A route's state, by looking at every record of the live table.
@@ -449,26 +452,22 @@ pub fn validate_by_scan(
 ) -> Result<RouteState, ValidateError>
     ensures { route_said result ≡ validate_says s.life.limit s live.now working.now hold.now q }
 {
-    match barred(s, live, working, hold, q) {
-        Err(error) => Err(error),
-        Ok(()) => {
-            let counts = s.live;
-            Ok(name(scan(live, counts.records, as_record(q))))
-        }
-    }
+    barred(s, live, working, hold, q)?;
+    Ok(name(scan(live, s.live.records, as_record(q))))
 }
 
 // A route's state, by the order of the live table.
-pub fn validate(s: Session, live: &[u32], working: &[u32], hold: &[u8], q: Route) -> Result<RouteState, ValidateError>
+pub fn validate(
+    s: Session,
+    live: &[u32],
+    working: &[u32],
+    hold: &[u8],
+    q: Route,
+) -> Result<RouteState, ValidateError>
     ensures { route_said result ≡ validate_says s.life.limit s live.now working.now hold.now q }
 {
-    match barred(s, live, working, hold, q) {
-        Err(error) => Err(error),
-        Ok(()) => {
-            let counts = s.live;
-            Ok(by_order(live, counts.records, 0, 0, q))
-        }
-    }
+    barred(s, live, working, hold, q)?;
+    Ok(by_order(live, s.live.records, 0, 0, q))
 }
 
 // ---- A route from numbers
@@ -519,7 +518,7 @@ fn is_ipv6(first: u32) -> bool
     first % 65536 <= 128
 }
 
-// The route that six numbers are; Unknown where there are not six, of another family, too long, or with a spare number that is not 0.
+// The route that six numbers are; None where there are not six, of another family, too long, or with a spare number that is not 0.
 pub fn route_of(numbers: &[u32]) -> Option<Route>
     ensures { result ≡ route_of numbers.now }
 {

@@ -167,17 +167,13 @@ pub fn validate_all(
     if routes.len() % 6 != 0 {
         return Err(PeerError::OutOfShape);
     }
-    let table = s.table;
-    match table {
-        None => Err(PeerError::NoTable),
-        Some(_) => {
-            let needed = routes.len() / 6;
-            if states.len() < needed {
-                return Err(PeerError::StatesShort { needed });
-            }
-            let counts = s.live;
-            fill_states(live, counts.records, routes, states);
-            Ok(needed)
-        }
+    if s.table.is_none() {
+        return Err(PeerError::NoTable);
     }
+    let needed = routes.len() / 6;
+    if states.len() < needed {
+        return Err(PeerError::StatesShort { needed });
+    }
+    fill_states(live, s.live.records, routes, states);
+    Ok(needed)
 }

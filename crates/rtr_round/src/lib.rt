@@ -9,13 +9,14 @@ use rtr_encode::{EncodeError, encode};
 use rtr_models::RtrPdu;
 
 // Reads a slice and encodes what was read.
-fn recode(input: &[u8], out: &mut [u8]) -> Result<(RtrPdu, usize, Result<usize, EncodeError>), RtrError>
+fn recode(
+    input: &[u8],
+    out: &mut [u8],
+) -> Result<(RtrPdu, usize, Result<usize, EncodeError>), RtrError>
     ensures { Recoded input.now out.old result out.new }
 {
-    match parse_rtr_pdu(input) {
-        Ok((pdu, n)) => Ok((pdu, n, encode(pdu, input, out))),
-        Err(error) => Err(error),
-    }
+    let (pdu, n) = parse_rtr_pdu(input)?;
+    Ok((pdu, n, encode(pdu, input, out)))
 }
 
 // Encodes a PDU.

@@ -3,8 +3,8 @@
 // safe and ending; it promises nothing of its sums, which the bench compares.
 #![tactic(auto)]
 
-use rtr_codec::{parse_rtr_pdu};
-use rtr_encode::{encode};
+use rtr_codec::parse_rtr_pdu;
+use rtr_encode::encode;
 use rtr_models::*;
 use rtr_stream::{Stream, search};
 
@@ -130,8 +130,7 @@ struct Took {
 }
 
 fn read_one(sum: u64, bytes: &[u8]) -> Took {
-    let answer = parse_rtr_pdu(bytes);
-    match answer {
+    match parse_rtr_pdu(bytes) {
         Ok((pdu, n)) => Took {
             n,
             sum: mix_pdu(sum, pdu, bytes),
@@ -161,8 +160,7 @@ pub extern "C" fn bench_read(bytes: &[u8]) -> u64 {
 
 // Every PDU of a run is read, and only its length is used.
 fn pass_one(sum: u64, bytes: &[u8]) -> Took {
-    let answer = parse_rtr_pdu(bytes);
-    match answer {
+    match parse_rtr_pdu(bytes) {
         Ok((_, n)) => Took {
             n,
             sum: mix(sum, n as u64),
@@ -204,16 +202,14 @@ fn mix_written(sum: u64, out: &[u8], n: usize) -> u64 {
 }
 
 fn encode_one(sum: u64, pdu: RtrPdu, bytes: &[u8], out: &mut [u8]) -> u64 {
-    let answer = encode(pdu, bytes, out);
-    match answer {
+    match encode(pdu, bytes, out) {
         Ok(n) => mix_written(sum, out, n),
         Err(_) => sum,
     }
 }
 
 fn recode_one(sum: u64, bytes: &[u8], out: &mut [u8]) -> Took {
-    let answer = parse_rtr_pdu(bytes);
-    match answer {
+    match parse_rtr_pdu(bytes) {
         Ok((pdu, n)) => Took {
             n,
             sum: encode_one(sum, pdu, bytes, out),
@@ -254,18 +250,17 @@ struct Heard {
 // The sum has where each PDU ends.
 fn hear_one(hold: &mut [u8], piece: &[u8], h: Heard) -> Heard {
     let searched = search(hold, Stream { held: h.held }, piece, h.next);
-    let stream = searched.stream;
+    let held = searched.stream.held;
     let next = searched.next;
-    let answer = searched.answer;
-    match answer {
-        Ok(Some((_, _))) => Heard {
-            held: stream.held,
+    match searched.answer {
+        Ok(Some(_)) => Heard {
+            held,
             next,
             sum: mix(h.sum, next as u64),
             is_more: true,
         },
         _ => Heard {
-            held: stream.held,
+            held,
             next,
             sum: h.sum,
             is_more: false,

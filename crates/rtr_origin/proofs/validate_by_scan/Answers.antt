@@ -1,6 +1,9 @@
 -- `validate_by_scan`: the refusals, then the state of the strongest record. Assumes nothing.
+use Rattle.std.specs.Prelude.{Err}
+use Rattle.std.proofs.lemmas.Result.{err_from_is_err_and}
 use mathlib.Core.Path.{ap, ◌∙◌}
 use Rattle.rtr_receiver.specs.Contents.{contents}
+use Rattle.rtr_origin.specs.Promises.{route_said}
 use Rattle.rtr_origin.specs.Promises.RouteSays.{state}
 use Rattle.rtr_origin.proofs.Answers.{shut-is, open_is, live-room, as-named}
 use Rattle.rtr_origin.proofs.Tabled.{size}
@@ -9,16 +12,17 @@ use Rattle.rtr_origin.proofs.validate_by_scan.Goals as goal
 pub scan-requires : goal.scan-requires
 scan-requires c =
     let a = c.args in
-    size a.live.now a.s.live.records (live-room a.s.life.limit a.s a.live.now a.working.now a.hold.now (open_is a.s.life.limit a.s a.live.now a.working.now a.hold.now a.q _ c.in-Ok.is c.barred.ensures).0)
+    size a.live.now a.s.live.records (live-room a.s.life.limit a.s a.live.now a.working.now a.hold.now (open_is a.s.life.limit a.s a.live.now a.working.now a.hold.now a.q _ c.in_ok-barred.was c.barred.ensures).0)
 
-pub returns-in-Err : goal.returns-in-Err
-returns-in-Err c =
+pub returns-in_err-barred : goal.returns-in_err-barred
+returns-in_err-barred c =
     let a = c.args in
-    shut-is a.s.life.limit a.s a.live.now a.working.now a.hold.now a.q _ _ c.in-Err.is c.barred.ensures
+    let p = err_from_is_err_and c.from_residual.result c.from_residual.ensures.1 in
+    ap route_said (p.1 ∙ ap (λ e. Err e) p.2) ∙ shut-is a.s.life.limit a.s a.live.now a.working.now a.hold.now a.q _ _ c.in_err-barred.was c.barred.ensures
 
-pub returns-in-Ok : goal.returns-in-Ok
-returns-in-Ok c =
+pub returns : goal.returns
+returns c =
     let a = c.args in
     let t = c.as_record in
     ap state (as-named a.q t.result t.ensures.0 t.ensures.1 (contents a.s.live a.live.now) _ _ c.name.ensures c.scan.ensures)
-    ∙ (open_is a.s.life.limit a.s a.live.now a.working.now a.hold.now a.q _ c.in-Ok.is c.barred.ensures).1
+    ∙ (open_is a.s.life.limit a.s a.live.now a.working.now a.hold.now a.q _ c.in_ok-barred.was c.barred.ensures).1
