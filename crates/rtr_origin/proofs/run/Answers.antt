@@ -11,17 +11,8 @@ use Rattle.rtr_origin.proofs.Tabled.{size}
 use Rattle.rtr_origin.proofs.Engine.{run_ends}
 use Rattle.rtr_origin.proofs.run.Goals as goal
 
-pub rank_of-i-requires : goal.rank_of-i-requires
-rank_of-i-requires c = c.requires.0
-
 pub loop-i-init : goal.loop-i-init
-loop-i-init c =
-    let a = c.args in (
-      c.rank_of-i.ensures.0 ∙ ap (λ (r : Record). rank r (records a.count a.live.now)) c.probe.ensures,
-      omega arith,
-      λ j l m. absurd (omega arith),
-      omega arith,
-    )
+loop-i-init c = (λ j l m. absurd (omega arith), omega arith)
 
 pub record_of-x-requires : goal.record_of-x-requires
 record_of-x-requires c = (let a = c.args in omega (arith, size a.live.now a.count c.requires.0))
@@ -31,9 +22,9 @@ returns-then-family c =
     let a = c.args in
     let at-loop = c.loop-i in
     record {
-      there = at-loop.invariant.3;
+      there = at-loop.invariant.1;
       all-loose = λ q least k u m l e.
-          run_ends a.live.now a.count c.requires.0 q a.a k least a.loose u c.requires.1 _ at-loop.i at-loop.best at-loop.invariant.0 at-loop.invariant.2 m l e at-loop.invariant.1
+          run_ends a.live.now a.count c.requires.0 q a.a k least a.loose u c.requires.1 _ at-loop.i at-loop.best (c.rank_of-i.ensures.0 ∙ ap (λ (r : Record). rank r (records a.count a.live.now)) c.probe.ensures) at-loop.invariant.0 m l e at-loop.auto.i
           (λ n f g. c.if-family.true (c.family.ensures ∙ ap family_of c.record_of-x.ensures ∙ f ∙ sym c.family-in-loop-i.ensures));
     }
 
@@ -42,9 +33,9 @@ returns-then-bits-loose c =
     let a = c.args in
     let at-loop = c.loop-i in
     record {
-      there = at-loop.invariant.3;
+      there = at-loop.invariant.1;
       all-loose = λ q least k u m l e.
-          run_ends a.live.now a.count c.requires.0 q a.a k least a.loose u c.requires.1 _ at-loop.i at-loop.best at-loop.invariant.0 at-loop.invariant.2 m l e at-loop.invariant.1
+          run_ends a.live.now a.count c.requires.0 q a.a k least a.loose u c.requires.1 _ at-loop.i at-loop.best (c.rank_of-i.ensures.0 ∙ ap (λ (r : Record). rank r (records a.count a.live.now)) c.probe.ensures) at-loop.invariant.0 m l e at-loop.auto.i
           (λ n f g.
           omega (
             arith,
@@ -59,14 +50,9 @@ loop-i-preserved-then-prefix_length-bits c =
     let at-loop = c.loop-i in
     let a = c.args in
     let none = few-in-common a.a _ _ _ c.common-bits.ensures c.prefix_length.ensures c.if-prefix_length-bits.true ∙ ap (strength a.a) c.record_of-x.ensures in (
-      at-loop.invariant.0,
-      omega (arith, at-loop.invariant.1),
-      one-more-from (λ k. strength a.a (record_at a.live.now k)) _ at-loop.i at-loop.best at-loop.best at-loop.invariant.2 (omega arith) (omega (arith, none)),
-      at-loop.invariant.3,
+      one-more-from (λ k. strength a.a (record_at a.live.now k)) _ at-loop.i at-loop.best at-loop.best at-loop.invariant.0 (omega arith) (omega (arith, none)),
+      at-loop.invariant.1,
     )
-
-pub judge_alike-more-requires : goal.judge_alike-more-requires
-judge_alike-more-requires c = (sym c.family.ensures ∙ c.if-family.false ∙ c.family-in-loop-i.ensures, c.common-bits.ensures)
 
 pub returns-then-more-eq2 : goal.returns-then-more-eq2
 returns-then-more-eq2 c =
@@ -83,10 +69,8 @@ loop-i-preserved c =
     let a = c.args in
     let at-loop = c.loop-i in
     let told = c.judge_alike-more.ensures ∙ ap (strength a.a) c.record_of-x.ensures in (
-      at-loop.invariant.0,
-      omega (arith, at-loop.invariant.1),
-      one-more-from (λ k. strength a.a (record_at a.live.now k)) _ at-loop.i at-loop.best c.higher-best.result at-loop.invariant.2 c.higher-best.ensures.0 (omega (arith, told, c.higher-best.ensures.1)),
-      c.higher-best.ensures.2 _ at-loop.invariant.3 (omega (arith, told, each_within a.a a.live.now a.count at-loop.i (omega arith))),
+      one-more-from (λ k. strength a.a (record_at a.live.now k)) _ at-loop.i at-loop.best c.higher-best.result at-loop.invariant.0 c.higher-best.ensures.0 (omega (arith, told, c.higher-best.ensures.1)),
+      c.higher-best.ensures.2 _ at-loop.invariant.1 (omega (arith, told, each_within a.a a.live.now a.count at-loop.i (omega arith))),
     )
 
 pub returns : goal.returns
@@ -94,8 +78,8 @@ returns c =
     let a = c.args in
     let at-loop = c.loop-i in
     record {
-      there = at-loop.invariant.3;
+      there = at-loop.invariant.1;
       all-loose = λ q least k u m l e.
-          run_ends a.live.now a.count c.requires.0 q a.a k least a.loose u c.requires.1 _ at-loop.i at-loop.best at-loop.invariant.0 at-loop.invariant.2 m l e at-loop.invariant.1
+          run_ends a.live.now a.count c.requires.0 q a.a k least a.loose u c.requires.1 _ at-loop.i at-loop.best (c.rank_of-i.ensures.0 ∙ ap (λ (r : Record). rank r (records a.count a.live.now)) c.probe.ensures) at-loop.invariant.0 m l e at-loop.auto.i
           (λ n f g. omega (arith, c.loop-i-test.false));
     }

@@ -6,7 +6,7 @@ use Rattle.rtr_origin.proofs.Judging.{each_within, all-within, strongest-within,
 use Rattle.rtr_origin.proofs.scan.Goals as goal
 
 pub loop-i-init : goal.loop-i-init
-loop-i-init c = (omega arith, λ k l. absurd (omega arith), omega arith)
+loop-i-init c = (λ k l. absurd (omega arith), omega arith)
 
 pub returns-then-next-eq2 : goal.returns-then-next-eq2
 returns-then-next-eq2 c =
@@ -20,13 +20,12 @@ loop-i-preserved c =
     let a = c.args in
     let at-loop = c.loop-i in
     let told = c.judge-next.ensures ∙ ap (strength a.a) c.record_of.ensures in (
-      omega arith,
-      one_more (λ k. strength a.a (record_at a.live.now k)) at-loop.i at-loop.best c.higher-best.result at-loop.invariant.1 c.higher-best.ensures.0 (omega (arith, told, c.higher-best.ensures.1)),
-      c.higher-best.ensures.2 _ at-loop.invariant.2 (omega (arith, told, each_within a.a a.live.now a.count at-loop.i (omega arith))),
+      one_more (λ k. strength a.a (record_at a.live.now k)) at-loop.i at-loop.best c.higher-best.result at-loop.invariant.0 c.higher-best.ensures.0 (omega (arith, told, c.higher-best.ensures.1)),
+      c.higher-best.ensures.2 _ at-loop.invariant.1 (omega (arith, told, each_within a.a a.live.now a.count at-loop.i (omega arith))),
     )
 
 pub returns : goal.returns
 returns c =
     let a = c.args in
     let at-loop = c.loop-i in
-    omega (arith, at-loop.invariant.2, all-within a.a a.live.now a.count at-loop.best (λ k l. at-loop.invariant.1 k (omega arith)))
+    omega (arith, at-loop.invariant.1, all-within a.a a.live.now a.count at-loop.best (λ k l. at-loop.invariant.0 k (omega arith)))
