@@ -11,9 +11,6 @@ use Rattle.rtr_origin.proofs.Tabled.{size}
 use Rattle.rtr_origin.proofs.Engine.{run_ends}
 use Rattle.rtr_origin.proofs.run.Goals as goal
 
-pub loop-i-init : goal.loop-i-init
-loop-i-init c = (λ j l m. absurd (omega arith), omega arith)
-
 pub record_of-x-requires : goal.record_of-x-requires
 record_of-x-requires c = (let a = c.args in omega (arith, size a.live.now a.count c.requires.0))
 

@@ -5,9 +5,6 @@ use Rattle.rtr_origin.specs.Judged.{strength}
 use Rattle.rtr_origin.proofs.Judging.{each_within, all-within, strongest-within, one_more}
 use Rattle.rtr_origin.proofs.scan.Goals as goal
 
-pub loop-i-init : goal.loop-i-init
-loop-i-init c = (λ k l. absurd (omega arith), omega arith)
-
 pub returns-then-next-eq2 : goal.returns-then-next-eq2
 returns-then-next-eq2 c =
     let a = c.args in

@@ -1,9 +1,8 @@
 use Prim.Native.Nat.{ℕ, ◌+◌, ◌*◌, ◌≤◌}
-use mathlib.Core.Path.{◌≡◌, refl, sym, ap, ◌∙◌}
+use mathlib.Core.Path.{◌≡◌, sym, ap, ◌∙◌}
 use native.Mathlib.Omega.{arith}
 use lib.ListN.{length, drop, length-append, length-drop}
-use Rattle.std.specs.Iterator.Adapters.{enumerate_source, enumerate_count}
-use Rattle.std.specs.Slice.Iter.{chunks_exact_rest}
+use Rattle.std.specs.Iterator.Adapters.{enumerate_count}
 use Rattle.rtr_base.proofs.Overs.{over_nothing}
 use Rattle.rtr_base.specs.Over.{over}
 use Rattle.rtr_origin.specs.Peer.{route_count}

@@ -1,6 +1,4 @@
-use mathlib.Core.Path.{◌≡◌}
 use native.Mathlib.Numerals.{add-one}
-use native.Mathlib.Omega.{arith}
 use Rattle.rtr_origin.proofs.Surveys.{looked-at-none, looked-at-one-more}
 use Rattle.rtr_origin.proofs.peer.survey.Goals as goal
 
@@ -17,9 +15,3 @@ loop-i-preserved c =
       rw add-one (looked-at-one-more 4 l.i a.live.now _ _ _ l.invariant.0 record_is c.with_record-four.ensures),
       rw add-one (looked-at-one-more 6 l.i a.live.now _ _ _ l.invariant.1 record_is c.with_record-six.ensures),
     )
-
-pub returns : goal.returns
-returns c =
-    let l = c.loop-i in
-    let all : l.i ≡ c.args.count = omega arith in
-    (λ k. record { four = (rw all at l.invariant.0) k; six = (rw all at l.invariant.1) k })
