@@ -1,8 +1,8 @@
-use Rattle.std.proofs.Common.{◌≡◌, ℕ, ◌/◌, ◌≤◌, ap, ◌∙◌, arith}
-use Rattle.rtr_room.specs.Room.{is_room, limit_of, records}
+use Rattle.std.proofs.Common.{ℕ, ◌/◌, ◌≤◌, ap, arith}
+use Rattle.rtr_room.specs.Room.{limit_of, records}
 use Rattle.rtr_room.proofs.Laws.{records-length}
 use Rattle.rtr_receiver.proofs.Memory.{room-size}
-use Rattle.rtr_receiver.proofs.Gathering.{gathered_none, gathered-stays, gathered-on}
+use Rattle.rtr_receiver.proofs.Gathering.{gathered_none, gathered-on}
 use Rattle.rtr_receiver.proofs.gather.Goals as goal
 
 pub overflow_sub-working : goal.overflow_sub-working
@@ -18,17 +18,6 @@ loop-n-init c =
           (omega (arith, records-length a.count a.working.now, few)) c.requires.1 c.requires.2,
     )
 
-pub gather_one-after-requires : goal.gather_one-after-requires
-gather_one-after-requires c =
-    let head = c.loop-n.invariant in
-    (c.requires.0, ap (λ (m : ℕ). is_room (m / 6) c.loop-n.n c.loop-n.tail) c.loop-n.auto.tail ∙ head.2.ruled, head.2.inside)
-
-pub returns-then-after-next : goal.returns-then-after-next
-returns-then-after-next c =
-    let a = c.args in
-    gathered-stays (limit_of a.working.now) (limit_of a.tail.now) a.version a.piece.now a.at a.working.now a.count c.loop-n.tail _ c.loop-n.n c.loop-n.next _ c.loop-n.invariant.2
-    c.gather_one-after.ensures c.if-after-next.true
-
 pub loop-n-preserved : goal.loop-n-preserved
 loop-n-preserved c =
     let a = c.args in
@@ -38,8 +27,3 @@ loop-n-preserved c =
       gathered-on (limit_of a.working.now) (limit_of a.tail.now) a.version a.piece.now a.at a.working.now a.count c.loop-n.tail _ c.loop-n.n c.loop-n.next _ inv.2
           c.gather_one-after.ensures c.if-after-next.false (omega (arith, inv.1, c.loop-n-test.true)) (ap (λ (m : ℕ). m / 6) c.loop-n.auto.tail),
     )
-
-pub returns : goal.returns
-returns c =
-    let all : c.loop-n.n ≡ c.least-most.result = omega (arith, c.loop-n-test.false) in
-    rw all at c.loop-n.invariant.2
