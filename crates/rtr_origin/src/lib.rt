@@ -347,6 +347,7 @@ fn walk(live: &[u32], count: usize, least: u32, a: Record) -> u32
 {
     let mut best = 0;
     let mut p = rank_of(live, count, high_probe(a, a.prefix_length()));
+    // No count: the next place is where a jump comes down, if not the one below.
     while p > 0 {
         let x = record_of(live, p - 1);
         if x.family() != a.family() {

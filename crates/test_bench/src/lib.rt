@@ -145,6 +145,7 @@ fn read_one(sum: u64, bytes: &[u8]) -> Took {
 pub extern "C" fn bench_read(bytes: &[u8]) -> u64 {
     let mut at = 0;
     let mut sum = 0;
+    // No count: the next PDU begins where this one ends.
     while at < bytes.len() {
         let took = read_one(sum, &bytes[at..]);
         sum = took.sum;
@@ -175,6 +176,7 @@ fn pass_one(sum: u64, bytes: &[u8]) -> Took {
 pub extern "C" fn bench_pass(bytes: &[u8]) -> u64 {
     let mut at = 0;
     let mut sum = 0;
+    // No count: the next PDU begins where this one ends.
     while at < bytes.len() {
         let took = pass_one(sum, &bytes[at..]);
         sum = took.sum;
@@ -227,6 +229,7 @@ fn recode_one(sum: u64, bytes: &[u8], out: &mut [u8]) -> Took {
 pub extern "C" fn bench_recode(bytes: &[u8], out: &mut [u8]) -> u64 {
     let mut at = 0;
     let mut sum = 0;
+    // No count: the next PDU begins where this one ends.
     while at < bytes.len() {
         let took = recode_one(sum, &bytes[at..], out);
         sum = took.sum;
