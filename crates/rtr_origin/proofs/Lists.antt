@@ -9,7 +9,7 @@ use native.Mathlib.Omega.{arith}
 use native.Mathlib.Numerals.{add-one}
 use lib.Dec.{eqb}
 use lib.ListN.{length, get_or, take, drop, set}
-use lib.Seq.{drop-drop}
+use lib.Seq.{take_at, drop_at, drop-drop}
 use Rattle.rtr_base.specs.Over.{over}
 use Rattle.rtr_base.proofs.Overs.{set-over, next}
 use Rattle.rtr_encode.specs.Encode.{Writing}
@@ -28,6 +28,14 @@ use Rattle.rtr_origin.proofs.Numbers.{numbers-of-route}
 -- the six numbers of route i
 abbrev pub six_at : List ℕ → ℕ → List ℕ
 six_at routes i = take 6 (drop (6 * i) routes)
+
+-- the first six of what is left behind i routes are route i's, and the rest is what is left behind one route more
+pub six_taken : (routes rest six more : List ℕ) (i : ℕ) → rest ≡ drop (6 * i) routes → rest ≡ six ++ more → length six ≡ 6 → (six ≡ six_at routes i) × (more ≡ drop (6 * (i + 1)) routes)
+six_taken routes rest six more i left parts long =
+    let further : 6 * i + 6 ≡ 6 * (i + 1) = omega arith in (
+      sym (take_at six more 6 long) ∙ ap (take 6) (sym parts ∙ left),
+      sym (drop_at six more 6 long) ∙ ap (drop 6) (sym parts ∙ left) ∙ drop-drop 6 (6 * i) routes ∙ ap (λ (k : ℕ). drop k routes) further,
+    )
 
 -- what the code puts in a place
 module _ (t : List Record) (six : List ℕ) (f : Option Route) (found : f ≡ route_of six) where

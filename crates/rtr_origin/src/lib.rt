@@ -236,14 +236,12 @@ fn scan(live: &[u32], count: usize, a: Record) -> u32
     ensures { result ≡ strongest a (records count live.now) }
 {
     let mut best = 0;
-    let mut i = 0;
-    while i < count {
+    for i in 0..count {
         let next = judge(a, record_of(live, i));
         if next == 2 {
             return 2;
         }
         best = higher(best, next);
-        i += 1;
     }
     best
 }
@@ -336,6 +334,7 @@ fn walk(live: &[u32], count: usize, least: u32, a: Record) -> u32
 {
     let mut best = 0;
     let mut p = rank_of(live, count, high_probe(a, a.prefix_length()));
+    // No count: the next place is where a jump comes down, if not the one below.
     while p > 0 {
         let x = record_of(live, p - 1);
         if x.family() != a.family() {
@@ -366,8 +365,7 @@ fn run(live: &[u32], count: usize, loose: u32, a: Record) -> u32
     ensures { Ran loose a live.now count result }
 {
     let mut best = 0;
-    let mut i = rank_of(live, count, probe(a, loose, 0, 0));
-    while i < count {
+    for i in rank_of(live, count, probe(a, loose, 0, 0))..count {
         let x = record_of(live, i);
         if x.family() != a.family() {
             return best;
@@ -378,15 +376,13 @@ fn run(live: &[u32], count: usize, loose: u32, a: Record) -> u32
         }
         // most records in the run are longer than the bits in common, and need no more tests
         if x.prefix_length() > bits {
-            i += 1;
-        } else {
-            let more = judge_alike(a, x, bits);
-            if more == 2 {
-                return 2;
-            }
-            best = higher(best, more);
-            i += 1;
+            continue;
         }
+        let more = judge_alike(a, x, bits);
+        if more == 2 {
+            return 2;
+        }
+        best = higher(best, more);
     }
     best
 }

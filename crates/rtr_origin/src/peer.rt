@@ -97,12 +97,10 @@ fn survey(live: &[u32], count: usize) -> Families
         least: 255,
         loose: 255,
     };
-    let mut i = 0;
-    while i < count {
+    for i in 0..count {
         let x = record_of(live, i);
         four = with_record(four, 4, x);
         six = with_record(six, 6, x);
-        i += 1;
     }
     Families { four, six }
 }
@@ -140,13 +138,8 @@ fn fill_states(live: &[u32], count: usize, routes: &[u32], states: &mut [u8])
     ensures { states.new ≡ over states.old 0 (states_of (state_by (records count live.now)) routes.now) }
 {
     let v = survey(live, count);
-    let n = routes.len() / 6;
-    let mut i = 0;
-    while i < n {
-        let at = 6 * i;
-        let end = at + 6;
-        states[i] = place_of(live, count, v, &routes[at..end]);
-        i += 1;
+    for (i, numbers) in routes.chunks_exact(6).enumerate() {
+        states[i] = place_of(live, count, v, numbers);
     }
 }
 

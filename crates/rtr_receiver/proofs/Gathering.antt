@@ -202,10 +202,6 @@ module _ (limit k : ℕ) (version : RtrProtocolVersion) (piece : List ℕ) (at :
 
 module _ (limit k : ℕ) (version : RtrProtocolVersion) (piece : List ℕ) (at : ℕ) (working : Rooms) (count : ℕ) (tail tail' : Rooms) (n next after : ℕ)
     (g : GatheredTo limit k version piece at (records count working) tail n next) (one : GatheredOne version working count piece next n tail tail' after) where
-  -- nothing was taken: as before
-  pub gathered-stays : after ≡ next → GatheredTo limit k version piece at (records count working) tail' n next
-  gathered-stays e = ⊎_elim (λ z. subst (λ (s : Rooms). GatheredTo limit k version piece at (records count working) s n next) (sym z.1) g) (λ z. absurd (omega (arith, e, z.1))) one
-
   -- one was taken
   pub gathered-on : (after ≡ next → ⊥) → count + n < limit → limit_of tail ≡ k → GatheredTo limit k version piece at (records count working) tail' (n + 1) after
   gathered-on moved space size =

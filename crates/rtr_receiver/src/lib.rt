@@ -1032,17 +1032,15 @@ fn gather(
     ensures { GatheredTo (limit_of working.now) (limit_of tail.old) version piece.now at (records count working.now) tail.new result.count result.next }
 {
     let most = least(tail.len() / 6, working.len() / 6 - count);
-    let mut n = 0;
     let mut next = at;
-    while n < most {
+    for n in 0..most {
         let after = gather_one(version, working, count, tail, n, piece, next);
         if after == next {
             return Taken { count: n, next };
         }
-        n += 1;
         next = after;
     }
-    Taken { count: n, next }
+    Taken { count: most, next }
 }
 
 // A run of announcements enters the working room: gathered first, then merged. Where the next PDU is none the tail is not even set up.

@@ -55,11 +55,11 @@ module _ (limit H : ℕ) (v : RtrProtocolVersion) (calls : List Call) (m : Memor
 
 -- ---- the loop over the turns
 
--- the turns so far, with those that are left
+-- so many turns so far
 abbrev pub Going : Memory → ℕ → Memory → Type 0
-Going m turns m' = (pieces : List (List ℕ)) × Turns m pieces m' × (length pieces + turns ≡ most_turns)
+Going m turns m' = (pieces : List (List ℕ)) × Turns m pieces m' × (length pieces ≡ turns)
 
-pub going-none : (m : Memory) → Going m most_turns m
+pub going-none : (m : Memory) → Going m 0 m
 going-none m = ([], Turns.none, refl)
 
 -- a turn that has another behind it has read something
@@ -68,11 +68,11 @@ some_read (Turn.over none same closed) = absurd (true≢false closed)
 some_read (Turn.heard done above within fed more) = above
 
 module _ {m m' m'' : Memory} {buffer : List ℕ} {n : ℕ} {more : Bool} (turns : ℕ) (so_far : Going m turns m') (turn : Turn m' buffer n m'' more) where
-  -- one turn less is left
-  pub going_on : (left : ℕ) → more ≡ true → turns ≡ left + 1 → Going m left m''
-  going_on left wanted one =
+  -- one turn more
+  pub going_on : more ≡ true → Going m (turns + 1) m''
+  going_on wanted =
       let on : Turn m' buffer n m'' true = subst (Turn m' buffer n m'') wanted turn in
-      (so_far.0 ++ take n buffer ∷ [], Turns.next buffer n so_far.1 (some_read on) on, omega (arith, so_far.2, one, length-append so_far.0 (take n buffer ∷ [])))
+      (so_far.0 ++ take n buffer ∷ [], Turns.next buffer n so_far.1 (some_read on) on, omega (arith, so_far.2, length-append so_far.0 (take n buffer ∷ [])))
 
   pub going-ends : more ≡ false → HeardAll m n m''
   going-ends shut = by turn
@@ -81,8 +81,8 @@ module _ {m m' m'' : Memory} {buffer : List ℕ} {n : ℕ} {more : Bool} (turns 
       by (Turn.over none same closed) = subst (HeardAll m n) same (so_far.0, Input.over so_far.1 none)
       by (Turn.heard done above within fed wanted) = (so_far.0 ++ take n buffer ∷ [], Input.stopped buffer so_far.1 above (subst (Turn m' buffer n m'') shut turn))
 
-pub going-used : {m m' : Memory} (turns last : ℕ) → Going m turns m' → turns ≡ 0 → HeardAll m last m'
-going-used turns last so_far none = (so_far.0, Input.turns_used so_far.1 (omega (arith, so_far.2, none)))
+pub going-used : {m m' : Memory} (turns last : ℕ) → Going m turns m' → turns ≡ most_turns → HeardAll m last m'
+going-used turns last so_far all = (so_far.0, Input.turns_used so_far.1 (so_far.2 ∙ all))
 
 -- ---- the program from its start
 

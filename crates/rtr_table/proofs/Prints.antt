@@ -4,7 +4,7 @@ use Prim.Native.Nat.{ℕ, suc, ◌+◌, ◌-◌, ◌≤◌}
 use mathlib.Core.List.{List, ◌++◌, append_assoc, append-nil}
 use mathlib.Core.Path.{◌≡◌, refl, sym, ap, ◌∙◌, subst}
 use native.Mathlib.Omega.{arith}
-use lib.ListN.{length, take, drop, length-append, length-drop}
+use lib.ListN.{length, take, drop, length-append}
 use lib.Seq.{take_at, take-append-le, take-append-add, length-take-le}
 use Rattle.rtr_encode.specs.Encode.{Encoded}
 use Rattle.rtr_encode.specs.Encode.Writing.{written}
@@ -82,9 +82,3 @@ shows-next front live i {n} {k} {lines} {part} rest so_far here =
     subst (λ (text : List ℕ). Shows text (n + k) (take n lines ++ (part ++ rest)))
     (append_assoc front (lines_up_to live i) (lines_of (record_found live i)) ∙ ap (λ (j : ℕ). front ++ lines_up_to live j) place)
     (shows-behind rest so_far here)
-
--- there is room for one more part
-pub room-behind : (n : ℕ) (lines : List ℕ) → n + 128 ≤ length lines → 128 ≤ length (take (length lines - n) (drop n lines))
-room-behind n lines h =
-    let size : length (drop n lines) ≡ length lines - n = length-drop n lines in
-    omega (arith, h, size, length-take-le (length lines - n) (drop n lines) (omega (arith, size)))

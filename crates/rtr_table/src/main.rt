@@ -79,8 +79,8 @@ fn read_piece(input: &mut impl Read, piece: &mut [u8]) -> usize
     }
 }
 
-// The input to its end, or to a stop: nothing is read behind one, so that it is told at once on a connection that stays open. The loop counts
-// down, since nothing says that the input ends.
+// The input to its end, or to a stop: nothing is read behind one, so that it is told at once on a connection that stays open. The loop has a
+// last turn, since nothing says that the input ends.
 fn feed_all(
     input: &mut impl Read,
     s: Session,
@@ -93,15 +93,13 @@ fn feed_all(
     let mut piece = [0u8; 65536];
     let mut session = s;
     let mut last = 0;
-    let mut turns = u64::MAX;
-    while turns > 0 {
+    for _turn in 0..u64::MAX {
         last = read_piece(input, &mut piece);
         let heard = hear_piece(session, live, working, hold, &piece, last);
         session = heard.session;
         if !heard.is_open {
             return Ended { session, last };
         }
-        turns -= 1;
     }
     Ended { session, last }
 }
@@ -171,11 +169,9 @@ fn table_text(s: Session, live: &[u32], lines: &mut [u8]) -> usize
     let in_live = s.live;
     let count = in_live.records;
     let mut n = head_text(s, lines);
-    let mut i = 0;
-    while i < count {
+    for i in 0..count {
         let more = text_at(live, i, &mut lines[n..]);
         n += more;
-        i += 1;
     }
     n
 }

@@ -144,6 +144,7 @@ fn read_one(sum: u64, bytes: &[u8]) -> Took {
 pub extern "C" fn bench_read(bytes: &[u8]) -> u64 {
     let mut at = 0;
     let mut sum = 0;
+    // No count: the next PDU begins where this one ends.
     while at < bytes.len() {
         let took = read_one(sum, &bytes[at..]);
         sum = took.sum;
@@ -173,6 +174,7 @@ fn pass_one(sum: u64, bytes: &[u8]) -> Took {
 pub extern "C" fn bench_pass(bytes: &[u8]) -> u64 {
     let mut at = 0;
     let mut sum = 0;
+    // No count: the next PDU begins where this one ends.
     while at < bytes.len() {
         let took = pass_one(sum, &bytes[at..]);
         sum = took.sum;
@@ -223,6 +225,7 @@ fn recode_one(sum: u64, bytes: &[u8], out: &mut [u8]) -> Took {
 pub extern "C" fn bench_recode(bytes: &[u8], out: &mut [u8]) -> u64 {
     let mut at = 0;
     let mut sum = 0;
+    // No count: the next PDU begins where this one ends.
     while at < bytes.len() {
         let took = recode_one(sum, &bytes[at..], out);
         sum = took.sum;
@@ -275,42 +278,27 @@ fn hear_piece(hold: &mut [u8], piece: &[u8], held: usize, sum: u64) -> Heard {
         sum,
         is_more: true,
     };
-    let mut turns = u64::MAX;
-    while turns > 0 && h.is_more {
+    for _ in 0..u64::MAX {
         h = hear_one(hold, piece, h);
-        turns -= 1;
+        if !h.is_more {
+            return h;
+        }
     }
     h
 }
 
-// Where a piece of at most so many bytes ends.
-fn piece_end(n: usize, at: usize, size: usize) -> usize {
-    if at < n {
-        if size < n - at {
-            return at + size;
-        }
-    }
-    n
-}
-
-// Every PDU of a stream that comes in pieces.
+// Every PDU of a stream that comes in pieces; none in pieces of no byte.
 #[unsafe(no_mangle)]
 pub extern "C" fn bench_stream(hold: &mut [u8], bytes: &[u8], size: usize) -> u64 {
     let mut held = 0;
     let mut sum = 0;
-    let mut at = 0;
-    while at < bytes.len() {
-        let end = piece_end(bytes.len(), at, size);
-        if end <= at {
-            return sum;
-        }
-        if end > bytes.len() {
-            return sum;
-        }
-        let h = hear_piece(hold, &bytes[at..end], held, sum);
+    if size == 0 {
+        return sum;
+    }
+    for piece in bytes.chunks(size) {
+        let h = hear_piece(hold, piece, held, sum);
         held = h.held;
         sum = h.sum;
-        at = end;
     }
     sum
 }

@@ -1,12 +1,8 @@
--- `scan`: no record before the place speaks stronger than what was found, and that is no more than the strongest. The measure is what is left.
--- Assumes nothing.
-use Prim.Native.Nat.{ℕ, ◌-◌, ◌≤◌, ◌<◌}
+-- `scan`: no record before the place speaks stronger than what was found, and that is no more than the strongest. Assumes nothing.
+use Prim.Native.Nat.{ℕ, ◌≤◌, ◌<◌}
 use Rattle.rtr_room.specs.Room.{records, record_at}
 use Rattle.rtr_origin.specs.Judged.{strength, strongest}
 use Rattle.rtr_origin.proofs.scan.Given as goal
 
 abbrev pub invariant-loop-i : goal.invariant-loop-i
-invariant-loop-i l = (l.i ≤ l.count) × ((k : ℕ) → k < l.i → strength l.a (record_at l.live k) ≤ l.best) × (l.best ≤ strongest l.a (records l.count l.live))
-
-abbrev pub decreases-loop-i : goal.decreases-loop-i
-decreases-loop-i l = l.count - l.i
+invariant-loop-i l = ((k : ℕ) → k < l.i → strength l.a (record_at l.live k) ≤ l.best) × (l.best ≤ strongest l.a (records l.count l.live))

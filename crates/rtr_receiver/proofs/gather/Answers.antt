@@ -1,8 +1,8 @@
-use Rattle.std.proofs.Common.{ℕ, ◌/◌, ◌≤◌, refl, ap, ◌∙◌, arith}
-use Rattle.rtr_room.specs.Room.{is_room, limit_of, records}
+use Rattle.std.proofs.Common.{ℕ, ◌/◌, ◌≤◌, ap, arith}
+use Rattle.rtr_room.specs.Room.{limit_of, records}
 use Rattle.rtr_room.proofs.Laws.{records-length}
 use Rattle.rtr_receiver.proofs.Memory.{room-size}
-use Rattle.rtr_receiver.proofs.Gathering.{gathered_none, gathered-stays, gathered-on}
+use Rattle.rtr_receiver.proofs.Gathering.{gathered_none, gathered-on}
 use Rattle.rtr_receiver.proofs.gather.Goals as goal
 
 pub overflow_sub-working : goal.overflow_sub-working
@@ -12,37 +12,18 @@ pub loop-n-init : goal.loop-n-init
 loop-n-init c =
     let a = c.args in
     let few : a.count ≤ limit_of a.working.now = (room-size (limit_of a.working.now) a.count a.working.now c.requires.0).1 in (
-      refl,
       c.least-most.ensures.0,
       omega (arith, c.least-most.ensures.1, few),
       gathered_none (limit_of a.working.now) (limit_of a.tail.now) a.version a.piece.now a.at (records a.count a.working.now) a.tail.now
           (omega (arith, records-length a.count a.working.now, few)) c.requires.1 c.requires.2,
     )
 
-pub gather_one-after-requires : goal.gather_one-after-requires
-gather_one-after-requires c =
-    let head = c.loop-n.invariant in
-    (c.requires.0, ap (λ (m : ℕ). is_room (m / 6) c.loop-n.n c.loop-n.tail) head.0 ∙ head.3.ruled, head.3.inside)
-
-pub returns-then-after-next : goal.returns-then-after-next
-returns-then-after-next c =
-    let a = c.args in
-    gathered-stays (limit_of a.working.now) (limit_of a.tail.now) a.version a.piece.now a.at a.working.now a.count c.loop-n.tail _ c.loop-n.n c.loop-n.next _ c.loop-n.invariant.3
-    c.gather_one-after.ensures c.if-after-next.true
-
-pub loop-n-smaller : goal.loop-n-smaller
-loop-n-smaller c = omega (arith, c.loop-n-test.true)
-
 pub loop-n-preserved : goal.loop-n-preserved
 loop-n-preserved c =
     let a = c.args in
     let inv = c.loop-n.invariant in (
-      omega (arith, c.tail-1.given, inv.0),
+      inv.0,
       inv.1,
-      inv.2,
-      gathered-on (limit_of a.working.now) (limit_of a.tail.now) a.version a.piece.now a.at a.working.now a.count c.loop-n.tail _ c.loop-n.n c.loop-n.next _ inv.3
-          c.gather_one-after.ensures c.if-after-next.false (omega (arith, inv.2, c.loop-n-test.true)) (ap (λ (m : ℕ). m / 6) inv.0),
+      gathered-on (limit_of a.working.now) (limit_of a.tail.now) a.version a.piece.now a.at a.working.now a.count c.loop-n.tail _ c.loop-n.n c.loop-n.next _ inv.2
+          c.gather_one-after.ensures c.if-after-next.false (omega (arith, inv.1, c.loop-n-test.true)) (ap (λ (m : ℕ). m / 6) c.loop-n.auto.tail),
     )
-
-pub returns : goal.returns
-returns c = c.loop-n.invariant.3
