@@ -72,3 +72,8 @@ module _ (v : RtrProtocolVersion) where
 
     pub run_long : length (run_bytes LoadKind.Change v end s t) ≡ 8 + length (side_bytes v false s t) + length (side_bytes v true t s) + length (end_part v end)
     run_long = ap length run_is ∙ simp length-append (omega (arith, response-long v end.session))
+
+    -- so as long as the first PDU and the lengths that were counted of the other parts
+    pub run_needs : (gone come last : ℕ) → gone ≡ length (side_bytes v false s t) → come ≡ length (side_bytes v true t s) → last ≡ length (end_part v end)
+        → length (run_bytes LoadKind.Change v end s t) ≡ 8 + gone + come + last
+    run_needs gone come last e f g = omega (arith, run_long)

@@ -19,29 +19,24 @@ pub none-behind : (a : List ℕ) (m i : ℕ) (t : List Record) → IsRoom a m �
 none-behind a m i t ruled h = behind-all t (room-of-rules (limit_of a) m a ruled) i h
 
 -- the search was asked on two rooms
-pub record SearchSays (a : List ℕ) (m : ℕ) (b : List ℕ) (n i : ℕ) (answer : Result (Option ℕ) NotARoom) : Type 0 where
-  pub first : IsRoom a m
-  pub second : IsRoom b n
-  pub says : only_said answer ≡ next_only a m b n i
-
-module _ {a b : List ℕ} {m n i : ℕ} {answer : Result (Option ℕ) NotARoom} (x : SearchSays a m b n i answer) where
+module _ (a b : List ℕ) (m n i : ℕ) (answer : Result (Option ℕ) NotARoom) (rooms : IsRoom a m × IsRoom b n) (says : only_said answer ≡ next_only a m b n i) where
   one : RoomOf (records m a) a m
-  one = room-of-rules (limit_of a) m a x.first
+  one = room-of-rules (limit_of a) m a rooms.0
 
   other : RoomOf (records n b) b n
-  other = room-of-rules (limit_of b) n b x.second
+  other = room-of-rules (limit_of b) n b rooms.1
 
   pub found-next : (p : ℕ) → answer ≡ Ok (Some p) → NextAt (records m a) (records n b) a m i p
-  found-next p e = next-at one other i answer x.says p e
+  found-next p e = next-at one other i answer says p e
 
   -- which has all its numbers
   pub has-record : (p : ℕ) → answer ≡ Ok (Some p) → 6 * p + 6 ≤ length a
   has-record p e =
-      let size = rules-size (limit_of a) m a x.first in
+      let size = rules-size (limit_of a) m a rooms.0 in
       omega (arith, (found-next p e).below, size.0, size.1)
 
   pub none_left : answer ≡ Ok None → without (drop i (records m a)) (records n b) ≡ []
-  none_left e = next-nothing one other i answer x.says e
+  none_left e = next-nothing one other i answer says e
 
   pub never-refused : answer ≡ Err (record {}) → ⊥
-  never-refused e = next-never-22 one other i answer x.says e
+  never-refused e = next-never-22 one other i answer says e

@@ -204,6 +204,7 @@ fn side_length(a: &[u32], a_count: usize, b: &[u32], b_count: usize) -> usize
 {
     let mut sum = 0;
     let mut i = 0;
+    // No hand count: the next place is behind the one that was found.
     while i < a_count {
         match next_only(a, a_count, b, b_count, i) {
             Ok(Some(p)) => {
@@ -236,6 +237,7 @@ fn put_side(
 {
     let mut next = at;
     let mut i = 0;
+    // No hand count: the next place is behind the one that was found.
     while i < a_count {
         match next_only(a, a_count, b, b_count, i) {
             Ok(Some(p)) => {

@@ -50,12 +50,10 @@ pub fn next_only(a: &[u32], a_count: usize, b: &[u32], b_count: usize, from: usi
     if b_count > b.len() / 6 {
         return Err(NotARoom);
     }
-    let mut i = from;
-    while i < a_count {
+    for i in from..a_count {
         if !is_there(b, b_count, record_of(a, i)) {
             return Ok(Some(i));
         }
-        i += 1;
     }
     Ok(None)
 }

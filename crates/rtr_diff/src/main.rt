@@ -37,6 +37,7 @@ fn read_front(file: &mut impl Read, front: &mut [u8]) -> usize
     ensures { IsPrefixLen result front.new }
 {
     let mut done = 0;
+    // No hand count: each read says how far it went.
     while done < front.len() {
         let n = read_some(file, &mut front[done..]);
         if n == 0 {

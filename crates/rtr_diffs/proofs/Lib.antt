@@ -3,5 +3,6 @@ pub mod Laws
 pub mod Unique
 mod Parts
 mod Texts
+mod Search
 mod Sides
 mod Files

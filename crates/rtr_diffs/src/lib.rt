@@ -104,6 +104,7 @@ fn side_length(announced: bool, a: &[u32], a_count: usize, b: &[u32], b_count: u
 {
     let mut sum = 0;
     let mut i = 0;
+    // No hand count: the next place is behind the one that was found.
     while i < a_count {
         match next_only(a, a_count, b, b_count, i) {
             Ok(Some(p)) => {
@@ -135,6 +136,7 @@ fn put_side(
 {
     let mut next = at;
     let mut i = 0;
+    // No hand count: the next place is behind the one that was found.
     while i < a_count {
         match next_only(a, a_count, b, b_count, i) {
             Ok(Some(p)) => {

@@ -149,18 +149,10 @@ fn report_of(input: &[u8], out: &mut [u8]) -> usize {
     rtr_encode::encode_error_report(report, input, out).unwrap_or(0)
 }
 
+// The first n bytes, as far as both have them.
 fn copy_back(from: &[u8], n: usize, to: &mut [u8]) {
-    let mut i = 0;
-    while i < n {
-        if from.len() <= i {
-            return;
-        }
-        if to.len() <= i {
-            return;
-        }
-        to[i] = from[i];
-        i += 1;
-    }
+    let most = n.min(from.len()).min(to.len());
+    to[..most].copy_from_slice(&from[..most]);
 }
 
 // One report around the first n bytes of a buffer, in their place.
@@ -178,10 +170,8 @@ fn wrap(n: usize, out: &mut [u8]) -> usize {
 fn nest(levels: usize, core: &[u8], out: &mut [u8]) -> usize {
     let mut n = core.len();
     copy_back(core, n, out);
-    let mut k = 0;
-    while k < levels {
+    for _ in 0..levels {
         n = wrap(n, out);
-        k += 1;
     }
     n
 }

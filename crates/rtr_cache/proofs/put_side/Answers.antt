@@ -5,7 +5,7 @@ use Rattle.rtr_base.proofs.Told.{ok_told}
 use Rattle.rtr_room.specs.declared.Record.{Record}
 use Rattle.rtr_listing.specs.Private.{Fits, Put}
 use Rattle.rtr_cache.proofs.RunParts.{prefix_part}
-use Rattle.rtr_cache.proofs.Search.{SearchSays, none-behind, found-next, has-record, none_left, never-refused}
+use Rattle.rtr_cache.proofs.Search.{none-behind, found-next, has-record, none_left, never-refused}
 use Rattle.rtr_cache.proofs.Sides.{side-starts, side-fits, side-goes-on, side-ends}
 use Rattle.rtr_cache.proofs.put_side.Goals as goal
 
@@ -13,34 +13,27 @@ pub loop-i-init : goal.loop-i-init
 loop-i-init c = let a = c.args in (omega arith, refl, side-starts a.version a.announced _ _ a.out.now a.at)
 
 pub record_of-requires : goal.record_of-requires
-record_of-requires c =
-    let searched : SearchSays c.args.a.now c.args.a_count c.args.b.now c.args.b_count c.loop-i.i c.next_only.result = record { first = c.requires.0.0; second = c.requires.0.1; says = c.next_only.ensures } in
-    has-record searched _ (ok_told c.next_only.result _ _ c.in-Ok-Some.is c.in-Ok-Some.field-0-is)
+record_of-requires c = has-record _ _ _ _ _ _ c.requires.0 c.next_only.ensures _ (ok_told c.next_only.result _ _ c.in-Ok-Some.is c.in-Ok-Some.field-0-is)
 
 pub put_prefix-next-requires : goal.put_prefix-next-requires
 put_prefix-next-requires c =
-    let searched : SearchSays c.args.a.now c.args.a_count c.args.b.now c.args.b_count c.loop-i.i c.next_only.result = record { first = c.requires.0.0; second = c.requires.0.1; says = c.next_only.ensures } in
     let l = c.loop-i in
     let a = c.args in
     subst (λ (r : Record). Fits l.out l.next (prefix_part a.version a.announced r)) (sym c.record_of.ensures)
-    (side-fits l.invariant.2 c.in-Ok-Some.p _ (found-next searched _ (ok_told c.next_only.result _ _ c.in-Ok-Some.is c.in-Ok-Some.field-0-is)).rest c.requires.1 l.invariant.1)
+    (side-fits l.invariant.2 c.in-Ok-Some.p _ (found-next _ _ _ _ _ _ c.requires.0 c.next_only.ensures _ (ok_told c.next_only.result _ _ c.in-Ok-Some.is c.in-Ok-Some.field-0-is)).rest c.requires.1 l.invariant.1)
 
 pub overflow_add-i : goal.overflow_add-i
-overflow_add-i c =
-    let searched : SearchSays c.args.a.now c.args.a_count c.args.b.now c.args.b_count c.loop-i.i c.next_only.result = record { first = c.requires.0.0; second = c.requires.0.1; says = c.next_only.ensures } in
-    omega (arith, (found-next searched _ (ok_told c.next_only.result _ _ c.in-Ok-Some.is c.in-Ok-Some.field-0-is)).below)
+overflow_add-i c = omega (arith, (found-next _ _ _ _ _ _ c.requires.0 c.next_only.ensures _ (ok_told c.next_only.result _ _ c.in-Ok-Some.is c.in-Ok-Some.field-0-is)).below)
 
 pub loop-i-smaller : goal.loop-i-smaller
 loop-i-smaller c =
-    let searched : SearchSays c.args.a.now c.args.a_count c.args.b.now c.args.b_count c.loop-i.i c.next_only.result = record { first = c.requires.0.0; second = c.requires.0.1; says = c.next_only.ensures } in
-    let x = found-next searched _ (ok_told c.next_only.result _ _ c.in-Ok-Some.is c.in-Ok-Some.field-0-is) in
+    let x = found-next _ _ _ _ _ _ c.requires.0 c.next_only.ensures _ (ok_told c.next_only.result _ _ c.in-Ok-Some.is c.in-Ok-Some.field-0-is) in
     omega (arith, x.behind, x.below)
 
 pub loop-i-preserved : goal.loop-i-preserved
 loop-i-preserved c =
-    let searched : SearchSays c.args.a.now c.args.a_count c.args.b.now c.args.b_count c.loop-i.i c.next_only.result = record { first = c.requires.0.0; second = c.requires.0.1; says = c.next_only.ensures } in
     let l = c.loop-i in
-    let x = found-next searched _ (ok_told c.next_only.result _ _ c.in-Ok-Some.is c.in-Ok-Some.field-0-is) in
+    let x = found-next _ _ _ _ _ _ c.requires.0 c.next_only.ensures _ (ok_told c.next_only.result _ _ c.in-Ok-Some.is c.in-Ok-Some.field-0-is) in
     let a = c.args in
     let wrote = c.put_prefix-next in
     let made = c.record_of.ensures in
@@ -52,14 +45,10 @@ loop-i-preserved c =
     )
 
 pub returns-in-Ok-None : goal.returns-in-Ok-None
-returns-in-Ok-None c =
-    let searched : SearchSays c.args.a.now c.args.a_count c.args.b.now c.args.b_count c.loop-i.i c.next_only.result = record { first = c.requires.0.0; second = c.requires.0.1; says = c.next_only.ensures } in
-    side-ends c.loop-i.invariant.2 (none_left searched (ok_told c.next_only.result _ _ c.in-Ok-None.is c.in-Ok-None.field-0-is))
+returns-in-Ok-None c = side-ends c.loop-i.invariant.2 (none_left _ _ _ _ _ _ c.requires.0 c.next_only.ensures (ok_told c.next_only.result _ _ c.in-Ok-None.is c.in-Ok-None.field-0-is))
 
 pub returns-in-Err : goal.returns-in-Err
-returns-in-Err c =
-    let searched : SearchSays c.args.a.now c.args.a_count c.args.b.now c.args.b_count c.loop-i.i c.next_only.result = record { first = c.requires.0.0; second = c.requires.0.1; says = c.next_only.ensures } in
-    absurd (never-refused searched c.in-Err.is)
+returns-in-Err c = absurd (never-refused _ _ _ _ _ _ c.requires.0 c.next_only.ensures c.in-Err.is)
 
 pub returns : goal.returns
 returns c =
