@@ -1,4 +1,5 @@
 -- What the search for the next record of one room that the other has not says, on rooms by their rules. Assumes nothing.
+use Rattle.std.specs.Prelude.{Result, Ok, Err, Option, Some, None}
 use Prim.Native.Nat.{ℕ, ◌+◌, ◌*◌, ◌≤◌}
 use mathlib.Core.List.{List, []}
 use mathlib.Core.Path.{◌≡◌}
@@ -9,34 +10,34 @@ use Rattle.rtr_room.specs.declared.Record.{Record}
 use Rattle.rtr_room.proofs.Laws.{rules-size}
 use Rattle.rtr_receiver.specs.Promises.{record_limit}
 use Rattle.rtr_changes.specs.Changes.{without, next_only, only_said}
-use Rattle.rtr_changes.specs.declared.Only.{Only}
 use Rattle.rtr_changes.proofs.Laws.{room-of-rules, next-at, next-nothing, next-never-22, behind-all}
 use Rattle.rtr_changes.proofs.Places.{RoomOf, NextAt}
 use Rattle.rtr_diffs.specs.Private.{IsRoom}
+use Rattle.rtr_room.specs.declared.NotARoom.{NotARoom}
 
 -- behind the count nothing is left
 pub none-behind : (a : List ℕ) (m i : ℕ) (t : List Record) → IsRoom a m → m ≤ i → without (drop i (records m a)) t ≡ []
 none-behind a m i t ruled h = behind-all t (room-of-rules record_limit m a ruled) i h
 
 -- the search was asked on two rooms
-module _ (a b : List ℕ) (m n i : ℕ) (answer : Only) (rooms : IsRoom a m × IsRoom b n) (says : only_said answer ≡ next_only a m b n i) where
+module _ (a b : List ℕ) (m n i : ℕ) (answer : Result (Option ℕ) NotARoom) (rooms : IsRoom a m × IsRoom b n) (says : only_said answer ≡ next_only a m b n i) where
   one : RoomOf (records m a) a m
   one = room-of-rules record_limit m a rooms.0
 
   other : RoomOf (records n b) b n
   other = room-of-rules record_limit n b rooms.1
 
-  pub found-next : (p : ℕ) → answer ≡ Only.At p → NextAt (records m a) (records n b) a m i p
+  pub found-next : (p : ℕ) → answer ≡ Ok (Some p) → NextAt (records m a) (records n b) a m i p
   found-next p e = next-at one other i answer says p e
 
   -- which has all its numbers
-  pub has-record : (p : ℕ) → answer ≡ Only.At p → 6 * p + 6 ≤ length a
+  pub has-record : (p : ℕ) → answer ≡ Ok (Some p) → 6 * p + 6 ≤ length a
   has-record p e =
       let size = rules-size record_limit m a rooms.0 in
       omega (arith, (found-next p e).below, size.0, size.1)
 
-  pub none_left : answer ≡ Only.Nothing → without (drop i (records m a)) (records n b) ≡ []
+  pub none_left : answer ≡ Ok None → without (drop i (records m a)) (records n b) ≡ []
   none_left e = next-nothing one other i answer says e
 
-  pub never-refused : answer ≡ Only.NotARoom → ⊥
+  pub never-refused : answer ≡ Err (record {}) → ⊥
   never-refused e = next-never-22 one other i answer says e
