@@ -59,12 +59,9 @@ fn put_text(out: &mut [u8], at: usize, text: &[u8]) -> usize
     requires { Fits out.old at text.now }
     ensures { Put out.old at text.now result out.new }
 {
-    let mut i = 0;
-    while i < text.len() {
-        out[at + i] = text[i];
-        i += 1;
-    }
-    at + i
+    let next = at + text.len();
+    out[at..next].copy_from_slice(text);
+    next
 }
 
 // The byte of a digit.
@@ -83,10 +80,8 @@ fn put_digits(out: &mut [u8], at: usize, base: usize, k: usize, n: usize) -> usi
     requires { (0 < base) × ((base ≤ 16) × (at + k ≤ length out.old)) }
     ensures { Put out.old at (digits base k n) result out.new }
 {
-    let mut i = k;
     let mut rest = n;
-    while i > 0 {
-        i -= 1;
+    for i in (0..k).rev() {
         out[at + i] = glyph(rest % base);
         rest /= base;
     }
@@ -258,8 +253,7 @@ fn records_length(live: &[u32], count: usize) -> usize
     ensures { (result ≡ length (all_lines (records count live.now))) × (result ≤ 128 * count) }
 {
     let mut sum = 0;
-    let mut i = 0;
-    while i < count {
+    for i in 0..count {
         match get(live, i) {
             RecordFound::Found(r) => {
                 sum += record_length(r);
@@ -268,7 +262,6 @@ fn records_length(live: &[u32], count: usize) -> usize
                 return sum;
             }
         }
-        i += 1;
     }
     sum
 }
@@ -278,8 +271,7 @@ fn put_records(out: &mut [u8], at: usize, live: &[u32], count: usize) -> usize
     ensures { Put out.old at (all_lines (records count live.now)) result out.new }
 {
     let mut next = at;
-    let mut i = 0;
-    while i < count {
+    for i in 0..count {
         match get(live, i) {
             RecordFound::Found(r) => {
                 next = put_record(out, next, r);
@@ -288,7 +280,6 @@ fn put_records(out: &mut [u8], at: usize, live: &[u32], count: usize) -> usize
                 return next;
             }
         }
-        i += 1;
     }
     next
 }

@@ -1,5 +1,5 @@
 use mathlib.Core.List.{◌++◌}
-use mathlib.Core.Path.{◌≡◌, refl, sym, ap, ◌∙◌}
+use mathlib.Core.Path.{sym, ap, ◌∙◌}
 use native.Mathlib.Numerals.{add-one}
 use native.Mathlib.Omega.{arith}
 use lib.ListN.{length}
@@ -13,7 +13,7 @@ use Rattle.rtr_listing.proofs.put_records.Goals as goal
 pub loop-i-init : goal.loop-i-init
 loop-i-init c =
     let a = c.args in
-    (rw (all_none a.live.now) (put-nothing a.out.now a.at), omega arith, refl)
+    rw (all_none a.live.now) (put-nothing a.out.now a.at)
 
 pub put_record-next-requires : goal.put_record-next-requires
 put_record-next-requires c =
@@ -22,7 +22,6 @@ put_record-next-requires c =
     let record_is = the-record a.live.now l.i _ _ (omega arith) c.get.ensures c.in-Found.is in
     omega (
       arith,
-      l.invariant.0.place,
       next-within a.live.now l.i a.count (omega arith),
       ap (λ (r : Record). length (record_lines r)) record_is,
     )
@@ -37,14 +36,5 @@ loop-i-preserved c =
     let a = c.args in
     let l = c.loop-i in
     let record_is = the-record a.live.now l.i _ _ (omega arith) c.get.ensures c.in-Found.is in
-    let lines = ap (λ (r : Record). all_lines (records l.i a.live.now) ++ record_lines r) record_is ∙ sym (all-next l.i a.live.now) in (
-      rw (add-one, ← lines) (put_then (omega arith) l.invariant.0 c.put_record-next.ensures),
-      omega arith,
-      omega arith,
-    )
-
-pub returns : goal.returns
-returns c =
-    let a = c.args in
-    let all : c.loop-i.i ≡ a.count = omega arith in
-    rw all at c.loop-i.invariant.0
+    let lines = ap (λ (r : Record). all_lines (records l.i a.live.now) ++ record_lines r) record_is ∙ sym (all-next l.i a.live.now) in
+    rw (add-one, ← lines) (put_then (omega arith) l.invariant c.put_record-next.ensures)
