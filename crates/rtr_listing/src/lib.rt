@@ -59,9 +59,11 @@ fn put_text(out: &mut [u8], at: usize, text: &[u8]) -> usize
     requires { Fits out.old at text.now }
     ensures { Put out.old at text.now result out.new }
 {
-    let next = at + text.len();
-    out[at..next].copy_from_slice(text);
-    next
+    // Not `copy_from_slice`: it calls C's memmove, and the library is to need memset alone.
+    for (i, &byte) in text.iter().enumerate() {
+        out[at + i] = byte;
+    }
+    at + text.len()
 }
 
 // The byte of a digit.
