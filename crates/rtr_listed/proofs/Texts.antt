@@ -1,14 +1,13 @@
 -- Texts compared: two are the same exactly where they are equal, and a name found at the front of a line leaves its value. Assumes nothing.
-use Prim.Native.Nat.{ℕ}
+use Prim.Native.Nat.{ℕ, suc, ◌<◌}
 use mathlib.Core.Bool.{Bool, true, false, cond, ◌&&◌, false≢true}
 use mathlib.Core.List.{List, [], ◌∷◌, ◌++◌}
 use mathlib.Core.Path.{◌≡◌, refl, sym, ap, ◌∙◌}
 use native.Mathlib.Omega.{arith}
 use borrow.Author.Tests.{eqb-true, eq-eqb}
 use lib.Dec.{eqb}
-use lib.ListN.{length, take, drop, take-append-drop}
-use lib.Seq.{take_at, drop_at}
-use Rattle.std.specs.Cmp.Lexicographic.{pointwise}
+use lib.ListN.{length, get_or, take, drop, take-append-drop}
+use lib.Seq.{take_at, drop_at, drop-cons, drop-length}
 use Rattle.rtr_room.proofs.Laws.Tests.{first_of, second-of, both, unless}
 use Rattle.rtr_listed.specs.Listed.{Fit, fitting, same_text, named}
 use Rattle.rtr_listed.specs.Listed.Fit.{fits, misfits}
@@ -38,13 +37,16 @@ other-same s t h = unless (same_text s t) (λ e. h (same-equal s t e))
 pub length-other : (s t : List ℕ) → (length s ≡ length t → ⊥) → same_text s t ≡ false
 length-other s t h = other-same s t (λ e. h (ap length e))
 
--- what `==` says of them
-pub same-pointwise : (s t : List ℕ) → pointwise eqb s t ≡ same_text s t
+-- compared byte by byte from a place on
+pub same_next : (s t : List ℕ) (i : ℕ) → i < length s → i < length t → same_text (drop i s) (drop i t) ≡ (eqb (get_or s i 0) (get_or t i 0) && same_text (drop (suc i) s) (drop (suc i) t))
 unfolding same_text
-same-pointwise [] [] = refl
-same-pointwise [] (y ∷ t) = refl
-same-pointwise (x ∷ s) [] = refl
-same-pointwise (x ∷ s) (y ∷ t) = ap (λ (b : Bool). eqb x y && b) (same-pointwise s t)
+same_next s t i h k = rw (drop-cons s i 0 h, drop-cons t i 0 k)
+
+pub same-done : (s t : List ℕ) → length s ≡ length t → (i : ℕ) → i ≡ length s → same_text (drop i s) (drop i t) ≡ true
+same-done s t e i f =
+    let a : drop i s ≡ [] = ap (λ (k : ℕ). drop k s) f ∙ drop-length s in
+    let b : drop i t ≡ [] = ap (λ (k : ℕ). drop k t) (f ∙ e) ∙ drop-length t in
+    equal-same (drop i s) (drop i t) (a ∙ sym b)
 
 -- a line of the name and a value
 pub named_value : {A : Type 0} (name value : List ℕ) (reads : List ℕ → Fit A) → named name reads (name ++ value) ≡ reads value
