@@ -1,13 +1,16 @@
 -- Lines: where the first one ends, and what the text behind it is. Assumes nothing.
-use Prim.Native.Nat.{ℕ, suc, ◌≤◌, ◌<◌}
+use Prim.Native.Nat.{ℕ, suc, ◌+◌, ◌≤◌, ◌<◌}
 use mathlib.Core.Bool.{Bool, true, false, cond}
 use mathlib.Core.List.{List, [], ◌∷◌}
-use mathlib.Core.Path.{◌≡◌, refl, ap, ◌∙◌}
+use mathlib.Core.Path.{◌≡◌, refl, sym, ap, ◌∙◌}
+use borrow.Author.Tests.{ltb-false}
 use native.Mathlib.Omega.{arith}
-use borrow.Author.Tests.{eq-eqb, ne_eqb}
-use lib.Dec.{eqb}
-use lib.ListN.{length, get_or, take, drop}
-use lib.Seq.{drop-cons, drop-length}
+use lib.Dec.{eqb, ltb}
+use lib.ListN.{length, take, drop}
+use Rattle.std.specs.List.{position, position_or_len}
+use Rattle.std.specs.Prelude.{Some, None}
+use Rattle.std.specs.Option.{unwrap_or}
+use Rattle.std.proofs.lemmas.List.Recursion.{is_position_or_len}
 use Rattle.rtr_listed.specs.Listed.{Line, in_front, lines_of}
 use Rattle.rtr_listed.specs.Private.{line_length}
 
@@ -50,15 +53,18 @@ lines-unended (b ∷ s) h = go (eqb b 10) (lines-unended s) h
     go true rest k = absurd (omega arith)
     go false rest k = begins (lines_of s) (rest (omega arith))
 
--- the way to the line feed, byte by byte
-pub length-here : (s : List ℕ) (i : ℕ) → i < length s → get_or s i 0 ≡ 10 → line_length (drop i s) ≡ 0
+-- the place of the first line feed, or the length
+feed-place : (s : List ℕ) → line_length s ≡ position_or_len (λ b. eqb b 10) s
 unfolding line_length
-length-here s i h e = rw (drop-cons s i 0 h, eq-eqb (get_or s i 0) 10 e)
+feed-place s =
+    is_position_or_len line_length (λ b. eqb b 10) refl
+    (λ x xs. let e : suc (line_length xs) ≡ 1 + line_length xs = omega arith in ap (λ (n : ℕ). cond (eqb x 10) 0 n) e)
+    s
 
-pub length-next : (s : List ℕ) (i : ℕ) → i < length s → (get_or s i 0 ≡ 10 → ⊥) → line_length (drop i s) ≡ suc (line_length (drop (suc i) s))
-unfolding line_length
-length-next s i h e = rw (drop-cons s i 0 h, ne_eqb (get_or s i 0) 10 e)
-
-pub length-done : (s : List ℕ) (i : ℕ) → i ≡ length s → line_length (drop i s) ≡ 0
-unfolding line_length
-length-done s i e = ap (λ (k : ℕ). line_length (drop k s)) e ∙ ap line_length (drop-length s)
+pub length-position : (s : List ℕ) → unwrap_or (position (λ b. eqb b 10) s) (length s) ≡ line_length s
+length-position s = go (ltb (position_or_len (λ b. eqb b 10) s) (length s)) refl ∙ sym (feed-place s)
+  where
+    go : (c : Bool) → ltb (position_or_len (λ b. eqb b 10) s) (length s) ≡ c
+        → unwrap_or (cond c (Some (position_or_len (λ b. eqb b 10) s)) None) (length s) ≡ position_or_len (λ b. eqb b 10) s
+    go true e = refl
+    go false e = omega (arith, feed-place s, length-within s, ltb-false _ _ e)

@@ -5,12 +5,15 @@ use mathlib.Core.List.{List, [], ◌∷◌}
 use mathlib.Core.Path.{◌≡◌, refl, sym, ap, ◌∙◌}
 use native.Mathlib.Nat.{pow-suc, mul-le-mul_left, mul-one, add-zero}
 use native.Mathlib.Omega.{arith}
-use borrow.Author.Tests.{leb-true, le-leb}
+use borrow.Author.Tests.{leb-true, lt-leb, le-leb}
 use lib.Dec.{leb}
-use lib.ListN.{length, get_or, take, drop}
+use lib.ListN.{length, get_or, drop}
 use lib.Seq.{drop-cons, drop-length}
+use Rattle.std.specs.List.{list_all}
 use Rattle.rtr_room.proofs.Laws.Tests.{first_of, second-of}
-use Rattle.rtr_listing.proofs.Laws.{decimal-none, decimal-next, hex-none, hex-next, value_none, value-next, hex-value-next}
+use Rattle.rtr_listing.proofs.Laws.{decimal-none, decimal-next, hex-next, value_none, value-next, hex-value-none, hex-value-next}
+use Rattle.rtr_listed.specs.Listed.{Fit, fitting}
+use Rattle.rtr_listed.specs.Listed.Fit.{misfits}
 use Rattle.rtr_listing.specs.Digits.{is_decimal, are_decimal, is_hex, are_hex, value_of, hex_digit, hex_of}
 
 -- a higher power is no lower
@@ -49,8 +52,17 @@ sum-next s i sum h low high so =
       so.1 ∙ ap (λ (x : List ℕ). value_of x sum) d ∙ value-next (get_or s i 0) (drop (suc i) s) sum,
     )
 
-pub sum-not : (s : List ℕ) (i sum : ℕ) → i < length s → is_decimal (get_or s i 0) ≡ false → SumSo s i sum → are_decimal s ≡ false
-sum-not s i sum h other so = so.0 ∙ ap are_decimal (drop-cons s i 0 h) ∙ decimal-next (get_or s i 0) (drop (suc i) s) ∙ ap (λ (b : Bool). b && are_decimal (drop (suc i) s)) other
+-- a byte under `0` or over `9` is no digit, and with it the text has no number
+pub below-0 : (c : ℕ) → c < 48 → is_decimal c ≡ false
+below-0 c h = simp (lt-leb 48 c h)
+
+pub above-9 : (c : ℕ) → 57 < c → is_decimal c ≡ false
+above-9 c h = simp (le-leb 48 c (omega arith), lt-leb c 57 h)
+
+pub sum-not : (s : List ℕ) (i sum : ℕ) → i < length s → is_decimal (get_or s i 0) ≡ false → SumSo s i sum → ◌≡◌ {A = Fit ℕ} misfits (fitting (are_decimal s) (value_of s 0))
+sum-not s i sum h other so =
+    let none : are_decimal s ≡ false = so.0 ∙ ap are_decimal (drop-cons s i 0 h) ∙ decimal-next (get_or s i 0) (drop (suc i) s) ∙ ap (λ (b : Bool). b && are_decimal (drop (suc i) s)) other in
+    sym (ap (λ (b : Bool). fitting b (value_of s 0)) none)
 
 pub sum_done : (s : List ℕ) (i sum : ℕ) → i ≡ length s → SumSo s i sum → (are_decimal s ≡ true) × (value_of s 0 ≡ sum)
 sum_done s i sum e so =
@@ -58,11 +70,10 @@ sum_done s i sum e so =
     (so.0 ∙ ap are_decimal none ∙ decimal-none, so.1 ∙ ap (λ (x : List ℕ). value_of x sum) none ∙ value_none sum)
 
 -- hex digits likewise
-pub hex-at-next : (s : List ℕ) (i : ℕ) → i < length s → are_hex (drop i s) ≡ (is_hex (get_or s i 0) && are_hex (drop (suc i) s))
-hex-at-next s i h = ap are_hex (drop-cons s i 0 h) ∙ hex-next (get_or s i 0) (drop (suc i) s)
-
-pub hex-at-none : (s : List ℕ) (i : ℕ) → i ≡ length s → are_hex (drop i s) ≡ true
-hex-at-none s i e = ap are_hex (ap (λ (k : ℕ). drop k s) e ∙ drop-length s) ∙ hex-none
+pub hex-all : (s : List ℕ) → list_all is_hex s ≡ are_hex s
+unfolding are_hex
+hex-all [] = refl
+hex-all (c ∷ s) = ap (λ (b : Bool). is_hex c && b) (hex-all s)
 
 pub hex-at : (s : List ℕ) (p : ℕ) → p < length s → are_hex s ≡ true → is_hex (get_or s p 0) ≡ true
 hex-at [] p h k = absurd (omega arith)
@@ -70,5 +81,8 @@ hex-at (c ∷ s) zero h k = first_of (is_hex c) _ (sym (hex-next c s) ∙ k)
 hex-at (c ∷ s) (suc p) h k = hex-at s p (omega arith) (second-of (is_hex c) _ (sym (hex-next c s) ∙ k))
 
 -- one digit more of a word
-pub word_next : (s : List ℕ) (p k word : ℕ) → p < length s → hex_of (take (suc k) (drop p s)) word ≡ hex_of (take k (drop (suc p) s)) (word * 16 + hex_digit (get_or s p 0))
-word_next s p k word h = ap (λ (x : List ℕ). hex_of (take (suc k) x) word) (drop-cons s p 0 h) ∙ hex-value-next (get_or s p 0) (take k (drop (suc p) s)) word
+pub word_next : (s : List ℕ) (i word : ℕ) → i < length s → hex_of (drop i s) word ≡ hex_of (drop (suc i) s) (word * 16 + hex_digit (get_or s i 0))
+word_next s i word h = ap (λ (x : List ℕ). hex_of x word) (drop-cons s i 0 h) ∙ hex-value-next (get_or s i 0) (drop (suc i) s) word
+
+pub word_done : (s : List ℕ) (i word : ℕ) → i ≡ length s → hex_of (drop i s) word ≡ word
+word_done s i word e = ap (λ (k : ℕ). hex_of (drop k s) word) e ∙ ap (λ (x : List ℕ). hex_of x word) (drop-length s) ∙ hex-value-none word

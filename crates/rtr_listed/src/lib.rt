@@ -100,32 +100,27 @@ const COUNT_DIGITS: usize = 4;
 // ---- Lines
 
 // The place of the first line feed from a place on, or the text's length.
+// Not inlined: beside all that a reader keeps, the loop over a line's bytes would go through the stack.
+#[inline(never)]
 fn line_end(listing: &[u8], at: usize) -> usize
     requires { at ≤ length listing.now }
     ensures { (result ≡ at + line_length (drop at listing.now)) × (result ≤ length listing.now) }
 {
-    let mut i = at;
-    while i < listing.len() {
-        if listing[i] == 10 {
-            return i;
-        }
-        i += 1;
-    }
-    i
+    let rest = &listing[at..];
+    at + rest.iter().position(|&b| b == b'\n').unwrap_or(rest.len())
 }
 
 fn is_text(s: &[u8], t: &[u8]) -> bool
     ensures { result ≡ same_text s.now t.now }
 {
+    // Not `s == t`: compiled, that is a call, and a listing is read by more instructions.
     if s.len() != t.len() {
         return false;
     }
-    let mut i = 0;
-    while i < s.len() {
-        if s[i] != t[i] {
+    for (i, &b) in s.iter().enumerate() {
+        if b != t[i] {
             return false;
         }
-        i += 1;
     }
     true
 }
@@ -184,9 +179,7 @@ fn sum_of(value: &[u8]) -> Option<usize>
     ensures { number_said result ≡ fitting (are_decimal value.now) (value_of value.now 0) }
 {
     let mut sum = 0;
-    let mut i = 0;
-    while i < value.len() {
-        let c = value[i];
+    for &c in value {
         if c < 48 {
             return None;
         }
@@ -194,7 +187,6 @@ fn sum_of(value: &[u8]) -> Option<usize>
             return None;
         }
         sum = sum * 10 + (c - 48) as usize;
-        i += 1;
     }
     Some(sum)
 }
@@ -273,14 +265,7 @@ fn is_hex(c: u8) -> bool
 fn are_hex(value: &[u8]) -> bool
     ensures { result ≡ are_hex value.now }
 {
-    let mut i = 0;
-    while i < value.len() {
-        if !is_hex(value[i]) {
-            return false;
-        }
-        i += 1;
-    }
-    true
+    value.iter().all(|&c| is_hex(c))
 }
 
 fn hex_digit(c: u8) -> u32
@@ -298,11 +283,10 @@ fn word_at(value: &[u8], at: usize) -> u32
     requires { (at + 8 ≤ length value.now) × (are_hex value.now ≡ true) }
     ensures { result ≡ word_at value.now at }
 {
+    let digits = &value[at..at + 8];
     let mut word = 0;
-    let mut i = 0;
-    while i < 8 {
-        word = word * 16 + hex_digit(value[at + i]);
-        i += 1;
+    for &c in digits {
+        word = word * 16 + hex_digit(c);
     }
     word
 }
@@ -634,8 +618,7 @@ fn read_records(listing: &[u8], c: Cursor, count: usize, room: &mut [u32]) -> Cu
     ensures { RecordsTook record_limit listing.now c count room.new result }
 {
     let mut next = c;
-    let mut i = 0;
-    while i < count {
+    for i in 0..count {
         let read = read_record(listing, next, room, i);
         next = read.next;
         if !next.fits {
@@ -643,7 +626,6 @@ fn read_records(listing: &[u8], c: Cursor, count: usize, room: &mut [u32]) -> Cu
         }
         let entry = read.entry;
         let _ = enter(room, i, entry);
-        i += 1;
     }
     next
 }

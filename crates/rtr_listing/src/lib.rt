@@ -52,12 +52,11 @@ fn put_text(out: &mut [u8], at: usize, text: &[u8]) -> usize
     requires { Fits out.old at text.now }
     ensures { Put out.old at text.now result out.new }
 {
-    let mut i = 0;
-    while i < text.len() {
-        out[at + i] = text[i];
-        i += 1;
+    // Not `copy_from_slice`: it calls C's memmove, and the library is to need memset alone.
+    for (i, &byte) in text.iter().enumerate() {
+        out[at + i] = byte;
     }
-    at + i
+    at + text.len()
 }
 
 // The byte of a digit.
@@ -76,10 +75,8 @@ fn put_digits(out: &mut [u8], at: usize, base: usize, k: usize, n: usize) -> usi
     requires { (0 < base) × ((base ≤ 16) × (at + k ≤ length out.old)) }
     ensures { Put out.old at (digits base k n) result out.new }
 {
-    let mut i = k;
     let mut rest = n;
-    while i > 0 {
-        i -= 1;
+    for i in (0..k).rev() {
         out[at + i] = glyph(rest % base);
         rest /= base;
     }
@@ -251,8 +248,7 @@ fn records_length(live: &[u32], count: usize) -> usize
     ensures { (result ≡ length (all_lines (records count live.now))) × (result ≤ 128 * count) }
 {
     let mut sum = 0;
-    let mut i = 0;
-    while i < count {
+    for i in 0..count {
         match get(live, i) {
             Some(r) => {
                 sum += record_length(r);
@@ -261,7 +257,6 @@ fn records_length(live: &[u32], count: usize) -> usize
                 return sum;
             }
         }
-        i += 1;
     }
     sum
 }
@@ -271,8 +266,7 @@ fn put_records(out: &mut [u8], at: usize, live: &[u32], count: usize) -> usize
     ensures { Put out.old at (all_lines (records count live.now)) result out.new }
 {
     let mut next = at;
-    let mut i = 0;
-    while i < count {
+    for i in 0..count {
         match get(live, i) {
             Some(r) => {
                 next = put_record(out, next, r);
@@ -281,7 +275,6 @@ fn put_records(out: &mut [u8], at: usize, live: &[u32], count: usize) -> usize
                 return next;
             }
         }
-        i += 1;
     }
     next
 }

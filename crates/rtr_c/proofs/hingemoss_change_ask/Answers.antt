@@ -6,20 +6,20 @@ use Rattle.rtr_c.specs.Calls.{change_ask_c}
 use Rattle.rtr_c.proofs.Steps.{stays-session, leads-change, leads-none, ask-known, ask-unknown}
 use Rattle.rtr_c.proofs.hingemoss_change_ask.Goals as goal
 
-pub returns-in-Known : goal.returns-in-Known
+pub returns-in-Some : goal.returns-in-Some
 unfolding change_ask_c
-returns-in-Known c =
+returns-in-Some c =
     record {
-      says = ask-known c.args.session.now c.session_of-found.result c.session_of-found.ensures (λ (s : Session). change_ask_says s.life.limit s c.args.live.now c.args.working.now c.args.hold.now c.args.out.now) c.args.live.now c.args.working.now c.args.hold.now c.args.out.now _ c.change_ask-asked.result _ _ _ c.in-Known.is c.change_ask-asked.ensures c.ask_number.ensures c.put_session.ensures.value.1;
-      stays_session = stays-session c.args.session.now c.session_of-found.result c.session_of-found.ensures _ _ _ c.in-Known.is c.put_session.ensures.reads_back;
-      leads_on = leads-change c.args.session.now c.session_of-found.result c.session_of-found.ensures c.args.live.now c.args.working.now c.args.hold.now _ c.in-Known.is c.args.out.now c.change_ask-asked.result _ _ c.change_ask-asked.ensures c.put_session.ensures.reads_back;
+      says = ask-known c.args.session.now c.session_of-found.result c.session_of-found.ensures (λ (s : Session). change_ask_says s.life.limit s c.args.live.now c.args.working.now c.args.hold.now c.args.out.now) c.args.live.now c.args.working.now c.args.hold.now c.args.out.now _ c.change_ask-asked.result _ _ _ c.in-Some.is c.change_ask-asked.ensures c.ask_number.ensures c.put_session.ensures.value.1;
+      stays_session = stays-session c.args.session.now c.session_of-found.result c.session_of-found.ensures _ _ _ c.in-Some.is c.put_session.ensures.reads_back;
+      leads_on = leads-change c.args.session.now c.session_of-found.result c.session_of-found.ensures c.args.live.now c.args.working.now c.args.hold.now _ c.in-Some.is c.args.out.now c.change_ask-asked.result _ _ c.change_ask-asked.ensures c.put_session.ensures.reads_back;
     }
 
-pub returns-in-Unknown : goal.returns-in-Unknown
+pub returns-in-None : goal.returns-in-None
 unfolding change_ask_c
-returns-in-Unknown c =
+returns-in-None c =
     record {
-      says = ask-unknown c.args.session.now c.session_of-found.result c.session_of-found.ensures (λ (s : Session). change_ask_says s.life.limit s c.args.live.now c.args.working.now c.args.hold.now c.args.out.now) c.args.live.now c.args.working.now c.args.hold.now c.args.out.now c.in-Unknown.is;
+      says = ask-unknown c.args.session.now c.session_of-found.result c.session_of-found.ensures (λ (s : Session). change_ask_says s.life.limit s c.args.live.now c.args.working.now c.args.hold.now c.args.out.now) c.args.live.now c.args.working.now c.args.hold.now c.args.out.now c.in-None.is;
       stays_session = refl;
-      leads_on = leads-none c.args.session.now c.session_of-found.result c.session_of-found.ensures c.args.live.now c.args.working.now c.args.hold.now _ _ c.in-Unknown.is;
+      leads_on = leads-none c.args.session.now c.session_of-found.result c.session_of-found.ensures c.args.live.now c.args.working.now c.args.hold.now _ _ c.in-None.is;
     }

@@ -2,8 +2,8 @@
 use Rattle.rtr_c.proofs.Steps.{listing-known, listing-unknown}
 use Rattle.rtr_c.proofs.hingemoss_listing.Goals as goal
 
-pub returns-in-Known : goal.returns-in-Known
-returns-in-Known c = listing-known c.args.session.now c.session_of-found.result c.session_of-found.ensures c.args.live.now c.args.out.now _ c.listing-answer.result _ _ _ c.in-Known.is c.listing-answer.ensures c.list_number.ensures c.list_amount.ensures
+pub returns-in-Some : goal.returns-in-Some
+returns-in-Some c = listing-known c.args.session.now c.session_of-found.result c.session_of-found.ensures c.args.live.now c.args.out.now _ c.listing-answer.result _ _ _ c.in-Some.is c.listing-answer.ensures c.list_number.ensures c.list_amount.ensures
 
-pub returns-in-Unknown : goal.returns-in-Unknown
-returns-in-Unknown c = listing-unknown c.args.session.now c.session_of-found.result c.session_of-found.ensures c.args.live.now c.args.out.now c.in-Unknown.is
+pub returns-in-None : goal.returns-in-None
+returns-in-None c = listing-unknown c.args.session.now c.session_of-found.result c.session_of-found.ensures c.args.live.now c.args.out.now c.in-None.is

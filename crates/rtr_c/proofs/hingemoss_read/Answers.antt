@@ -8,8 +8,8 @@ pub returns-then-pdu-ne-PDU_NUMBERS : goal.returns-then-pdu-ne-PDU_NUMBERS
 unfolding read_c
 returns-then-pdu-ne-PDU_NUMBERS c = simp (ne_eqb _ _ c.if-pdu-ne-PDU_NUMBERS.true)
 
-pub returns-in-Read : goal.returns-in-Read
-returns-in-Read c = read-accepted c.args.bytes.now c.args.pdu.now c.parse_rtr_pdu-answer.result c.if-pdu-ne-PDU_NUMBERS.false c.parse_rtr_pdu-answer.ensures _ _ _ c.in-Read.is c.put_pdu.ensures.1
+pub returns-in-Ok : goal.returns-in-Ok
+returns-in-Ok c = read-accepted c.args.bytes.now c.args.pdu.now c.parse_rtr_pdu-answer.result c.if-pdu-ne-PDU_NUMBERS.false c.parse_rtr_pdu-answer.ensures _ _ _ c.in-Ok.is c.put_pdu.ensures.1
 
-pub returns-in-Refused : goal.returns-in-Refused
-returns-in-Refused c = read-refused c.args.bytes.now c.args.pdu.now c.parse_rtr_pdu-answer.result c.if-pdu-ne-PDU_NUMBERS.false c.parse_rtr_pdu-answer.ensures _ _ c.in-Refused.is c.number.ensures
+pub returns-in-Err : goal.returns-in-Err
+returns-in-Err c = read-refused c.args.bytes.now c.args.pdu.now c.parse_rtr_pdu-answer.result c.if-pdu-ne-PDU_NUMBERS.false c.parse_rtr_pdu-answer.ensures _ _ c.in-Err.is c.number.ensures

@@ -14,26 +14,26 @@ returns-then-session-ne-SESSION_NUMBERS c =
       begins = λ e. absurd (omega arith);
     }
 
-pub returns-in-Started : goal.returns-in-Started
-returns-in-Started c =
+pub returns-in-Ok : goal.returns-in-Ok
+returns-in-Ok c =
     record {
-      says = start-started c.args.version c.args.session.now c.args.live.now c.args.working.now c.args.hold.now c.if-session-ne-SESSION_NUMBERS.false c.from_u8-found.result c.from_u8-found.ensures _ c.start-answer.result _ _ _ _ c.in-Known.is c.start-answer.ensures c.in-Started.is c.put_session.ensures.value.1;
+      says = start-started c.args.version c.args.session.now c.args.live.now c.args.working.now c.args.hold.now c.if-session-ne-SESSION_NUMBERS.false c.from_u8-found.result c.from_u8-found.ensures _ c.start-answer.result _ _ _ _ c.in-Some.is c.start-answer.ensures c.in-Ok.is c.put_session.ensures.value.1;
       makes_session = λ e. reads-back _ _ (c.put_session.ensures.reads_back c.if-session-ne-SESSION_NUMBERS.false);
-      begins = λ e. begins c.args.version c.args.session.now c.args.live.now c.args.working.now c.args.hold.now c.if-session-ne-SESSION_NUMBERS.false c.from_u8-found.result c.from_u8-found.ensures _ c.start-answer.result _ _ _ _ c.in-Known.is c.start-answer.ensures c.in-Started.is c.put_session.ensures.reads_back;
+      begins = λ e. begins c.args.version c.args.session.now c.args.live.now c.args.working.now c.args.hold.now c.if-session-ne-SESSION_NUMBERS.false c.from_u8-found.result c.from_u8-found.ensures _ c.start-answer.result _ _ _ _ c.in-Some.is c.start-answer.ensures c.in-Ok.is c.put_session.ensures.reads_back;
     }
 
-pub returns-in-NotAReceiver : goal.returns-in-NotAReceiver
-returns-in-NotAReceiver c =
+pub returns-in-Err : goal.returns-in-Err
+returns-in-Err c =
     record {
-      says = start-refused c.args.version c.args.session.now c.args.live.now c.args.working.now c.args.hold.now c.if-session-ne-SESSION_NUMBERS.false c.from_u8-found.result c.from_u8-found.ensures _ c.start-answer.result _ _ c.in-Known.is c.start-answer.ensures c.in-NotAReceiver.is;
+      says = start-refused c.args.version c.args.session.now c.args.live.now c.args.working.now c.args.hold.now c.if-session-ne-SESSION_NUMBERS.false c.from_u8-found.result c.from_u8-found.ensures _ c.start-answer.result _ _ c.in-Some.is c.start-answer.ensures c.in-Err.is;
       makes_session = λ e. absurd (omega arith);
       begins = λ e. absurd (omega arith);
     }
 
-pub returns-in-Unknown : goal.returns-in-Unknown
-returns-in-Unknown c =
+pub returns-in-None : goal.returns-in-None
+returns-in-None c =
     record {
-      says = start-unknown c.args.version c.args.session.now c.args.live.now c.args.working.now c.args.hold.now c.if-session-ne-SESSION_NUMBERS.false c.from_u8-found.result c.from_u8-found.ensures c.in-Unknown.is;
+      says = start-unknown c.args.version c.args.session.now c.args.live.now c.args.working.now c.args.hold.now c.if-session-ne-SESSION_NUMBERS.false c.from_u8-found.result c.from_u8-found.ensures c.in-None.is;
       makes_session = λ e. absurd (omega arith);
       begins = λ e. absurd (omega arith);
     }

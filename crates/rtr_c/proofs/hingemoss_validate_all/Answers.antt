@@ -2,13 +2,13 @@
 use Rattle.rtr_c.proofs.Questions.{all_known, all-unknown}
 use Rattle.rtr_c.proofs.hingemoss_validate_all.Goals as goal
 
-pub returns-in-Known : goal.returns-in-Known
-returns-in-Known c =
+pub returns-in-Some : goal.returns-in-Some
+returns-in-Some c =
     let a = c.args in
     all_known a.live.now a.working.now a.hold.now a.session.now a.routes.now a.states.now c.session_of-found.result c.session_of-found.ensures _
-    c.validate_all-answer.result _ _ _ c.in-Known.is c.validate_all-answer.ensures c.peer_number.ensures c.peer_amount.ensures
+    c.validate_all-answer.result _ _ _ c.in-Some.is c.validate_all-answer.ensures c.peer_number.ensures c.peer_amount.ensures
 
-pub returns-in-Unknown : goal.returns-in-Unknown
-returns-in-Unknown c =
+pub returns-in-None : goal.returns-in-None
+returns-in-None c =
     let a = c.args in
-    all-unknown a.live.now a.working.now a.hold.now a.session.now a.routes.now a.states.now c.session_of-found.result c.session_of-found.ensures c.in-Unknown.is
+    all-unknown a.live.now a.working.now a.hold.now a.session.now a.routes.now a.states.now c.session_of-found.result c.session_of-found.ensures c.in-None.is

@@ -1,6 +1,6 @@
 use Prim.Native.Nat.{suc}
 use mathlib.Core.Bool.{Bool, ◌&&◌}
-use mathlib.Core.Path.{refl, sym, ap, ◌∙◌}
+use mathlib.Core.Path.{sym, ap, ◌∙◌}
 use native.Mathlib.Numerals.{add-one}
 use native.Mathlib.Omega.{arith}
 use borrow.Author.Tests.{eq-eqb, ne_eqb}
@@ -12,24 +12,21 @@ use Rattle.rtr_listed.proofs.is_text.Goals as goal
 pub returns-then-s-t : goal.returns-then-s-t
 returns-then-s-t c = sym (length-other c.args.s.now c.args.t.now c.if-s-t.true)
 
-pub loop-i-init : goal.loop-i-init
-loop-i-init c = (omega arith, refl)
-
-pub returns-then-s-i : goal.returns-then-s-i
-returns-then-s-i c =
+pub returns-then-b-t : goal.returns-then-b-t
+returns-then-b-t c =
     let a = c.args in
     let l = c.loop-i in
-    sym (l.invariant.1 ∙ same_next a.s.now a.t.now l.i (omega arith) (omega arith) ∙ ap (λ (b : Bool). b && same_text (drop (suc l.i) a.s.now) (drop (suc l.i) a.t.now)) (ne_eqb (get_or a.s.now l.i 0) (get_or a.t.now l.i 0) c.if-s-i.true))
+    sym (l.invariant ∙ same_next a.s.now a.t.now l.i (omega arith) (omega arith) ∙ ap (λ (b : Bool). b && same_text (drop (suc l.i) a.s.now) (drop (suc l.i) a.t.now)) (ne_eqb (get_or a.s.now l.i 0) (get_or a.t.now l.i 0) c.if-b-t.true))
 
 pub loop-i-preserved : goal.loop-i-preserved
 loop-i-preserved c =
     let a = c.args in
     let l = c.loop-i in
-    let here = eq-eqb (get_or a.s.now l.i 0) (get_or a.t.now l.i 0) c.if-s-i.false in
-    (omega arith, rw add-one (l.invariant.1 ∙ same_next a.s.now a.t.now l.i (omega arith) (omega arith) ∙ ap (λ (b : Bool). b && same_text (drop (suc l.i) a.s.now) (drop (suc l.i) a.t.now)) here))
+    let here = eq-eqb (get_or a.s.now l.i 0) (get_or a.t.now l.i 0) c.if-b-t.false in
+    rw add-one (l.invariant ∙ same_next a.s.now a.t.now l.i (omega arith) (omega arith) ∙ ap (λ (b : Bool). b && same_text (drop (suc l.i) a.s.now) (drop (suc l.i) a.t.now)) here)
 
 pub returns : goal.returns
 returns c =
     let a = c.args in
     let l = c.loop-i in
-    sym (l.invariant.1 ∙ same-done a.s.now a.t.now (omega arith) l.i (omega arith))
+    sym (l.invariant ∙ same-done a.s.now a.t.now (omega arith) l.i (omega arith))

@@ -1,4 +1,4 @@
-use mathlib.Core.Path.{◌≡◌, sym, ap}
+use mathlib.Core.Path.{sym, ap}
 use native.Mathlib.Numerals.{add-one}
 use native.Mathlib.Omega.{arith}
 use lib.ListN.{length}
@@ -8,7 +8,7 @@ use Rattle.rtr_listing.proofs.Lines.{all_none, all-next-length, the-record, neve
 use Rattle.rtr_listing.proofs.records_length.Goals as goal
 
 pub loop-i-init : goal.loop-i-init
-loop-i-init c = (sym (ap length (all_none c.args.live.now)), omega arith, omega arith)
+loop-i-init c = (sym (ap length (all_none c.args.live.now)), omega arith)
 
 pub returns-in-None : goal.returns-in-None
 returns-in-None c =
@@ -23,10 +23,4 @@ loop-i-preserved c =
     let grown = all-next-length l.i a.live.now in (
       rw add-one (omega (arith, grown, ap (λ (r : Record). length (record_lines r)) record_is)),
       omega arith,
-      omega arith,
     )
-
-pub returns : goal.returns
-returns c =
-    let all : c.loop-i.i ≡ c.args.count = omega arith in
-    rw (← all) (c.loop-i.invariant.0, c.loop-i.invariant.2)
