@@ -7,7 +7,7 @@ ghost use Rattle.rtr_room.specs.Table.{packed, ipv4_record, ipv6_record, family_
 ghost use Rattle.rtr_room.specs.Room.{numbers, record_at, record_found, records, all_zero, is_room, bisect, place, look_up, found, entered, enter_said, gone, leave_said, merged, merge_said, copied, copy_says, copy_said};
 
 // Which network may announce which prefix, as a room's six numbers: the first is family x 65,536 + prefix length x 256 + max.
-#[derive(Clone, Copy)]
+#[derive(Clone, Copy, PartialEq, Eq)]
 pub struct Record {
     pub kind: u32,
     pub w0: u32,
@@ -159,25 +159,11 @@ fn is_before(a: Record, b: Record) -> bool
     a.asn < b.asn
 }
 
+#[tactic(auto, unfolding(crate::specs::Table::same))]
 fn is_same(a: Record, b: Record) -> bool
     ensures { result ≡ same a b }
 {
-    if a.kind != b.kind {
-        return false;
-    }
-    if a.w0 != b.w0 {
-        return false;
-    }
-    if a.w1 != b.w1 {
-        return false;
-    }
-    if a.w2 != b.w2 {
-        return false;
-    }
-    if a.w3 != b.w3 {
-        return false;
-    }
-    a.asn == b.asn
+    a == b
 }
 
 fn is_in_rule(r: Record) -> bool
@@ -253,11 +239,7 @@ fn shift_up(room: &mut [u32], from: usize, end: usize)
     requires { (from ≤ end) × (end + 6 ≤ length room.old) }
     ensures { room.new ≡ take (from + 6) room.old ++ (take (end - from) (drop from room.old) ++ drop (end + 6) room.old) }
 {
-    let mut at = end;
-    while at > from {
-        at -= 1;
-        room[at + 6] = room[at];
-    }
+    room.copy_within(from..end, from + 6);
 }
 
 // The numbers from a place to an end stand six nearer; the six before the end stay, to be written over.
@@ -265,11 +247,7 @@ fn shift_down(room: &mut [u32], to: usize, end: usize)
     requires { (to + 6 ≤ end) × (end ≤ length room.old) }
     ensures { room.new ≡ take to room.old ++ (take (end - 6 - to) (drop (to + 6) room.old) ++ drop (end - 6) room.old) }
 {
-    let mut at = to;
-    while at + 6 < end {
-        room[at] = room[at + 6];
-        at += 1;
-    }
+    room.copy_within(to + 6..end, to);
 }
 
 // The first so many records are a table: each is read once, and compared with the one before it.
@@ -284,8 +262,7 @@ fn is_table(room: &[u32], count: usize) -> bool
     if !is_in_rule(last) {
         return false;
     }
-    let mut i = 1;
-    while i < count {
+    for i in 1..count {
         let next = record_at(room, i);
         if !is_in_rule(next) {
             return false;
@@ -294,7 +271,6 @@ fn is_table(room: &[u32], count: usize) -> bool
             return false;
         }
         last = next;
-        i += 1;
     }
     true
 }
@@ -304,10 +280,8 @@ fn is_zero_from(room: &[u32], at: usize) -> bool
     ensures { result ≡ all_zero (drop at room.now) }
 {
     let mut bits = 0;
-    let mut i = at;
-    while i < room.len() {
-        bits = bits | room[i];
-        i += 1;
+    for i in at..room.len() {
+        bits |= room[i];
     }
     bits == 0
 }
@@ -471,9 +445,7 @@ pub fn merge(room: &mut [u32], count: usize, run: &[u32], n: usize) -> MergeAnsw
         return MergeAnswer::NotARoom;
     }
     let mut end = count;
-    let mut j = n;
-    while j > 0 {
-        j -= 1;
+    for j in (0..n).rev() {
         let r = record_at(run, j);
         let at = place_in(room, end, r);
         shift_records(room, at, end, j + 1);
@@ -487,24 +459,17 @@ pub fn merge(room: &mut [u32], count: usize, run: &[u32], n: usize) -> MergeAnsw
 pub fn empty(room: &mut [u32])
     ensures { room.new ≡ replicate (length room.old) 0 }
 {
-    let mut at = 0;
-    while at < room.len() {
-        room[at] = 0;
-        at += 1;
-    }
+    room.fill(0);
 }
 
 // A room over one of its size, whole or not at all.
+#[tactic(auto, unfolding(crate::specs::Room::copied))]
 pub fn copy(from: &[u32], room: &mut [u32]) -> CopyAnswer
     ensures { (copy_said result ≡ copy_says from.now room.old) × (room.new ≡ copied from.now room.old) }
 {
     if from.len() != room.len() {
         return CopyAnswer::NotARoom;
     }
-    let mut i = 0;
-    while i < from.len() {
-        room[i] = from[i];
-        i += 1;
-    }
+    room.copy_from_slice(from);
     CopyAnswer::Copied
 }

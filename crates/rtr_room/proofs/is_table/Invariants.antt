@@ -11,5 +11,3 @@ use Rattle.rtr_room.proofs.is_table.Given as goal
 abbrev pub invariant-loop-i : goal.invariant-loop-i
 invariant-loop-i l = (is_table (l.last ∷ records (l.count - l.i) (drop (6 * l.i) l.room)) ≡ is_table (records l.count l.room)) × (in_rule l.last ≡ true) × (l.i ≤ l.count)
 
-abbrev pub decreases-loop-i : goal.decreases-loop-i
-decreases-loop-i l = l.count - l.i

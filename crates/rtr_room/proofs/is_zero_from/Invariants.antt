@@ -10,5 +10,3 @@ use Rattle.rtr_room.proofs.is_zero_from.Given as goal
 abbrev pub invariant-loop-i : goal.invariant-loop-i
 invariant-loop-i l = (eqb l.bits 0 && all_zero (drop l.i l.room)) ≡ all_zero (drop l.at l.room)
 
-abbrev pub decreases-loop-i : goal.decreases-loop-i
-decreases-loop-i l = length l.room - l.i

@@ -13,5 +13,3 @@ invariant-loop-j l = (take (6 * l.end) l.room ≡ take (6 * l.end) l.initial.roo
     × (l.j ≤ l.n)
     × (length l.room ≡ length l.initial.room)
 
-abbrev pub decreases-loop-j : goal.decreases-loop-j
-decreases-loop-j l = l.j
