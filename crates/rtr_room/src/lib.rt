@@ -411,24 +411,12 @@ fn place_in(room: &[u32], end: usize, r: Record) -> usize
     place_among(room, before, r)
 }
 
-// The records from one to an end stand so many records further. Two are read before either is written, so that the compiler moves 16 bytes at a time.
+// The records from one to an end stand so many records further.
 fn shift_records(room: &mut [u32], from: usize, end: usize, by: usize)
     requires { (from ≤ end) × (6 * (end + by) ≤ length room.old) }
     ensures { room.new ≡ take (6 * (from + by)) room.old ++ (take (6 * end - 6 * from) (drop (6 * from) room.old) ++ drop (6 * (end + by)) room.old) }
 {
-    let mut at = end;
-    while from + 1 < at {
-        at -= 2;
-        let first = record_at(room, at);
-        let second = record_at(room, at + 1);
-        let to = 6 * (at + by);
-        put(room, to + 6, second);
-        put(room, to, first);
-    }
-    if from < at {
-        let first = record_at(room, from);
-        put(room, 6 * (from + by), first);
-    }
+    room.copy_within(6 * from..6 * end, 6 * (from + by));
 }
 
 // A sorted run goes into a room, from the back: each of its records moves, once and to their last place, all those of the room that stand behind it.
