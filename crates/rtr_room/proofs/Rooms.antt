@@ -169,3 +169,6 @@ module _ (s : List ℕ) (count : ℕ) (r : Record) where
         rw (not_there.0, not_there.1, ne_eqb count (limit_of s) h, ← not_there.2)
         (ap (λ (l : List ℕ). record { says = counted (count + 1); left = l })
         (g ∙ ap (λ (l : List ℕ). take (6 * p) l ++ (numbers r ++ drop (6 * p + 6) l)) f ∙ up-put s p count r (omega arith)))
+
+-- what a look-up's answer says to entering and leaving: of its place and of the count, and what each refusal comes to
+pub ruleset look_up_tells = (below, fits-there, at_most, fits-missing, enter-not-a-room, already-in, full, leave-not-a-room, not_in)

@@ -349,6 +349,7 @@ pub fn look_up(room: &[u32], count: usize, r: Record) -> LookUp
 }
 
 // A record enters at its place: one that sorts last without a shift, any other with one.
+#[tactic(auto, using(crate::proofs::Rooms::look_up_tells))]
 pub fn enter(room: &mut [u32], count: usize, r: Record) -> EnterAnswer
     ensures { record { says = enter_said result; left = room.new } ≡ entered room.old count r }
 {
@@ -367,6 +368,7 @@ pub fn enter(room: &mut [u32], count: usize, r: Record) -> EnterAnswer
 }
 
 // A record leaves its place; the last one without a shift.
+#[tactic(auto, using(crate::proofs::Rooms::look_up_tells))]
 pub fn leave(room: &mut [u32], count: usize, r: Record) -> LeaveAnswer
     ensures { record { says = leave_said result; left = room.new } ≡ gone room.old count r }
 {

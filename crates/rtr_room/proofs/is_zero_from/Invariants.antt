@@ -1,9 +1,8 @@
 -- `is_zero_from`: the bits met so far are none, and what is left is 0, exactly where all was. The measure is what is left. Assumes nothing.
-use Prim.Native.Nat.{◌-◌}
 use mathlib.Core.Bool.{◌&&◌}
 use mathlib.Core.Path.{◌≡◌}
 use lib.Dec.{eqb}
-use lib.ListN.{length, drop}
+use lib.ListN.{drop}
 use Rattle.rtr_room.specs.Room.{all_zero}
 use Rattle.rtr_room.proofs.is_zero_from.Given as goal
 
