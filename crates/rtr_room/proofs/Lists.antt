@@ -8,10 +8,10 @@ use lib.ListN.{length, take, drop, set}
 use lib.Seq.{length-take-le, take-append-le, take-take, drop_at, sets-eq}
 
 -- six stores one behind the other
-pub stored-6 : (l : List ℕ) (i a b c d e f : ℕ) → i + 6 ≤ length l
+pub stored_6 : (l : List ℕ) (i a b c d e f : ℕ) → i + 6 ≤ length l
     → set (set (set (set (set (set l i a) (i + 1) b) (i + 2) c) (i + 3) d) (i + 4) e) (i + 5) f
     ≡ take i l ++ ((a ∷ b ∷ c ∷ d ∷ e ∷ f ∷ []) ++ drop (i + 6) l)
-stored-6 l i a b c d e f h =
+stored_6 l i a b c d e f h =
     rw (add-one i, add-two i, add-three i, add-four i, add_five i)
     (sets-eq (a ∷ b ∷ c ∷ d ∷ e ∷ f ∷ []) l i h ∙ append_assoc (take i l) (a ∷ b ∷ c ∷ d ∷ e ∷ f ∷ []) (drop (i + 6) l))
 

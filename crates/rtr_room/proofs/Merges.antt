@@ -81,3 +81,6 @@ module _ (s : List ℕ) (count : ℕ) (t : List ℕ) (n : ℕ) where
       → out ≡ merge_from s count t n (drop (6 * (count + n)) s) → record { says = counted (count + n); left = out } ≡ merged s count t n
   unfolding merged
   all-merged h k l out e = rw (le-leb count (limit_of s) h, le-leb n (limit_of t) k, le-leb n (limit_of s - count) l, e)
+
+-- the ways out of `merge` before its loop
+pub ruleset merge_refusals = (too-many-in, too-many-more, too-many-both)

@@ -196,6 +196,7 @@ fn is_in_rule(r: Record) -> bool
 // ---- Rooms
 
 // Record i of a room.
+#[tactic(auto, unfolding(crate::specs::Room::record_at))]
 fn record_at(room: &[u32], i: usize) -> Record
     requires { 6 * i + 6 ≤ length room.now }
     ensures { result ≡ record_at room.now i }
@@ -222,6 +223,7 @@ pub fn get(room: &[u32], i: usize) -> RecordFound
 }
 
 // The six numbers of a record, from a place on.
+#[tactic(auto, using(crate::proofs::Lists::stored_6))]
 fn put(room: &mut [u32], at: usize, r: Record)
     requires { at + 6 ≤ length room.old }
     ensures { room.new ≡ take at room.old ++ (numbers r ++ drop (at + 6) room.old) }
@@ -251,6 +253,7 @@ fn shift_down(room: &mut [u32], to: usize, end: usize)
 }
 
 // The first so many records are a table: each is read once, and compared with the one before it.
+#[tactic(auto, using(crate::proofs::Tables::record_turns))]
 fn is_table(room: &[u32], count: usize) -> bool
     requires { 6 * count ≤ length room.now }
     ensures { result ≡ is_table (records count room.now) }
@@ -276,6 +279,7 @@ fn is_table(room: &[u32], count: usize) -> bool
 }
 
 // The numbers from a place on are 0: their bits together are none. No number is a reason to stop, so the compiler takes eight at a time.
+#[tactic(auto, using(crate::proofs::Tables::zero_turns))]
 fn is_zero_from(room: &[u32], at: usize) -> bool
     ensures { result ≡ all_zero (drop at room.now) }
 {
@@ -422,6 +426,7 @@ fn shift_records(room: &mut [u32], from: usize, end: usize, by: usize)
 }
 
 // A sorted run goes into a room, from the back: each of its records moves, once and to their last place, all those of the room that stand behind it.
+#[tactic(auto, using(crate::proofs::Merges::merge_refusals))]
 pub fn merge(room: &mut [u32], count: usize, run: &[u32], n: usize) -> MergeAnswer
     ensures { record { says = merge_said result; left = room.new } ≡ merged room.old count run.now n }
 {

@@ -1,13 +1,10 @@
 use mathlib.Core.Bool.{true, false}
-use mathlib.Core.Path.{refl, sym, ◌∙◌}
+use mathlib.Core.Path.{sym, ◌∙◌}
 use native.Mathlib.Omega.{arith}
 use Rattle.rtr_room.specs.Table.{before}
 use Rattle.rtr_room.proofs.Halving.{met, turn}
 use Rattle.rtr_room.proofs.Places.{told}
 use Rattle.rtr_room.proofs.place_among.Goals as goal
-
-pub loop-lo-init : goal.loop-lo-init
-loop-lo-init c = (refl, omega arith, omega arith)
 
 pub loop-lo-preserved-then-is_before : goal.loop-lo-preserved-then-is_before
 loop-lo-preserved-then-is_before c =
