@@ -41,3 +41,6 @@ module _ (s : List ℕ) (r : Record) where
   place-le (suc last) =
       either (before (record_at s last) r) (suc last) (cond (same (record_at s last) r) last (bisect last s r 0 last)) (suc last) (omega arith)
       (either (same (record_at s last) r) last (bisect last s r 0 last) (suc last) (omega arith) (omega (arith, bisect-le s r last 0 last (omega arith))))
+
+-- what the goals of `place_in` are proved by
+pub ruleset place_tests = (nowhere, behind, at_last, among)

@@ -133,6 +133,8 @@ fn pack(family: u32, prefix_length: u8, max_length: u8) -> u32
 // ---- Order
 
 // Family first, then the address; where both are equal the first number's rest is length and max, so it is compared whole.
+// Number by number: as a comparison of two tuples it takes 14 to 18 % more instructions in a search by halving.
+#[tactic(auto, using(crate::proofs::Order::order_tests), unfolding(crate::specs::Table::before))]
 fn is_before(a: Record, b: Record) -> bool
     ensures { result ≡ before a b }
 {
@@ -166,6 +168,7 @@ fn is_same(a: Record, b: Record) -> bool
     a == b
 }
 
+#[tactic(auto, using(crate::proofs::Order::rule_tests))]
 fn is_in_rule(r: Record) -> bool
     ensures { result ≡ in_rule r }
 {
@@ -291,6 +294,7 @@ fn is_zero_from(room: &[u32], at: usize) -> bool
 }
 
 // The room rules, each number read once.
+#[tactic(auto, unfolding(crate::specs::Room::is_room))]
 pub fn rules(room: &[u32], limit: usize, count: usize) -> bool
     ensures { result ≡ is_room limit count room.now }
 {
@@ -310,6 +314,7 @@ pub fn rules(room: &[u32], limit: usize, count: usize) -> bool
 }
 
 // Where a record stands or would stand among the first so many, by halving.
+#[tactic(auto, using(crate::proofs::Halving::halving_turns))]
 fn place_among(room: &[u32], end: usize, r: Record) -> usize
     requires { 6 * end ≤ length room.now }
     ensures { (result ≡ bisect end room.now r 0 end) × (result ≤ end) }
@@ -399,6 +404,7 @@ pub fn leave(room: &mut [u32], count: usize, r: Record) -> LeaveAnswer
 }
 
 // Where a record stands or would stand among the first so many: the last is compared first, as a look-up does.
+#[tactic(auto, using(crate::proofs::Places::place_tests))]
 fn place_in(room: &[u32], end: usize, r: Record) -> usize
     requires { 6 * end ≤ length room.now }
     ensures { (result ≡ place room.now end r) × (result ≤ end) }
