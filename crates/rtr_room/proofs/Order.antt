@@ -1,5 +1,5 @@
--- Tests one after the other decide what the order, equality and the rules of a record say: each lemma is one way out of `is_before`,
--- `is_same` or `is_in_rule`. Assumes nothing.
+-- Tests one after the other decide what the order and the rules of a record say: each lemma is one way out of `is_before` or `is_in_rule`.
+-- Assumes nothing.
 use Prim.Native.Nat.{ℕ, ◌/◌, ◌%◌, ◌<◌, ◌≤◌}
 use mathlib.Core.Bool.{Bool, true, false, ◌&&◌, ◌||◌, and-false, and-true, or-false}
 use mathlib.Core.List.{List, [], ◌∷◌}

@@ -161,13 +161,6 @@ fn is_before(a: Record, b: Record) -> bool
     a.asn < b.asn
 }
 
-#[tactic(auto, unfolding(crate::specs::Table::same))]
-fn is_same(a: Record, b: Record) -> bool
-    ensures { result ≡ same a b }
-{
-    a == b
-}
-
 #[tactic(auto, using(crate::proofs::Order::rule_tests))]
 fn is_in_rule(r: Record) -> bool
     ensures { result ≡ in_rule r }
@@ -333,6 +326,7 @@ fn place_among(room: &[u32], end: usize, r: Record) -> usize
 }
 
 // The last record is compared first: a record behind it, or equal to it, needs no search. Any other place is found by halving.
+#[tactic(auto, using(crate::proofs::Rooms::look_up_tests), unfolding(crate::specs::Table::same))]
 pub fn look_up(room: &[u32], count: usize, r: Record) -> LookUp
     ensures { found result ≡ look_up room.now count r }
 {
@@ -347,11 +341,11 @@ pub fn look_up(room: &[u32], count: usize, r: Record) -> LookUp
     if is_before(last, r) {
         return LookUp::Missing(count);
     }
-    if is_same(last, r) {
+    if last == r {
         return LookUp::At(end);
     }
     let at = place_among(room, end, r);
-    if is_same(record_at(room, at), r) {
+    if record_at(room, at) == r {
         return LookUp::At(at);
     }
     LookUp::Missing(at)
@@ -404,7 +398,7 @@ pub fn leave(room: &mut [u32], count: usize, r: Record) -> LeaveAnswer
 }
 
 // Where a record stands or would stand among the first so many: the last is compared first, as a look-up does.
-#[tactic(auto, using(crate::proofs::Places::place_tests))]
+#[tactic(auto, using(crate::proofs::Places::place_tests), unfolding(crate::specs::Table::same))]
 fn place_in(room: &[u32], end: usize, r: Record) -> usize
     requires { 6 * end ≤ length room.now }
     ensures { (result ≡ place room.now end r) × (result ≤ end) }
@@ -417,7 +411,7 @@ fn place_in(room: &[u32], end: usize, r: Record) -> usize
     if is_before(last, r) {
         return end;
     }
-    if is_same(last, r) {
+    if last == r {
         return before;
     }
     place_among(room, before, r)
