@@ -279,6 +279,7 @@ fn is_table(room: &[u32], count: usize) -> bool
 fn is_zero_from(room: &[u32], at: usize) -> bool
     ensures { result ≡ all_zero (drop at room.now) }
 {
+    // By places, of which there may be none: `iter().skip(at)` takes ten times the instructions, and `room[at..]` wants the place inside.
     let mut bits = 0;
     for i in at..room.len() {
         bits |= room[i];
@@ -312,6 +313,7 @@ fn place_among(room: &[u32], end: usize, r: Record) -> usize
     requires { 6 * end ≤ length room.now }
     ensures { (result ≡ bisect end room.now r 0 end) × (result ≤ end) }
 {
+    // No place is counted: two ends close in. `partition_point` promises nothing of numbers that are in no order.
     let mut lo = 0;
     let mut hi = end;
     while lo < hi {
