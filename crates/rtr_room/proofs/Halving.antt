@@ -52,12 +52,20 @@ module _ (s : List ℕ) (r : Record) where
           ∙ sym (halved g lo hi h)
 
   -- a turn, as the code makes it: with the same fuel before and after
-  pub turn : (fuel lo hi : ℕ) → lo < hi → hi ≤ lo + fuel → (b : Bool) → before (record_at s (mid lo hi)) r ≡ b
+  turn : (fuel lo hi : ℕ) → lo < hi → hi ≤ lo + fuel → (b : Bool) → before (record_at s (mid lo hi)) r ≡ b
       → cond b (bisect fuel s r (mid lo hi + 1) hi) (bisect fuel s r lo (mid lo hi)) ≡ bisect fuel s r lo hi
   turn fuel lo hi h k b e =
       sym (enough fuel (suc fuel) lo hi k (omega arith)
       ∙ halved fuel lo hi h
       ∙ ap (λ (c : Bool). cond c (bisect fuel s r (mid lo hi + 1) hi) (bisect fuel s r lo (mid lo hi))) e)
+
+  pub goes_up : (fuel lo hi : ℕ) → lo < hi → hi ≤ lo + fuel → before (record_at s (mid lo hi)) r ≡ true
+      → bisect fuel s r (mid lo hi + 1) hi ≡ bisect fuel s r lo hi
+  goes_up fuel lo hi h k e = turn fuel lo hi h k true e
+
+  pub goes_down : (fuel lo hi : ℕ) → lo < hi → hi ≤ lo + fuel → before (record_at s (mid lo hi)) r ≡ false
+      → bisect fuel s r lo (mid lo hi) ≡ bisect fuel s r lo hi
+  goes_down fuel lo hi h k e = turn fuel lo hi h k false e
 
   pub no_fuel : (lo hi : ℕ) → bisect 0 s r lo hi ≡ lo
   unfolding bisect
@@ -75,3 +83,6 @@ module _ (s : List ℕ) (r : Record) where
           rw (halved fuel lo hi k)
           (either (before (record_at s (mid lo hi)) r) (bisect fuel s r (mid lo hi + 1) hi) (bisect fuel s r lo (mid lo hi)) hi (less (mid lo hi + 1) hi (omega arith))
           (omega (arith, less lo (mid lo hi) (omega arith))))
+
+-- what the goals of `place_among` are proved by
+pub ruleset halving_turns = (met, goes_up, goes_down)

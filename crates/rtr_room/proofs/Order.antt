@@ -1,5 +1,5 @@
--- Tests one after the other decide what the order, equality and the rules of a record say: each lemma is one way out of `is_before`,
--- `is_same` or `is_in_rule`. Assumes nothing.
+-- Tests one after the other decide what the order and the rules of a record say: each lemma is one way out of `is_before` or `is_in_rule`.
+-- Assumes nothing.
 use Prim.Native.Nat.{ℕ, ◌/◌, ◌%◌, ◌<◌, ◌≤◌}
 use mathlib.Core.Bool.{Bool, true, false, ◌&&◌, ◌||◌, and-false, and-true, or-false}
 use mathlib.Core.List.{List, [], ◌∷◌}
@@ -55,6 +55,9 @@ only-last x y = go (ltb x y) (eqb x y)
     go false true = refl
     go false false = refl
 
+-- what the goals of `is_before` are proved by
+pub ruleset order_tests = (differs, agrees, kind-differs, kind-agrees, only-last)
+
 -- ---- the rules of a record
 
 pub too_long : (r : Record) → max_of r < prefix_of r → false ≡ in_rule r
@@ -95,3 +98,6 @@ module _ (r : Record) (l : prefix_of r ≤ max_of r) where
     four a b d =
         rw (is-four, not-six, le-leb (prefix_of r) (max_of r) l, eq-eqb r.w1 0 a, eq-eqb r.w2 0 b, eq-eqb r.w3 0 d, and-true (leb (max_of r) 32))
         (sym (or-false (leb (max_of r) 32)))
+
+-- what the goals of `is_in_rule` are proved by
+pub ruleset rule_tests = (too_long, neither-family, six, spare-1, spare-2, spare-3, four)

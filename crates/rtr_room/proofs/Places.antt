@@ -1,18 +1,14 @@
 -- The place of a record, case by case, as the tests of `look_up` find them: no record, behind the last, at the last, or by halving those before
 -- it. Assumes nothing.
 use Prim.Native.Nat.{ℕ, zero, suc, ◌-◌, ◌≤◌, ◌<◌}
-use mathlib.Core.Bool.{Bool, true, false, cond}
+use mathlib.Core.Bool.{true, false, cond}
 use mathlib.Core.List.{List}
-use mathlib.Core.Path.{◌≡◌, refl, sym, ap, ◌∙◌}
+use mathlib.Core.Path.{◌≡◌, refl}
 use native.Mathlib.Omega.{arith}
 use Rattle.rtr_room.specs.Table.{before, same}
 use Rattle.rtr_room.specs.Room.{record_at, bisect, place}
 use Rattle.rtr_room.specs.declared.Record.{Record}
 use Rattle.rtr_room.proofs.Halving.{either, bisect-le}
-
--- what a test says of a record that was read
-pub told : (f : Record → Bool) (x y : Record) (b : Bool) → x ≡ y → b ≡ f x → f y ≡ b
-told f x y b e g = sym (g ∙ ap f e)
 
 module _ (s : List ℕ) (r : Record) where
   pub nowhere : (count : ℕ) → count ≡ 0 → place s count r ≡ 0
@@ -41,3 +37,6 @@ module _ (s : List ℕ) (r : Record) where
   place-le (suc last) =
       either (before (record_at s last) r) (suc last) (cond (same (record_at s last) r) last (bisect last s r 0 last)) (suc last) (omega arith)
       (either (same (record_at s last) r) last (bisect last s r 0 last) (suc last) (omega arith) (omega (arith, bisect-le s r last 0 last (omega arith))))
+
+-- what the goals of `place_in` are proved by
+pub ruleset place_tests = (nowhere, behind, at_last, among)

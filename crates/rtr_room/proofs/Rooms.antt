@@ -16,7 +16,7 @@ use Rattle.rtr_room.specs.Room.Said.{counted}
 use Rattle.rtr_room.specs.declared.Record.{Record}
 use Rattle.rtr_room.proofs.Laws.Tests.{first_of}
 use Rattle.rtr_room.proofs.Lists.{up, down}
-use Rattle.rtr_room.proofs.Places.{place-le}
+use Rattle.rtr_room.proofs.Places.{place-le, place_tests}
 
 -- ---- a look-up's answer tells its tests
 
@@ -169,3 +169,9 @@ module _ (s : List ℕ) (count : ℕ) (r : Record) where
         rw (not_there.0, not_there.1, ne_eqb count (limit_of s) h, ← not_there.2)
         (ap (λ (l : List ℕ). record { says = counted (count + 1); left = l })
         (g ∙ ap (λ (l : List ℕ). take (6 * p) l ++ (numbers r ++ drop (6 * p + 6) l)) f ∙ up-put s p count r (omega arith)))
+
+-- what the goals of `look_up` are proved by
+pub ruleset look_up_tests = (place_tests, too_many, behind-all, another, there)
+
+-- what a look-up's answer says to entering and leaving: of its place and of the count, and what each refusal comes to
+pub ruleset look_up_tells = (below, fits-there, at_most, fits-missing, enter-not-a-room, already-in, full, leave-not-a-room, not_in)

@@ -112,3 +112,9 @@ module _ (s : List ℕ) (i bits : ℕ) where
   pub zero-end : length s ≤ i → (eqb bits 0 && all_zero (drop i s)) ≡ eqb bits 0
   unfolding all_zero
   zero-end h = rw (drop_of_length-le s {i = i} h) (and-true (eqb bits 0))
+
+-- ---- what the goals of the two loops are proved by
+
+pub ruleset record_turns = (no_table, first-breaks, starts, ends, next-refused, order-refused, goes_on)
+
+pub ruleset zero_turns = (zero_turn, zero-end)

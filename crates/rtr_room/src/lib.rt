@@ -7,7 +7,7 @@ ghost use Rattle.rtr_room.specs.Table.{packed, ipv4_record, ipv6_record, family_
 ghost use Rattle.rtr_room.specs.Room.{numbers, record_at, record_found, records, all_zero, is_room, bisect, place, look_up, found, entered, enter_said, gone, leave_said, merged, merge_said, copied, copy_says, copy_said};
 
 // Which network may announce which prefix, as a room's six numbers: the first is family x 65,536 + prefix length x 256 + max.
-#[derive(Clone, Copy)]
+#[derive(Clone, Copy, PartialEq, Eq)]
 pub struct Record {
     pub kind: u32,
     pub w0: u32,
@@ -116,6 +116,8 @@ fn pack(family: u32, prefix_length: u8, max_length: u8) -> u32
 // ---- Order
 
 // Family first, then the address; where both are equal the first number's rest is length and max, so it is compared whole.
+// Number by number: as a comparison of two tuples it takes 14 to 18 % more instructions in a search by halving.
+#[tactic(auto, using(crate::proofs::Order::order_tests), unfolding(crate::specs::Table::before))]
 fn is_before(a: Record, b: Record) -> bool
     ensures { result ≡ before a b }
 {
@@ -142,27 +144,7 @@ fn is_before(a: Record, b: Record) -> bool
     a.asn < b.asn
 }
 
-fn is_same(a: Record, b: Record) -> bool
-    ensures { result ≡ same a b }
-{
-    if a.kind != b.kind {
-        return false;
-    }
-    if a.w0 != b.w0 {
-        return false;
-    }
-    if a.w1 != b.w1 {
-        return false;
-    }
-    if a.w2 != b.w2 {
-        return false;
-    }
-    if a.w3 != b.w3 {
-        return false;
-    }
-    a.asn == b.asn
-}
-
+#[tactic(auto, using(crate::proofs::Order::rule_tests))]
 fn is_in_rule(r: Record) -> bool
     ensures { result ≡ in_rule r }
 {
@@ -193,6 +175,7 @@ fn is_in_rule(r: Record) -> bool
 // ---- Rooms
 
 // Record i of a room.
+#[tactic(auto, unfolding(crate::specs::Room::record_at))]
 fn record_at(room: &[u32], i: usize) -> Record
     requires { 6 * i + 6 ≤ length room.now }
     ensures { result ≡ record_at room.now i }
@@ -219,6 +202,7 @@ pub fn get(room: &[u32], i: usize) -> Option<Record>
 }
 
 // The six numbers of a record, from a place on.
+#[tactic(auto, using(crate::proofs::Lists::stored_6))]
 fn put(room: &mut [u32], at: usize, r: Record)
     requires { at + 6 ≤ length room.old }
     ensures { room.new ≡ take at room.old ++ (numbers r ++ drop (at + 6) room.old) }
@@ -236,11 +220,7 @@ fn shift_up(room: &mut [u32], from: usize, end: usize)
     requires { (from ≤ end) × (end + 6 ≤ length room.old) }
     ensures { room.new ≡ take (from + 6) room.old ++ (take (end - from) (drop from room.old) ++ drop (end + 6) room.old) }
 {
-    let mut at = end;
-    while at > from {
-        at -= 1;
-        room[at + 6] = room[at];
-    }
+    room.copy_within(from..end, from + 6);
 }
 
 // The numbers from a place to an end stand six nearer; the six before the end stay, to be written over.
@@ -248,14 +228,11 @@ fn shift_down(room: &mut [u32], to: usize, end: usize)
     requires { (to + 6 ≤ end) × (end ≤ length room.old) }
     ensures { room.new ≡ take to room.old ++ (take (end - 6 - to) (drop (to + 6) room.old) ++ drop (end - 6) room.old) }
 {
-    let mut at = to;
-    while at + 6 < end {
-        room[at] = room[at + 6];
-        at += 1;
-    }
+    room.copy_within(to + 6..end, to);
 }
 
 // The first so many records are a table: each is read once, and compared with the one before it.
+#[tactic(auto, using(crate::proofs::Tables::record_turns))]
 fn is_table(room: &[u32], count: usize) -> bool
     requires { 6 * count ≤ length room.now }
     ensures { result ≡ is_table (records count room.now) }
@@ -267,8 +244,7 @@ fn is_table(room: &[u32], count: usize) -> bool
     if !is_in_rule(last) {
         return false;
     }
-    let mut i = 1;
-    while i < count {
+    for i in 1..count {
         let next = record_at(room, i);
         if !is_in_rule(next) {
             return false;
@@ -277,25 +253,25 @@ fn is_table(room: &[u32], count: usize) -> bool
             return false;
         }
         last = next;
-        i += 1;
     }
     true
 }
 
 // The numbers from a place on are 0: their bits together are none. No number is a reason to stop, so the compiler takes eight at a time.
+#[tactic(auto, using(crate::proofs::Tables::zero_turns))]
 fn is_zero_from(room: &[u32], at: usize) -> bool
     ensures { result ≡ all_zero (drop at room.now) }
 {
+    // By places, of which there may be none: `iter().skip(at)` takes ten times the instructions, and `room[at..]` wants the place inside.
     let mut bits = 0;
-    let mut i = at;
-    while i < room.len() {
-        bits = bits | room[i];
-        i += 1;
+    for i in at..room.len() {
+        bits |= room[i];
     }
     bits == 0
 }
 
 // The room rules, each number read once.
+#[tactic(auto, unfolding(crate::specs::Room::is_room))]
 pub fn rules(room: &[u32], limit: usize, count: usize) -> bool
     ensures { result ≡ is_room limit count room.now }
 {
@@ -315,10 +291,12 @@ pub fn rules(room: &[u32], limit: usize, count: usize) -> bool
 }
 
 // Where a record stands or would stand among the first so many, by halving.
+#[tactic(auto, using(crate::proofs::Halving::halving_turns))]
 fn place_among(room: &[u32], end: usize, r: Record) -> usize
     requires { 6 * end ≤ length room.now }
     ensures { (result ≡ bisect end room.now r 0 end) × (result ≤ end) }
 {
+    // No place is counted: two ends close in. `partition_point` promises nothing of numbers that are in no order.
     let mut lo = 0;
     let mut hi = end;
     while lo < hi {
@@ -333,6 +311,7 @@ fn place_among(room: &[u32], end: usize, r: Record) -> usize
 }
 
 // The last record is compared first: a record behind it, or equal to it, needs no search. Any other place is found by halving.
+#[tactic(auto, using(crate::proofs::Rooms::look_up_tests), unfolding(crate::specs::Table::same))]
 pub fn look_up(room: &[u32], count: usize, r: Record) -> Result<Position, NotARoom>
     ensures { found result ≡ look_up room.now count r }
 {
@@ -347,17 +326,18 @@ pub fn look_up(room: &[u32], count: usize, r: Record) -> Result<Position, NotARo
     if is_before(last, r) {
         return Ok(Position::Missing(count));
     }
-    if is_same(last, r) {
+    if last == r {
         return Ok(Position::At(end));
     }
     let at = place_among(room, end, r);
-    if is_same(record_at(room, at), r) {
+    if record_at(room, at) == r {
         return Ok(Position::At(at));
     }
     Ok(Position::Missing(at))
 }
 
 // A record enters at its place: one that sorts last without a shift, any other with one.
+#[tactic(auto, using(crate::proofs::Rooms::look_up_tells))]
 pub fn enter(room: &mut [u32], count: usize, r: Record) -> Result<usize, EnterError>
     ensures { record { says = enter_said result; left = room.new } ≡ entered room.old count r }
 {
@@ -376,6 +356,7 @@ pub fn enter(room: &mut [u32], count: usize, r: Record) -> Result<usize, EnterEr
 }
 
 // A record leaves its place; the last one without a shift.
+#[tactic(auto, using(crate::proofs::Rooms::look_up_tells))]
 pub fn leave(room: &mut [u32], count: usize, r: Record) -> Result<usize, LeaveError>
     ensures { record { says = leave_said result; left = room.new } ≡ gone room.old count r }
 {
@@ -402,6 +383,7 @@ pub fn leave(room: &mut [u32], count: usize, r: Record) -> Result<usize, LeaveEr
 }
 
 // Where a record stands or would stand among the first so many: the last is compared first, as a look-up does.
+#[tactic(auto, using(crate::proofs::Places::place_tests), unfolding(crate::specs::Table::same))]
 fn place_in(room: &[u32], end: usize, r: Record) -> usize
     requires { 6 * end ≤ length room.now }
     ensures { (result ≡ place room.now end r) × (result ≤ end) }
@@ -414,33 +396,22 @@ fn place_in(room: &[u32], end: usize, r: Record) -> usize
     if is_before(last, r) {
         return end;
     }
-    if is_same(last, r) {
+    if last == r {
         return before;
     }
     place_among(room, before, r)
 }
 
-// The records from one to an end stand so many records further. Two are read before either is written, so that the compiler moves 16 bytes at a time.
+// The records from one to an end stand so many records further.
 fn shift_records(room: &mut [u32], from: usize, end: usize, by: usize)
     requires { (from ≤ end) × (6 * (end + by) ≤ length room.old) }
     ensures { room.new ≡ take (6 * (from + by)) room.old ++ (take (6 * end - 6 * from) (drop (6 * from) room.old) ++ drop (6 * (end + by)) room.old) }
 {
-    let mut at = end;
-    while from + 1 < at {
-        at -= 2;
-        let first = record_at(room, at);
-        let second = record_at(room, at + 1);
-        let to = 6 * (at + by);
-        put(room, to + 6, second);
-        put(room, to, first);
-    }
-    if from < at {
-        let first = record_at(room, from);
-        put(room, 6 * (from + by), first);
-    }
+    room.copy_within(6 * from..6 * end, 6 * (from + by));
 }
 
 // A sorted run goes into a room, from the back: each of its records moves, once and to their last place, all those of the room that stand behind it.
+#[tactic(auto, using(crate::proofs::Merges::merge_refusals))]
 pub fn merge(room: &mut [u32], count: usize, run: &[u32], n: usize) -> Result<usize, NotARoom>
     ensures { record { says = merge_said result; left = room.new } ≡ merged room.old count run.now n }
 {
@@ -454,9 +425,7 @@ pub fn merge(room: &mut [u32], count: usize, run: &[u32], n: usize) -> Result<us
         return Err(NotARoom);
     }
     let mut end = count;
-    let mut j = n;
-    while j > 0 {
-        j -= 1;
+    for j in (0..n).rev() {
         let r = record_at(run, j);
         let at = place_in(room, end, r);
         shift_records(room, at, end, j + 1);
@@ -470,24 +439,20 @@ pub fn merge(room: &mut [u32], count: usize, run: &[u32], n: usize) -> Result<us
 pub fn empty(room: &mut [u32])
     ensures { room.new ≡ replicate (length room.old) 0 }
 {
-    let mut at = 0;
-    while at < room.len() {
-        room[at] = 0;
-        at += 1;
-    }
+    room.fill(0);
 }
 
 // A room over one of its size, whole or not at all.
+#[tactic(auto, unfolding(crate::specs::Room::copied))]
 pub fn copy(from: &[u32], room: &mut [u32]) -> Result<(), NotARoom>
     ensures { (copy_said result ≡ copy_says from.now room.old) × (room.new ≡ copied from.now room.old) }
 {
     if from.len() != room.len() {
         return Err(NotARoom);
     }
-    let mut i = 0;
-    while i < from.len() {
-        room[i] = from[i];
-        i += 1;
+    // No `copy_from_slice`: it calls memmove, and what C links needs memset alone.
+    for (i, &n) in from.iter().enumerate() {
+        room[i] = n;
     }
     Ok(())
 }

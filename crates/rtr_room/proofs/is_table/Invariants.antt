@@ -1,5 +1,5 @@
--- `is_table`: the last record read is in rule, and with those behind it it is a table where the whole is. The measure is what is left. Assumes nothing.
-use Prim.Native.Nat.{◌-◌, ◌*◌, ◌≤◌}
+-- `is_table`: the last record read is in rule, and with those behind it it is a table where the whole is. Assumes nothing.
+use Prim.Native.Nat.{◌-◌, ◌*◌}
 use mathlib.Core.Bool.{true}
 use mathlib.Core.List.{◌∷◌}
 use mathlib.Core.Path.{◌≡◌}
@@ -9,7 +9,4 @@ use Rattle.rtr_room.specs.Room.{records}
 use Rattle.rtr_room.proofs.is_table.Given as goal
 
 abbrev pub invariant-loop-i : goal.invariant-loop-i
-invariant-loop-i l = (is_table (l.last ∷ records (l.count - l.i) (drop (6 * l.i) l.room)) ≡ is_table (records l.count l.room)) × (in_rule l.last ≡ true) × (l.i ≤ l.count)
-
-abbrev pub decreases-loop-i : goal.decreases-loop-i
-decreases-loop-i l = l.count - l.i
+invariant-loop-i l = (is_table (l.last ∷ records (l.count - l.i) (drop (6 * l.i) l.room)) ≡ is_table (records l.count l.room)) × (in_rule l.last ≡ true)
