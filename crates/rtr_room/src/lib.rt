@@ -36,11 +36,31 @@ pub enum EnterError {
     NotARoom,
 }
 
+impl From<NotARoom> for EnterError {
+    ghost use Rattle.rtr_room.specs.declared.EnterError.{EnterError};
+
+    ghost from_gives = { λ _ e. e ≡ EnterError.NotARoom };
+
+    fn from(_refusal: NotARoom) -> EnterError {
+        EnterError::NotARoom
+    }
+}
+
 // Why a record does not leave.
 #[derive(Clone, Copy)]
 pub enum LeaveError {
     NotIn,
     NotARoom,
+}
+
+impl From<NotARoom> for LeaveError {
+    ghost use Rattle.rtr_room.specs.declared.LeaveError.{LeaveError};
+
+    ghost from_gives = { λ _ e. e ≡ LeaveError.NotARoom };
+
+    fn from(_refusal: NotARoom) -> LeaveError {
+        LeaveError::NotARoom
+    }
 }
 
 impl Record {
@@ -341,10 +361,9 @@ pub fn look_up(room: &[u32], count: usize, r: Record) -> Result<Position, NotARo
 pub fn enter(room: &mut [u32], count: usize, r: Record) -> Result<usize, EnterError>
     ensures { record { says = enter_said result; left = room.new } ≡ entered room.old count r }
 {
-    match look_up(room, count, r) {
-        Err(_) => Err(EnterError::NotARoom),
-        Ok(Position::At(_)) => Err(EnterError::AlreadyIn),
-        Ok(Position::Missing(at)) => {
+    match look_up(room, count, r)? {
+        Position::At(_) => Err(EnterError::AlreadyIn),
+        Position::Missing(at) => {
             if count == room.len() / 6 {
                 return Err(EnterError::Full);
             }
@@ -360,10 +379,9 @@ pub fn enter(room: &mut [u32], count: usize, r: Record) -> Result<usize, EnterEr
 pub fn leave(room: &mut [u32], count: usize, r: Record) -> Result<usize, LeaveError>
     ensures { record { says = leave_said result; left = room.new } ≡ gone room.old count r }
 {
-    match look_up(room, count, r) {
-        Err(_) => Err(LeaveError::NotARoom),
-        Ok(Position::Missing(_)) => Err(LeaveError::NotIn),
-        Ok(Position::At(at)) => {
+    match look_up(room, count, r)? {
+        Position::Missing(_) => Err(LeaveError::NotIn),
+        Position::At(at) => {
             shift_down(room, 6 * at, 6 * count);
             put(
                 room,
