@@ -82,8 +82,9 @@ fn ask_number(answer: Result<usize, AskError>) -> u64 {
         Err(AskError::NotAReceiver) => 22,
         Err(AskError::WrongPhase) => 20,
         Err(AskError::NoTable) => 21,
-        Err(AskError::Encoding(EncodeError::OutputShort { needed })) => needed as u64 % 65536 * 256
-            + 9,
+        Err(AskError::Encoding(EncodeError::OutputShort { needed })) => {
+            needed as u64 % 65536 * 256 + 9
+        }
         Err(AskError::Encoding(error)) => error.number() as u64,
     }
 }
