@@ -5,22 +5,18 @@ use rtr_numbers::{put_session, session_of};
 use rtr_receiver::*;
 
 fn session_in(numbers: &[u64]) -> Session {
-    let found = session_of(numbers);
-    match found {
-        Some(s) => s,
-        None => Session {
-            life: Life {
-                version: RtrProtocolVersion::V0,
-                limit: RECORD_LIMIT,
-            },
-            phase: Phase::Stopped(Stop::OutOfTurn),
-            table: None,
-            note: None,
-            live: Counts { records: 0 },
-            working: Counts { records: 0 },
-            held: 0,
+    session_of(numbers).unwrap_or(Session {
+        life: Life {
+            version: RtrProtocolVersion::V0,
+            limit: RECORD_LIMIT,
         },
-    }
+        phase: Phase::Stopped(Stop::OutOfTurn),
+        table: None,
+        note: None,
+        live: Counts { records: 0 },
+        working: Counts { records: 0 },
+        held: 0,
+    })
 }
 
 fn feed_number(answer: Result<(), FeedError>) -> u8 {
@@ -33,8 +29,7 @@ fn feed_number(answer: Result<(), FeedError>) -> u8 {
 
 // The answer's number, 256 times the updates finished, and 65,536 times the bytes taken.
 fn feed_said(done: Done) -> u64 {
-    let answer = done.answer;
-    let number = feed_number(answer) as u64;
+    let number = feed_number(done.answer) as u64;
     done.taken as u64 % 4294967296 * 65536 + done.updates as u64 % 256 * 256 + number
 }
 
@@ -47,10 +42,8 @@ pub extern "C" fn test_held_feed(
     piece: &[u8],
 ) -> u64 {
     let fed = rtr_held::feed_through(session_in(session), live, working, hold, piece);
-    let left = fed.session;
-    let done = fed.done;
-    let _ = put_session(left, session);
-    feed_said(done)
+    let _ = put_session(fed.session, session);
+    feed_said(fed.done)
 }
 
 // The same piece so many times, over a record that is lent once for all of them.
@@ -86,15 +79,13 @@ fn asked(
 fn ask_number(answer: Result<usize, AskError>) -> u64 {
     match answer {
         Ok(n) => n as u64 % 65536 * 256,
-        Err(error) => match error {
-            AskError::NotAReceiver => 22,
-            AskError::WrongPhase => 20,
-            AskError::NoTable => 21,
-            AskError::Encoding(encoding) => match encoding {
-                EncodeError::OutputShort { needed } => needed as u64 % 65536 * 256 + 9,
-                _ => encoding.number() as u64,
-            },
-        },
+        Err(AskError::NotAReceiver) => 22,
+        Err(AskError::WrongPhase) => 20,
+        Err(AskError::NoTable) => 21,
+        Err(AskError::Encoding(EncodeError::OutputShort { needed })) => {
+            needed as u64 % 65536 * 256 + 9
+        }
+        Err(AskError::Encoding(error)) => error.number() as u64,
     }
 }
 
@@ -108,10 +99,8 @@ pub extern "C" fn test_held_ask(
     out: &mut [u8],
 ) -> u64 {
     let said = asked(full, session_in(session), live, working, hold, out);
-    let left = said.session;
-    let answer = said.answer;
-    let _ = put_session(left, session);
-    ask_number(answer)
+    let _ = put_session(said.session, session);
+    ask_number(said.answer)
 }
 
 fn reconnect_number(answer: Result<(), NotAReceiver>) -> u8 {
@@ -129,10 +118,8 @@ pub extern "C" fn test_held_reconnect(
     hold: &[u8],
 ) -> u8 {
     let connected = rtr_held::reconnect_through(session_in(session), live, working, hold);
-    let left = connected.session;
-    let answer = connected.answer;
-    let _ = put_session(left, session);
-    reconnect_number(answer)
+    let _ = put_session(connected.session, session);
+    reconnect_number(connected.answer)
 }
 
 // The comparison's number, or 22.
@@ -143,8 +130,7 @@ pub extern "C" fn test_held_notify(
     working: &[u32],
     hold: &[u8],
 ) -> u8 {
-    let answer = rtr_held::notify_through(session_in(session), live, working, hold);
-    match answer {
+    match rtr_held::notify_through(session_in(session), live, working, hold) {
         Ok(Comparison::None) => 0,
         Ok(Comparison::OtherSession) => 1,
         Ok(Comparison::Same) => 2,

@@ -3,7 +3,7 @@ use crate::narrow::*;
 use rtr_codec::{RtrError, RunRead, parse_rtr_pdu, read_at};
 use rtr_models::*;
 use rtr_numbers::{at, error_value, put_numbers};
-use rtr_pdu_numbers::{put_pdu};
+use rtr_pdu_numbers::{pdu_of, put_pdu};
 
 // A refusal's number; its three values become the first three of 12 numbers.
 fn put_refusal(error: RtrError, pdu: &mut [u64]) -> u8 {
@@ -42,9 +42,8 @@ pub extern "C" fn test_read(
     next: &mut u64,
 ) -> u8 {
     let read = read_as(run, bytes, from);
-    let answer = read.answer;
     *next = read.next as u64;
-    match answer {
+    match read.answer {
         Ok((value, consumed)) => {
             let _ = put_pdu(value, consumed, pdu);
             0
@@ -63,13 +62,8 @@ pub extern "C" fn test_rest(bytes: &[u8], from: usize, rest: &mut u64) -> u8 {
 // The models' own type and version of the PDU that starts these bytes, or 65535.
 #[unsafe(no_mangle)]
 pub extern "C" fn test_kind(bytes: &[u8]) -> u64 {
-    let answer = parse_rtr_pdu(bytes);
-    match answer {
-        Ok((pdu, _)) => {
-            let kind = pdu.pdu_type();
-            let version = pdu.version();
-            kind.to_u8() as u64 * 256 + version.to_u8() as u64
-        }
+    match parse_rtr_pdu(bytes) {
+        Ok((pdu, _)) => pdu.pdu_type().to_u8() as u64 * 256 + pdu.version().to_u8() as u64,
         Err(_) => 65535,
     }
 }
@@ -89,24 +83,20 @@ fn byte_of(part: &[u8], i: usize) -> u64 {
 // Byte i of payload `which` of the PDU with these numbers: key identifier, key info, copy, text. 256 where it has none.
 #[unsafe(no_mangle)]
 pub extern "C" fn test_part(pdu: &[u64], bytes: &[u8], which: u8, i: usize) -> u64 {
-    let found = rtr_pdu_numbers::pdu_of(pdu);
-    match found {
-        Some((value, _)) => match value {
-            RtrPdu::RouterKey(p) => {
-                if which == 0 {
-                    return byte_of(p.subject_key_identifier_part(bytes), i);
-                }
-                byte_of(p.subject_public_key_info_part(bytes), i)
+    match pdu_of(pdu) {
+        Some((RtrPdu::RouterKey(p), _)) => {
+            if which == 0 {
+                return byte_of(p.subject_key_identifier_part(bytes), i);
             }
-            RtrPdu::ErrorReport(p) => {
-                if which == 2 {
-                    return byte_of(p.erroneous_pdu_part(bytes), i);
-                }
-                byte_of(p.error_text_part(bytes), i)
+            byte_of(p.subject_public_key_info_part(bytes), i)
+        }
+        Some((RtrPdu::ErrorReport(p), _)) => {
+            if which == 2 {
+                return byte_of(p.erroneous_pdu_part(bytes), i);
             }
-            _ => 256,
-        },
-        None => 256,
+            byte_of(p.error_text_part(bytes), i)
+        }
+        _ => 256,
     }
 }
 
@@ -136,8 +126,7 @@ pub extern "C" fn test_encode_end(numbers: &[u64], out: &mut [u8]) -> u64 {
         retry_interval: interval(at(numbers, 6)),
         expire_interval: interval(at(numbers, 7)),
     };
-    let answer = rtr_encode::encode(RtrPdu::EndOfData(p), b"", out);
-    match answer {
+    match rtr_encode::encode(RtrPdu::EndOfData(p), b"", out) {
         Ok(n) => n as u64,
         Err(_) => 0,
     }

@@ -1,7 +1,7 @@
 // The room's calls. A record is six numbers.
 use crate::narrow::*;
 use rtr_numbers::{at, put_numbers};
-use rtr_room::{LeaveError, EnterError, Position, Record};
+use rtr_room::{EnterError, LeaveError, Position, Record};
 
 fn record_of(n: &[u64]) -> Record {
     Record {
@@ -55,8 +55,7 @@ pub extern "C" fn test_record(given: &[u64], record: &mut [u64]) -> bool {
 // Record i of a room.
 #[unsafe(no_mangle)]
 pub extern "C" fn test_get(room: &[u32], i: usize, record: &mut [u64]) -> bool {
-    let found = rtr_room::get(room, i);
-    match found {
+    match rtr_room::get(room, i) {
         Some(r) => put_record(r, record),
         None => false,
     }
@@ -85,9 +84,8 @@ pub extern "C" fn test_enter(
     record: &[u64],
     after: &mut u64,
 ) -> u8 {
-    let answer = rtr_room::enter(room, count, record_of(record));
     *after = count as u64;
-    match answer {
+    match rtr_room::enter(room, count, record_of(record)) {
         Ok(n) => {
             *after = n as u64;
             0
@@ -106,9 +104,8 @@ pub extern "C" fn test_leave(
     record: &[u64],
     after: &mut u64,
 ) -> u8 {
-    let answer = rtr_room::leave(room, count, record_of(record));
     *after = count as u64;
-    match answer {
+    match rtr_room::leave(room, count, record_of(record)) {
         Ok(n) => {
             *after = n as u64;
             0
@@ -121,8 +118,7 @@ pub extern "C" fn test_leave(
 // 0 and where it stands, 16 and where it would, or 22.
 #[unsafe(no_mangle)]
 pub extern "C" fn test_look_up(room: &[u32], count: usize, record: &[u64], place: &mut u64) -> u8 {
-    let found = rtr_room::look_up(room, count, record_of(record));
-    match found {
+    match rtr_room::look_up(room, count, record_of(record)) {
         Ok(Position::At(n)) => {
             *place = n as u64;
             0
@@ -143,8 +139,7 @@ pub extern "C" fn test_empty(room: &mut [u32]) {
 // 0 or 22.
 #[unsafe(no_mangle)]
 pub extern "C" fn test_copy(from: &[u32], room: &mut [u32]) -> u8 {
-    let answer = rtr_room::copy(from, room);
-    match answer {
+    match rtr_room::copy(from, room) {
         Ok(()) => 0,
         Err(_) => 22,
     }

@@ -1,17 +1,14 @@
 // A route's state by the scan, beside the library's call, which goes by the table's order.
-use rtr_numbers::{session_of};
-use rtr_origin::{RouteState, ValidateError, Route, RoutePrefix, route_of, validate_by_scan};
+use rtr_numbers::session_of;
+use rtr_origin::{Route, RoutePrefix, RouteState, ValidateError, route_of, validate_by_scan};
 
 // Numbers that are no route's are asked of as one that is too long, so that 22 and 21 come first.
 fn asked(numbers: &[u32]) -> Route {
-    match route_of(numbers) {
-        Some(q) => q,
-        None => Route {
-            prefix: RoutePrefix::IPv4(0),
-            length: 255,
-            origin: 0,
-        },
-    }
+    route_of(numbers).unwrap_or(Route {
+        prefix: RoutePrefix::IPv4(0),
+        length: 255,
+        origin: 0,
+    })
 }
 
 fn state_number(answer: Result<RouteState, ValidateError>) -> u64 {
@@ -37,20 +34,14 @@ pub extern "C" fn test_validate_by_scan(
     route: &[u32],
     state: &mut u64,
 ) -> u8 {
+    *state = 0;
     if route.len() != 6 {
-        *state = 0;
         return 22;
     }
-    let found = session_of(session);
-    match found {
-        Some(s) => {
-            let answer = validate_by_scan(s, live, working, hold, asked(route));
-            *state = state_number(answer);
-            answer_number(answer)
-        }
-        None => {
-            *state = 0;
-            22
-        }
-    }
+    let Some(s) = session_of(session) else {
+        return 22;
+    };
+    let answer = validate_by_scan(s, live, working, hold, asked(route));
+    *state = state_number(answer);
+    answer_number(answer)
 }

@@ -2,12 +2,12 @@
 use rtr_models::{RtrPdu, RtrResetQuery};
 use rtr_numbers::{at, error_value, put_numbers};
 use rtr_pdu_numbers::put_pdu;
-use rtr_stream::{SearchError, Lies, Stream, StreamError};
+use rtr_stream::{Lies, SearchError, Stream, StreamError};
 
 // 0: found; 1 to 12: refused; 21: more is needed; 22.
 fn search_number(answer: Result<Option<(RtrPdu, Lies)>, SearchError>) -> u8 {
     match answer {
-        Ok(Some((_, _))) => 0,
+        Ok(Some(_)) => 0,
         Err(SearchError::Refused(error)) => error.number(),
         Ok(None) => 21,
         Err(SearchError::NotAStream) => 22,
@@ -62,9 +62,8 @@ pub extern "C" fn test_search(
     let held = at(state, 0) as usize;
     let from = at(state, 1) as usize;
     let searched = rtr_stream::search(hold, Stream { held }, piece, from);
-    let stream = searched.stream;
     let answer = searched.answer;
-    let left = [stream.held as u64, searched.next as u64];
+    let left = [searched.stream.held as u64, searched.next as u64];
     let _ = put_numbers(state, &left);
     let lies = search_said(answer);
     let _ = put_numbers(said, &lies);
