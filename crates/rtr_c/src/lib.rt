@@ -21,14 +21,14 @@ ghost use Rattle.rtr_c.specs.Calls.{head_numbers, read_listing_gives, read_listi
 ghost use Rattle.rtr_c.specs.Private.{feed_number, notify_number, notify_compared, validate_number, validate_state, asked_route};
 ghost use Rattle.rtr_c.specs.Runs.{memory, LeadsOn, Begins};
 
-use rtr_cache::{RunError};
-use rtr_encode::{EncodeError};
-use rtr_listed::{ListedError};
+use rtr_cache::RunError;
+use rtr_encode::EncodeError;
+use rtr_listed::ListedError;
 use rtr_listing::{Head, ListError};
 use rtr_models::*;
-use rtr_origin::{RouteState, ValidateError, PeerError, Route, RoutePrefix};
-use rtr_receiver::{Comparison, NotAReceiver, FeedError, AskError};
-use rtr_walk::{WalkEnd};
+use rtr_origin::{PeerError, Route, RoutePrefix, RouteState, ValidateError};
+use rtr_receiver::{AskError, Comparison, FeedError, NotAReceiver};
+use rtr_walk::WalkEnd;
 
 // How many numbers a listing's head is.
 const HEAD_NUMBERS: usize = 8;

@@ -15,13 +15,12 @@ ghost use Rattle.rtr_cache.specs.Private.{sided, side_bytes, IsRoom, Few, behind
 ghost use Rattle.rtr_receiver.specs.Fits.{TableNumbersFit};
 ghost use Rattle.rtr_cache.specs.Serves.{RoomFits};
 
-use rtr_changes::{next_only};
-use rtr_encode::{EncodeError, 
-    encode_cache_response, encode_end_of_data, encode_ipv4_prefix, encode_ipv6_prefix,
+use rtr_changes::next_only;
+use rtr_encode::{
+    EncodeError, encode_cache_response, encode_end_of_data, encode_ipv4_prefix, encode_ipv6_prefix,
 };
 use rtr_models::{
-    Ipv6Addr, RtrCacheResponse, RtrEndOfData, RtrIPv4Prefix, RtrIPv6Prefix,
-    RtrProtocolVersion,
+    Ipv6Addr, RtrCacheResponse, RtrEndOfData, RtrIPv4Prefix, RtrIPv6Prefix, RtrProtocolVersion,
 };
 use rtr_receiver::{RECORD_LIMIT, Table};
 use rtr_room::{NotARoom, Record, get, rules};

@@ -5,7 +5,7 @@ ghost use Rattle.std.specs.Prelude.{◌+◌, ◌*◌, ◌≤◌, ◌≡◌, leng
 ghost use Rattle.rtr_room.specs.Room.{record_at, stands, limit_of};
 ghost use Rattle.rtr_changes.specs.Changes.{next_only, only_said, only_number};
 
-use rtr_room::{Position, NotARoom, Record, get, look_up};
+use rtr_room::{NotARoom, Position, Record, get, look_up};
 
 // Document 01's number of what `next_only` answers, or 0 where it is no refusal.
 pub fn only_number(answer: Result<Option<usize>, NotARoom>) -> u8
@@ -41,7 +41,13 @@ fn is_there(room: &[u32], count: usize, r: Record) -> bool
 }
 
 // The first place of a, from one on, whose record does not stand in b.
-pub fn next_only(a: &[u32], a_count: usize, b: &[u32], b_count: usize, from: usize) -> Result<Option<usize>, NotARoom>
+pub fn next_only(
+    a: &[u32],
+    a_count: usize,
+    b: &[u32],
+    b_count: usize,
+    from: usize,
+) -> Result<Option<usize>, NotARoom>
     ensures { only_said result ≡ next_only a.now a_count b.now b_count from }
 {
     if a_count > a.len() / 6 {

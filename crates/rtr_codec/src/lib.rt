@@ -142,7 +142,11 @@ fn invalid_length(expected: u32, actual: u32, pdu_type: u8) -> Result<(RtrPdu, u
 }
 
 // Refusal 6.
-fn invalid_prefix_length(prefix_len: u8, max_len: u8, max_allowed: u8) -> Result<(RtrPdu, usize), RtrError>
+fn invalid_prefix_length(
+    prefix_len: u8,
+    max_len: u8,
+    max_allowed: u8,
+) -> Result<(RtrPdu, usize), RtrError>
     ensures { result ≡ Err (RtrError.InvalidPrefixLength prefix_len max_len max_allowed) }
 {
     Err(RtrError::InvalidPrefixLength {
@@ -153,7 +157,11 @@ fn invalid_prefix_length(prefix_len: u8, max_len: u8, max_allowed: u8) -> Result
 }
 
 // Type 0: session and serial.
-fn parse_serial_notify(input: &[u8], version: RtrProtocolVersion, actual: u32) -> Result<(RtrPdu, usize), RtrError>
+fn parse_serial_notify(
+    input: &[u8],
+    version: RtrProtocolVersion,
+    actual: u32,
+) -> Result<(RtrPdu, usize), RtrError>
     requires { Framed actual input.now }
     ensures { verdict result ≡ read_serial_notify version input.now }
 {
@@ -171,7 +179,11 @@ fn parse_serial_notify(input: &[u8], version: RtrProtocolVersion, actual: u32) -
 }
 
 // Type 1: session and serial.
-fn parse_serial_query(input: &[u8], version: RtrProtocolVersion, actual: u32) -> Result<(RtrPdu, usize), RtrError>
+fn parse_serial_query(
+    input: &[u8],
+    version: RtrProtocolVersion,
+    actual: u32,
+) -> Result<(RtrPdu, usize), RtrError>
     requires { Framed actual input.now }
     ensures { verdict result ≡ read_serial_query version input.now }
 {
@@ -189,7 +201,11 @@ fn parse_serial_query(input: &[u8], version: RtrProtocolVersion, actual: u32) ->
 }
 
 // Type 2: the header alone.
-fn parse_reset_query(input: &[u8], version: RtrProtocolVersion, actual: u32) -> Result<(RtrPdu, usize), RtrError>
+fn parse_reset_query(
+    input: &[u8],
+    version: RtrProtocolVersion,
+    actual: u32,
+) -> Result<(RtrPdu, usize), RtrError>
     requires { Framed actual input.now }
     ensures { verdict result ≡ read_reset_query version input.now }
 {
@@ -201,7 +217,11 @@ fn parse_reset_query(input: &[u8], version: RtrProtocolVersion, actual: u32) -> 
 }
 
 // Type 3: the session alone.
-fn parse_cache_response(input: &[u8], version: RtrProtocolVersion, actual: u32) -> Result<(RtrPdu, usize), RtrError>
+fn parse_cache_response(
+    input: &[u8],
+    version: RtrProtocolVersion,
+    actual: u32,
+) -> Result<(RtrPdu, usize), RtrError>
     requires { Framed actual input.now }
     ensures { verdict result ≡ read_cache_response version input.now }
 {
@@ -238,7 +258,11 @@ fn ipv4_fields(input: &[u8], version: RtrProtocolVersion) -> Result<(RtrPdu, usi
 }
 
 // Type 4: byte 11 is not looked at.
-fn parse_ipv4_prefix(input: &[u8], version: RtrProtocolVersion, actual: u32) -> Result<(RtrPdu, usize), RtrError>
+fn parse_ipv4_prefix(
+    input: &[u8],
+    version: RtrProtocolVersion,
+    actual: u32,
+) -> Result<(RtrPdu, usize), RtrError>
     requires { Framed actual input.now }
     ensures { verdict result ≡ read_ipv4_prefix version input.now }
 {
@@ -282,7 +306,11 @@ fn ipv6_fields(input: &[u8], version: RtrProtocolVersion) -> Result<(RtrPdu, usi
 }
 
 // Type 6: byte 11 is not looked at.
-fn parse_ipv6_prefix(input: &[u8], version: RtrProtocolVersion, actual: u32) -> Result<(RtrPdu, usize), RtrError>
+fn parse_ipv6_prefix(
+    input: &[u8],
+    version: RtrProtocolVersion,
+    actual: u32,
+) -> Result<(RtrPdu, usize), RtrError>
     requires { Framed actual input.now }
     ensures { verdict result ≡ read_ipv6_prefix version input.now }
 {
@@ -346,7 +374,11 @@ fn parse_end_of_data_v1(input: &[u8], actual: u32) -> Result<(RtrPdu, usize), Rt
 }
 
 // Type 7: its length goes by the version.
-fn parse_end_of_data(input: &[u8], version: RtrProtocolVersion, actual: u32) -> Result<(RtrPdu, usize), RtrError>
+fn parse_end_of_data(
+    input: &[u8],
+    version: RtrProtocolVersion,
+    actual: u32,
+) -> Result<(RtrPdu, usize), RtrError>
     requires { Framed actual input.now }
     ensures { verdict result ≡ read_end_of_data version input.now }
 {
@@ -357,7 +389,11 @@ fn parse_end_of_data(input: &[u8], version: RtrProtocolVersion, actual: u32) -> 
 }
 
 // Type 8: the header alone.
-fn parse_cache_reset(input: &[u8], version: RtrProtocolVersion, actual: u32) -> Result<(RtrPdu, usize), RtrError>
+fn parse_cache_reset(
+    input: &[u8],
+    version: RtrProtocolVersion,
+    actual: u32,
+) -> Result<(RtrPdu, usize), RtrError>
     requires { Framed actual input.now }
     ensures { verdict result ≡ read_cache_reset version input.now }
 {
@@ -394,7 +430,11 @@ fn parse_router_key_v1(input: &[u8], actual: u32) -> Result<(RtrPdu, usize), Rtr
 }
 
 // Type 9: version 1 only, and that is tested before the length.
-fn parse_router_key(input: &[u8], version: RtrProtocolVersion, actual: u32) -> Result<(RtrPdu, usize), RtrError>
+fn parse_router_key(
+    input: &[u8],
+    version: RtrProtocolVersion,
+    actual: u32,
+) -> Result<(RtrPdu, usize), RtrError>
     requires { Framed actual input.now }
     ensures { verdict result ≡ read_router_key in_use version input.now }
 {
@@ -467,7 +507,11 @@ fn parse_error_pdu(
 }
 
 // Type 10: the error code stands where others have the session.
-fn parse_error_report(input: &[u8], version: RtrProtocolVersion, actual: u32) -> Result<(RtrPdu, usize), RtrError>
+fn parse_error_report(
+    input: &[u8],
+    version: RtrProtocolVersion,
+    actual: u32,
+) -> Result<(RtrPdu, usize), RtrError>
     requires { Framed actual input.now }
     ensures { verdict result ≡ read_error_report in_use version input.now }
 {
@@ -509,7 +553,11 @@ fn parse_as(
 }
 
 // The version is known: the type comes next.
-fn parse_typed(input: &[u8], version: RtrProtocolVersion, actual: u32) -> Result<(RtrPdu, usize), RtrError>
+fn parse_typed(
+    input: &[u8],
+    version: RtrProtocolVersion,
+    actual: u32,
+) -> Result<(RtrPdu, usize), RtrError>
     requires { Framed actual input.now }
     ensures { verdict result ≡ read_typed in_use version (number input.now 1 1) (type_found (number input.now 1 1)) input.now }
 {
@@ -543,9 +591,7 @@ fn parse_any(input: &[u8]) -> Result<(RtrPdu, usize), RtrError>
     let found = RtrProtocolVersion::from_u8(version_byte);
     match found {
         Some(version) => parse_typed(input, version, length),
-        None => Err(RtrError::InvalidProtocolVersion(
-            version_byte,
-        )),
+        None => Err(RtrError::InvalidProtocolVersion(version_byte)),
     }
 }
 

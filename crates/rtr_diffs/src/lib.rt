@@ -12,7 +12,7 @@ ghost use Rattle.rtr_changes.specs.Changes.{changes};
 ghost use Rattle.rtr_diffs.specs.Diffs.{change_word, change_lines, changes_lines, refusal_lines, diff_says, diff_left};
 ghost use Rattle.rtr_diffs.specs.Private.{side_lines, IsRoom, behind_of, NewRead};
 
-use rtr_changes::{next_only};
+use rtr_changes::next_only;
 use rtr_listed::{ListedError, read_listing};
 use rtr_listing::{ListError, number_line, record_lines, text_line};
 use rtr_receiver::RECORD_LIMIT;

@@ -452,7 +452,11 @@ fn encode_key_parts(
     Ok(whole)
 }
 
-pub fn encode_router_key(pdu: RtrRouterKey, input: &[u8], out: &mut [u8]) -> Result<usize, EncodeError>
+pub fn encode_router_key(
+    pdu: RtrRouterKey,
+    input: &[u8],
+    out: &mut [u8],
+) -> Result<usize, EncodeError>
     ensures { leaves result out.new ≡ encode in_use (RtrPdu.RouterKey pdu) input.now out.old }
 {
     let identifier = pdu.subject_key_identifier_answer(input);
@@ -503,7 +507,11 @@ fn encode_report_parts(
     Ok(whole)
 }
 
-pub fn encode_error_report(pdu: RtrErrorReport, input: &[u8], out: &mut [u8]) -> Result<usize, EncodeError>
+pub fn encode_error_report(
+    pdu: RtrErrorReport,
+    input: &[u8],
+    out: &mut [u8],
+) -> Result<usize, EncodeError>
     ensures { leaves result out.new ≡ encode in_use (RtrPdu.ErrorReport pdu) input.now out.old }
 {
     let copy = pdu.erroneous_pdu_answer(input);

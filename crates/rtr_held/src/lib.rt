@@ -11,11 +11,11 @@ ghost use Rattle.rtr_codec.specs.Run.{read_at, run_said};
 ghost use Rattle.rtr_held.specs.Times.{FedTimes};
 ghost use Rattle.rtr_receiver.specs.Promises.{FedAs, full_ask_says, change_ask_says, ask_said, reconnect_says, reconnect_said, notify_says, notify_said};
 
-use rtr_models::RtrPdu;
 use rtr_codec::{RtrError, RunRead, read_at};
-use rtr_receiver::{AskError, Comparison, NotAReceiver, 
-    AskedSession, Done, Fed, Reconnected, Session,
-    change_ask, feed, full_ask, notify, reconnect,
+use rtr_models::RtrPdu;
+use rtr_receiver::{
+    AskError, AskedSession, Comparison, Done, Fed, NotAReceiver, Reconnected, Session, change_ask,
+    feed, full_ask, notify, reconnect,
 };
 
 // ---- In place
@@ -96,7 +96,12 @@ pub fn reconnect_in_place(
 }
 
 // Whether the last Serial Notify tells of something newer: the record is only read.
-pub fn notify_of(session: &Session, live: &[u32], working: &[u32], hold: &[u8]) -> Result<Comparison, NotAReceiver>
+pub fn notify_of(
+    session: &Session,
+    live: &[u32],
+    working: &[u32],
+    hold: &[u8],
+) -> Result<Comparison, NotAReceiver>
     ensures { notify_said result ≡ notify_says session.now.life.limit session.now live.now working.now hold.now }
 {
     notify(*session, live, working, hold)
@@ -187,7 +192,12 @@ pub fn reconnect_through(
     }
 }
 
-pub fn notify_through(session: Session, live: &[u32], working: &[u32], hold: &[u8]) -> Result<Comparison, NotAReceiver>
+pub fn notify_through(
+    session: Session,
+    live: &[u32],
+    working: &[u32],
+    hold: &[u8],
+) -> Result<Comparison, NotAReceiver>
     ensures { notify_said result ≡ notify_says session.life.limit session live.now working.now hold.now }
 {
     notify_of(&session, live, working, hold)

@@ -175,10 +175,13 @@ fn from_piece(hold: &mut [u8], piece: &[u8], at: usize) -> Turn
                 Ok((pdu, _)) => Turn {
                     held: 0,
                     next: end,
-                    then: Some(Ok(Some((pdu, Lies::InPiece(Place {
+                    then: Some(Ok(Some((
+                        pdu,
+                        Lies::InPiece(Place {
                             start: at,
                             len: whole,
-                        }))))),
+                        }),
+                    )))),
                 },
                 Err(error) => Turn {
                     held: 0,
@@ -200,10 +203,13 @@ fn read_hold(hold: &[u8], whole: usize, next: usize) -> Turn
         Ok((pdu, _)) => Turn {
             held: 0,
             next,
-            then: Some(Ok(Some((pdu, Lies::InHold(Place {
+            then: Some(Ok(Some((
+                pdu,
+                Lies::InHold(Place {
                     start: 0,
                     len: whole,
-                }))))),
+                }),
+            )))),
         },
         Err(error) => Turn {
             held: 0,

@@ -12,7 +12,7 @@ ghost use Rattle.rtr_table.specs.Printing.{Shows, lines_of, lines_up_to, Sized, 
 
 use rtr_listing::{head_lines, record_lines};
 use rtr_models::RtrProtocolVersion;
-use rtr_receiver::{NotAReceiver, FeedError, RECORD_LIMIT, Session, feed, full_ask, start};
+use rtr_receiver::{FeedError, NotAReceiver, RECORD_LIMIT, Session, feed, full_ask, start};
 use rtr_room::{Record, get};
 use std::io;
 use std::io::Read;
