@@ -11,7 +11,7 @@ use lib.ListN.{length, get_or, drop}
 use lib.Seq.{drop-cons, drop-length}
 use Rattle.std.specs.List.{list_all}
 use Rattle.rtr_room.proofs.Laws.Tests.{first_of, second-of}
-use Rattle.rtr_listing.proofs.Laws.{decimal-none, decimal-next, hex-next, value_none, value-next, hex-value-none, hex-value-next}
+use Rattle.rtr_listing.proofs.Laws.{decimal-none, decimal-next, hex-next, value_none, value-next, hex-value-none, hex-value-next, hex-none}
 use Rattle.rtr_listed.specs.Listed.{Fit, fitting}
 use Rattle.rtr_listed.specs.Listed.Fit.{misfits}
 use Rattle.rtr_listing.specs.Digits.{is_decimal, are_decimal, is_hex, are_hex, value_of, hex_digit, hex_of}
@@ -71,9 +71,8 @@ sum_done s i sum e so =
 
 -- hex digits likewise
 pub hex-all : (s : List ℕ) → list_all is_hex s ≡ are_hex s
-unfolding are_hex
-hex-all [] = refl
-hex-all (c ∷ s) = ap (λ (b : Bool). is_hex c && b) (hex-all s)
+hex-all [] = sym hex-none
+hex-all (c ∷ s) = ap (λ (b : Bool). is_hex c && b) (hex-all s) ∙ sym (hex-next c s)
 
 pub hex-at : (s : List ℕ) (p : ℕ) → p < length s → are_hex s ≡ true → is_hex (get_or s p 0) ≡ true
 hex-at [] p h k = absurd (omega arith)
