@@ -1,6 +1,6 @@
 -- What the calls without a feed come to, by cases: the tests of an order, the asks, reconnect, start and the notify comparison. Assumes nothing.
 use Rattle.std.specs.Prelude.{Option, Some, None, ⊤, Result, Ok, Err}
-use Rattle.std.proofs.Common.{◌≡◌, ℕ, ◌+◌, ◌-◌, ◌*◌, ◌%◌, ◌<◌, ◌≤◌, Bool, true, false, cond, not, ◌&&◌, ◌||◌, eqb, leb, List, [], ◌∷◌, length, replicate, sym, refl, ap, ◌∙◌, arith, le-ltb, lt-ltb, eq-eqb, ne_eqb, le-leb, leb-false, leb-true}
+use Rattle.std.proofs.Common.{◌≡◌, ◌⊎◌, inl, inr, ℕ, ◌+◌, ◌-◌, ◌*◌, ◌%◌, ◌<◌, ◌≤◌, Bool, true, false, cond, not, ◌&&◌, ◌||◌, eqb, leb, List, [], ◌∷◌, length, replicate, sym, refl, ap, ◌∙◌, arith, le-ltb, lt-ltb, eq-eqb, ne_eqb, le-leb, leb-false, leb-true}
 use mathlib.Core.Bool.{and-true}
 use borrow.Author.Tests.{lt-leb}
 use types.Run.{OneOf, miss}
@@ -69,13 +69,18 @@ tableless-records s e q =
     ∙ ap (λ (b : Bool). b && not (change_under_way s.phase)) (ne_eqb s.live.records 0 q)
 
 -- a full ask in another phase than Idle and MustReset
-pub full-else : (p : Phase) (r : Receiver) → OneOf (2 ∷ 3 ∷ 4 ∷ 5 ∷ []) (tag p) → full_query (stage_of p) r ≡ Query.refused 20
-full-else Phase.Idle r h = absurd (miss (2 ∷ 3 ∷ 4 ∷ 5 ∷ []) 0 tt h)
-full-else Phase.MustReset r h = absurd (miss (2 ∷ 3 ∷ 4 ∷ 5 ∷ []) 1 tt h)
-full-else Phase.AskedFull r h = refl
-full-else Phase.AskedChange r h = refl
-full-else (Phase.Loading kind session) r h = refl
-full-else (Phase.Stopped stop) r h = ap (λ (t : Stage). full_query t r) (stopped-is stop).2
+pub full-else : (p : Phase) (r : Receiver) → (p ≡ Phase.Idle → ⊥) → (p ≡ Phase.MustReset → ⊥) → full_query (stage_of p) r ≡ Query.refused 20
+full-else Phase.Idle r a b = absurd (a refl)
+full-else Phase.MustReset r a b = absurd (b refl)
+full-else Phase.AskedFull r a b = refl
+full-else Phase.AskedChange r a b = refl
+full-else (Phase.Loading kind session) r a b = refl
+full-else (Phase.Stopped stop) r a b = ap (λ (t : Stage). full_query t r) (stopped-is stop).2
+
+-- a full ask in either phase that takes one
+pub full-either : (p : Phase) (r : Receiver) → (p ≡ Phase.Idle) ⊎ (p ≡ Phase.MustReset) → full_query (stage_of p) r ≡ full_query (stage_of Phase.Idle) r
+full-either p r (inl e) = ap (λ (x : Phase). full_query (stage_of x) r) e
+full-either p r (inr e) = ap (λ (x : Phase). full_query (stage_of x) r) e
 
 -- a change ask in another phase than Idle
 pub change-else : (p : Phase) (r : Receiver) → OneOf (1 ∷ 2 ∷ 3 ∷ 4 ∷ 5 ∷ []) (tag p) → change_query (stage_of p) r ≡ Query.refused 20

@@ -193,10 +193,8 @@ fn is_tabled(s: Session) -> bool
     match table {
         Some(_) => true,
         None => {
-            let live = s.live;
-            if live.records == 0 {
-                let phase = s.phase;
-                return !change_under_way(phase);
+            if s.live.records == 0 {
+                return !change_under_way(s.phase);
             }
             false
         }
@@ -236,10 +234,7 @@ pub fn is_limit(limit: usize) -> bool
 pub fn is_receiver(s: Session, live: &[u32], working: &[u32], hold: &[u8]) -> bool
     ensures { result ≡ is_receiver s.life.limit s live.now working.now hold.now }
 {
-    let life = s.life;
-    let in_live = s.live;
-    let in_working = s.working;
-    if !is_limit(life.limit) {
+    if !is_limit(s.life.limit) {
         return false;
     }
     if !in_order(s) {
@@ -248,10 +243,10 @@ pub fn is_receiver(s: Session, live: &[u32], working: &[u32], hold: &[u8]) -> bo
     if !is_stream(hold, s.held) {
         return false;
     }
-    if !rules(live, life.limit, in_live.records) {
+    if !rules(live, s.life.limit, s.live.records) {
         return false;
     }
-    rules(working, life.limit, in_working.records)
+    rules(working, s.life.limit, s.working.records)
 }
 
 // ---- Calls
@@ -294,20 +289,7 @@ pub fn start(
 fn in_phase(s: Session, phase: Phase) -> Session
     ensures { result ≡ record { life = s.life; phase = phase; table = s.table; note = s.note; live = s.live; working = s.working; held = s.held } }
 {
-    let life = s.life;
-    let table = s.table;
-    let note = s.note;
-    let live = s.live;
-    let working = s.working;
-    Session {
-        life,
-        phase,
-        table,
-        note,
-        live,
-        working,
-        held: s.held,
-    }
+    Session { phase, ..s }
 }
 
 // What an ask that wrote its query, or could not, answers.
@@ -348,15 +330,10 @@ pub fn full_ask(
     if !is_receiver(s, live, working, hold) {
         return ask_refused(s, AskError::NotAReceiver);
     }
-    let life = s.life;
-    let version = life.version;
+    let version = s.life.version;
     let phase = s.phase;
     match phase {
-        Phase::Idle => {
-            let answer = encode_reset_query(RtrResetQuery { version }, out);
-            asked(s, answer, Phase::AskedFull)
-        }
-        Phase::MustReset => {
+        Phase::Idle | Phase::MustReset => {
             let answer = encode_reset_query(RtrResetQuery { version }, out);
             asked(s, answer, Phase::AskedFull)
         }
@@ -384,11 +361,9 @@ pub fn change_ask(
             match table {
                 None => ask_refused(s, AskError::NoTable),
                 Some(t) => {
-                    let life = s.life;
-                    let version = life.version;
                     let answer = encode_serial_query(
                         RtrSerialQuery {
-                            version,
+                            version: s.life.version,
                             session_id: t.session,
                             serial_number: t.serial,
                         },
@@ -413,18 +388,13 @@ pub fn reconnect(s: Session, live: &[u32], working: &mut [u32], hold: &[u8]) -> 
         };
     }
     empty(working);
-    let life = s.life;
-    let table = s.table;
-    let in_live = s.live;
     Reconnected {
         session: Session {
-            life,
             phase: Phase::Idle,
-            table,
             note: None,
-            live: in_live,
             working: Counts { records: 0 },
             held: 0,
+            ..s
         },
         answer: Ok(()),
     }
@@ -489,37 +459,20 @@ fn stop_with(s: Session, working: &mut [u32], stop: Stop) -> Session
     ensures { (result ≡ stopped_session s stop) × (working.new ≡ replicate (length working.old) 0) }
 {
     empty(working);
-    let life = s.life;
-    let table = s.table;
-    let note = s.note;
-    let live = s.live;
     Session {
-        life,
         phase: Phase::Stopped(stop),
-        table,
-        note,
-        live,
         working: Counts { records: 0 },
         held: 0,
+        ..s
     }
 }
 
 fn on_serial_notify(s: Session, session_id: u16, serial_number: u32) -> Session
     ensures { result ≡ record { life = s.life; phase = s.phase; table = s.table; note = Some (session_id, serial_number); live = s.live; working = s.working; held = s.held } }
 {
-    let life = s.life;
-    let phase = s.phase;
-    let table = s.table;
-    let live = s.live;
-    let working = s.working;
     Session {
-        life,
-        phase,
-        table,
         note: Some((session_id, serial_number)),
-        live,
-        working,
-        held: s.held,
+        ..s
     }
 }
 
@@ -527,18 +480,10 @@ fn on_serial_notify(s: Session, session_id: u16, serial_number: u32) -> Session
 fn loading(s: Session, kind: LoadKind, session_id: u16, working: Counts) -> Session
     ensures { result ≡ record { life = s.life; phase = Phase.Loading kind session_id; table = s.table; note = s.note; live = s.live; working = working; held = s.held } }
 {
-    let life = s.life;
-    let table = s.table;
-    let note = s.note;
-    let live = s.live;
     Session {
-        life,
         phase: Phase::Loading(kind, session_id),
-        table,
-        note,
-        live,
         working,
-        held: s.held,
+        ..s
     }
 }
 
@@ -546,19 +491,9 @@ fn loading(s: Session, kind: LoadKind, session_id: u16, working: Counts) -> Sess
 fn with_working(s: Session, count: usize) -> Session
     ensures { result ≡ record { life = s.life; phase = s.phase; table = s.table; note = s.note; live = s.live; working = record { records = count }; held = s.held } }
 {
-    let life = s.life;
-    let phase = s.phase;
-    let table = s.table;
-    let note = s.note;
-    let live = s.live;
     Session {
-        life,
-        phase,
-        table,
-        note,
-        live,
         working: Counts { records: count },
-        held: s.held,
+        ..s
     }
 }
 
@@ -567,8 +502,7 @@ fn on_announcement(s: Session, live: &[u32], working: &mut [u32], r: Record) -> 
     requires { BothRooms s.life.limit s live.now working.old }
     ensures { Stands s.life.limit result live.now working.new (changed_to (enter s.life.limit r (records s.working.records working.old)) (receiver_of s live.now working.old [])) }
 {
-    let in_working = s.working;
-    match enter(working, in_working.records, r) {
+    match enter(working, s.working.records, r) {
         Ok(count) => with_working(s, count),
         Err(EnterError::AlreadyIn) => stop_with(s, working, Stop::AlreadyIn),
         Err(EnterError::Full) => stop_with(s, working, Stop::RoomFull),
@@ -581,8 +515,7 @@ fn on_withdrawal(s: Session, live: &[u32], working: &mut [u32], r: Record) -> Se
     requires { BothRooms s.life.limit s live.now working.old }
     ensures { Stands s.life.limit result live.now working.new (changed_to (leave r (records s.working.records working.old)) (receiver_of s live.now working.old [])) }
 {
-    let in_working = s.working;
-    match leave(working, in_working.records, r) {
+    match leave(working, s.working.records, r) {
         Ok(count) => with_working(s, count),
         Err(LeaveError::NotIn) => stop_with(s, working, Stop::NotIn),
         Err(LeaveError::NotARoom) => stop_with(s, working, Stop::NotIn),
@@ -596,11 +529,7 @@ fn finish(s: Session, live: &mut [u32], working: &mut [u32], p: RtrEndOfData) ->
 {
     let _ = copy(working, live);
     empty(working);
-    let life = s.life;
-    let note = s.note;
-    let in_working = s.working;
     Session {
-        life,
         phase: Phase::Idle,
         table: Some(Table {
             session: p.session_id,
@@ -609,10 +538,9 @@ fn finish(s: Session, live: &mut [u32], working: &mut [u32], p: RtrEndOfData) ->
             retry: p.retry_interval_or_default(),
             expire: p.expire_interval_or_default(),
         }),
-        note,
-        live: in_working,
+        live: s.working,
         working: Counts { records: 0 },
-        held: s.held,
+        ..s
     }
 }
 
@@ -751,14 +679,10 @@ fn decide_pdu(s: Session, pdu: RtrPdu) -> Doing
             Doing::Stops(Stop::ErrorReport(code))
         }
         _ => {
-            let life = s.life;
-            let version = life.version;
-            if !is_version(pdu.version(), version) {
+            if !is_version(pdu.version(), s.life.version) {
                 return Doing::Stops(Stop::OtherVersion);
             }
-            let phase = s.phase;
-            let table = s.table;
-            decide_kind(phase, table, pdu)
+            decide_kind(s.phase, s.table, pdu)
         }
     }
 }
@@ -841,21 +765,7 @@ struct Step {
 fn with_held(s: Session, held: usize) -> Session
     ensures { result ≡ record { life = s.life; phase = s.phase; table = s.table; note = s.note; live = s.live; working = s.working; held = held } }
 {
-    let life = s.life;
-    let phase = s.phase;
-    let table = s.table;
-    let note = s.note;
-    let live = s.live;
-    let working = s.working;
-    Session {
-        life,
-        phase,
-        table,
-        note,
-        live,
-        working,
-        held,
-    }
+    Session { held, ..s }
 }
 
 // After a PDU the feed goes on, unless it stopped.
@@ -1086,10 +996,7 @@ fn next_step(
     if !may_gather(s, hold.len()) {
         return one_step(s, live, working, hold, piece, at, updates);
     }
-    let life = s.life;
-    let version = life.version;
-    let in_working = s.working;
-    let run = take_run(version, working, in_working.records, piece, at);
+    let run = take_run(s.life.version, working, s.working.records, piece, at);
     if run.next > at {
         return Step {
             session: with_working(s, run.count),
