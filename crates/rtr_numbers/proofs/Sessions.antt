@@ -66,8 +66,8 @@ module _ (life : Life) (t : Option Table) (note : Option (ℕ × ℕ)) (live wor
 module _ (life : Life) (p : Phase) (live working : Counts) (held : ℕ) where
   table-back : (t : Option Table) (note : Option (ℕ × ℕ)) → TableFits t → loose_table (numbers_of life (stage_of p) t note live working held) ≡ t
   unfolding numbers_of loose_table
-  table-back None note h = refl
-  table-back (Some t) note h =
+  table-back None last h = refl
+  table-back (Some t) last h =
       ap Some (low-back t (record { session = omega arith; serial = omega arith; refresh = omega arith; retry = omega arith; expire = omega arith }))
 
   note-back : (t : Option Table) (note : Option (ℕ × ℕ)) → NoteFits note → loose_note (numbers_of life (stage_of p) t note live working held) ≡ note

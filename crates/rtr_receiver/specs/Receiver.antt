@@ -291,6 +291,6 @@ compared n t = cond (n == t) same (cond (is_newer n t) newer (cond (is_newer t n
 
 -- "None comes first, without a note or a table"
 abbrev pub notified : Option Table → Option (ℕ × ℕ) → Notified
-notified None note = none
+notified None last = none
 notified (Some t) None = none
 notified (Some t) (Some (session, serial)) = cond (session == t.session) (compared serial t.serial) other_session

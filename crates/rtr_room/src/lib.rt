@@ -211,7 +211,7 @@ fn record_at(room: &[u32], i: usize) -> Record
     }
 }
 
-// Record i of any numbers, or Outside where its six are not all there.
+// Record i of any numbers, or None where its six are not all there.
 pub fn get(room: &[u32], i: usize) -> Option<Record>
     ensures { result ≡ record_found room.now i }
 {

@@ -1,0 +1,108 @@
+#!/usr/bin/env python3
+"""The last part of docs/DESIGN-PASS.md: each public signature, clause, definition and theorem that differs from COMMIT's, old and new.
+
+Usage: tools/design_changes.py COMMIT
+Signatures and clauses are those of crates/*/src/*.rt, definitions those of specs/, theorems the statements in proofs/*.antt. A line is one of them; imports and comments are left out."""
+import os
+import re
+import subprocess
+import sys
+
+TOP = os.path.dirname(os.path.dirname(os.path.abspath(__file__)))
+
+
+def git(*words):
+    return subprocess.run(("git",) + words, cwd=TOP, capture_output=True, text=True).stdout
+
+
+def signatures(text):
+    """each public function's head, on one line, and its clauses; public types and their cases; each with its name"""
+    text = re.sub(r"(?m)^\s*//.*\n", "", text)
+    out, owner = {}, ""
+    for m in re.finditer(r"(?m)^( *)(?:impl(?:<[^>]*>)? (?:\w+(?:<[^>]*>)? for )?(\w+).*\{|(?:pub (?:unsafe )?(?:extern \"C\" )?)?fn (\w+)|pub (?:enum|struct) (\w+))", text):
+        if m.group(2):
+            owner = m.group(2)
+            continue
+        if m.group(4):
+            end = re.compile(r"(?m)^\}|;$").search(text, m.start())
+            out["type " + m.group(4)] = " ".join(text[m.start():end.end()].split())
+            continue
+        if not m.group(1):
+            owner = ""
+        end = re.compile(r"(?m)^%s\{| \{$" % m.group(1)).search(text, m.end())
+        head = text[m.start():end.start() if end else len(text)]
+        public = head.lstrip().startswith("pub") or "no_mangle" in text[max(0, m.start() - 30):m.start()]
+        lines = re.split(r"(?m)^\s*(?=(?:requires|ensures)\b)", head)
+        name = (owner + "::" if owner and m.group(1) else "") + m.group(3)
+        if public:
+            out["fn " + name] = re.sub(r",? \)", ")", re.sub(r"\( ", "(", " ".join(lines[0].split())))
+        for clause in lines[1:]:
+            clause = " ".join(clause.split())
+            kind = clause.split("{")[0].strip()
+            out["%s of %s" % (kind, name)] = clause
+    return out
+
+
+def definitions(text, statements_only):
+    """each definition, or each statement of a theorem, on one line"""
+    out, name, body = {}, None, []
+    for line in text.split("\n") + ["end : "]:
+        if line.lstrip().startswith("--") or re.match(r"\s*(use|pub use|ghost use|unfolding|module|mod|pub mod|open)\b", line):
+            continue
+        m = re.match(r"( *)((?:unfoldable|abbrev|pub|irreducible) )*(?:(?:record|data) )?([^\s:({]+)[^=≔]* : ", line)
+        head = m and (m.group(2) or line.startswith("end")) and len(m.group(1)) <= 2
+        if head or not line.strip() and statements_only:
+            if name:
+                text = " ".join(" ".join(body).split())
+                if statements_only:
+                    text = re.split(r" %s [^:]*?= | %s = " % (re.escape(name), re.escape(name)), text)[0]
+                out[name] = text
+            name, body = (m.group(3), [line]) if head else (None, [])
+        elif name:
+            if statements_only and re.match(r"\s*%s\b.*=" % re.escape(name), line):
+                out[name] = " ".join(" ".join(body).split())
+                name, body = None, []
+            else:
+                body.append(line)
+    return out
+
+
+def main():
+    commit = sys.argv[1]
+    old = [n for n in git("ls-tree", "-r", "--name-only", commit, "crates").split() if n.endswith((".rt", ".antt"))]
+    new = [n for n in git("ls-files", "crates").split() if n.endswith((".rt", ".antt"))]
+    for crate in sorted({n.split("/")[1] for n in old + new}):
+        before, after = {}, {}
+        for where, names in ((before, old), (after, new)):
+            for n in names:
+                parts = n.split("/")
+                if parts[1] != crate:
+                    continue
+                text = git("show", commit + ":" + n) if where is before else open(os.path.join(TOP, n), encoding="utf-8").read()
+                if parts[2] == "src":
+                    found = signatures(text)
+                elif parts[2] == "specs":
+                    found = definitions(text, False)
+                elif len(parts) == 4 and parts[3] not in ("Answers.antt", "Invariants.antt") or parts[3] == "Laws":
+                    found = {k: v for k, v in definitions(text, True).items() if v.startswith(("pub ", "abbrev pub", "unfoldable pub"))}
+                else:
+                    continue
+                for k, v in found.items():
+                    where[("/".join(parts[2:]), k)] = v
+        changed = [k for k in sorted(set(before) | set(after)) if before.get(k) != after.get(k)]
+        if not changed:
+            continue
+        print("\n### %s\n\n```diff" % crate)
+        file = ""
+        for k in changed:
+            if k[0] != file:
+                file = k[0]
+                print("@@ %s @@" % file)
+            if k in before:
+                print("-", before[k])
+            if k in after:
+                print("+", after[k])
+        print("```")
+
+
+main()
