@@ -2,7 +2,8 @@
 """The last part of docs/DESIGN-PASS.md: each public signature, clause, definition and theorem that differs from COMMIT's, old and new.
 
 Usage: tools/design_changes.py COMMIT
-Signatures and clauses are those of crates/*/src/*.rt, definitions those of specs/, theorems the statements in proofs/*.antt. A line is one of them; imports and comments are left out."""
+Signatures and clauses are those of public functions and types in crates/*/src/*.rt, definitions those of specs/, theorems the statements in proofs/*.antt that README or docs/ name. A line is one of them;
+imports and comments are left out."""
 import os
 import re
 import subprocess
@@ -36,7 +37,7 @@ def signatures(text):
         name = (owner + "::" if owner and m.group(1) else "") + m.group(3)
         if public:
             out["fn " + name] = re.sub(r",? \)", ")", re.sub(r"\( ", "(", " ".join(lines[0].split())))
-        for clause in lines[1:]:
+        for clause in lines[1:] if public else []:
             clause = " ".join(clause.split())
             kind = clause.split("{")[0].strip()
             out["%s of %s" % (kind, name)] = clause
@@ -69,6 +70,8 @@ def definitions(text, statements_only):
 
 def main():
     commit = sys.argv[1]
+    papers = git("ls-tree", "-r", "--name-only", commit, "docs", "README.md").split()
+    named = set(re.findall(r"[\w.'-]+", " ".join(git("show", commit + ":" + n) for n in papers if n.endswith(".md") and not n.endswith("PORT.md"))))
     old = [n for n in git("ls-tree", "-r", "--name-only", commit, "crates").split() if n.endswith((".rt", ".antt"))]
     new = [n for n in git("ls-files", "crates").split() if n.endswith((".rt", ".antt"))]
     for crate in sorted({n.split("/")[1] for n in old + new}):
@@ -84,7 +87,7 @@ def main():
                 elif parts[2] == "specs":
                     found = definitions(text, False)
                 elif len(parts) == 4 and parts[3] not in ("Answers.antt", "Invariants.antt") or parts[3] == "Laws":
-                    found = {k: v for k, v in definitions(text, True).items() if v.startswith(("pub ", "abbrev pub", "unfoldable pub"))}
+                    found = {k: v for k, v in definitions(text, True).items() if k in named and v.startswith(("pub ", "abbrev pub", "unfoldable pub"))}
                 else:
                     continue
                 for k, v in found.items():
