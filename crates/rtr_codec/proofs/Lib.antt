@@ -14,3 +14,4 @@ mod Differ
 mod Runs
 mod Text
 mod Plain
+mod Early

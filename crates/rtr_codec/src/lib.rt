@@ -131,29 +131,25 @@ fn be32(input: &[u8], at: usize) -> u32
 // ---- Reading, one function for each kind: `actual` is the header's length, and so many bytes are there
 
 // Refusal 4.
-fn invalid_length(expected: u32, actual: u32, pdu_type: u8) -> Result<(RtrPdu, usize), RtrError>
-    ensures { result ≡ Err (RtrError.InvalidLength expected actual pdu_type) }
+fn invalid_length(expected: u32, actual: u32, pdu_type: u8) -> RtrError
+    ensures { result ≡ RtrError.InvalidLength expected actual pdu_type }
 {
-    Err(RtrError::InvalidLength {
+    RtrError::InvalidLength {
         expected,
         actual,
         pdu_type,
-    })
+    }
 }
 
 // Refusal 6.
-fn invalid_prefix_length(
-    prefix_len: u8,
-    max_len: u8,
-    max_allowed: u8,
-) -> Result<(RtrPdu, usize), RtrError>
-    ensures { result ≡ Err (RtrError.InvalidPrefixLength prefix_len max_len max_allowed) }
+fn invalid_prefix_length(prefix_len: u8, max_len: u8, max_allowed: u8) -> RtrError
+    ensures { result ≡ RtrError.InvalidPrefixLength prefix_len max_len max_allowed }
 {
-    Err(RtrError::InvalidPrefixLength {
+    RtrError::InvalidPrefixLength {
         prefix_len,
         max_len,
         max_allowed,
-    })
+    }
 }
 
 // Type 0: session and serial.
@@ -166,7 +162,7 @@ fn parse_serial_notify(
     ensures { verdict result ≡ read_serial_notify version input.now }
 {
     if actual != RTR_SERIAL_NOTIFY_LEN {
-        return invalid_length(RTR_SERIAL_NOTIFY_LEN, actual, 0);
+        return Err(invalid_length(RTR_SERIAL_NOTIFY_LEN, actual, 0));
     }
     let session_id = be16(input, 2);
     let serial_number = be32(input, 8);
@@ -188,7 +184,7 @@ fn parse_serial_query(
     ensures { verdict result ≡ read_serial_query version input.now }
 {
     if actual != RTR_SERIAL_QUERY_LEN {
-        return invalid_length(RTR_SERIAL_QUERY_LEN, actual, 1);
+        return Err(invalid_length(RTR_SERIAL_QUERY_LEN, actual, 1));
     }
     let session_id = be16(input, 2);
     let serial_number = be32(input, 8);
@@ -210,7 +206,7 @@ fn parse_reset_query(
     ensures { verdict result ≡ read_reset_query version input.now }
 {
     if actual != RTR_RESET_QUERY_LEN {
-        return invalid_length(RTR_RESET_QUERY_LEN, actual, 2);
+        return Err(invalid_length(RTR_RESET_QUERY_LEN, actual, 2));
     }
     let pdu = RtrPdu::ResetQuery(RtrResetQuery { version });
     Ok((pdu, actual as usize))
@@ -226,7 +222,7 @@ fn parse_cache_response(
     ensures { verdict result ≡ read_cache_response version input.now }
 {
     if actual != RTR_CACHE_RESPONSE_LEN {
-        return invalid_length(RTR_CACHE_RESPONSE_LEN, actual, 3);
+        return Err(invalid_length(RTR_CACHE_RESPONSE_LEN, actual, 3));
     }
     let session_id = be16(input, 2);
     let pdu = RtrPdu::CacheResponse(RtrCacheResponse {
@@ -267,15 +263,15 @@ fn parse_ipv4_prefix(
     ensures { verdict result ≡ read_ipv4_prefix version input.now }
 {
     if actual != RTR_IPV4_PREFIX_LEN {
-        return invalid_length(RTR_IPV4_PREFIX_LEN, actual, 4);
+        return Err(invalid_length(RTR_IPV4_PREFIX_LEN, actual, 4));
     }
     let prefix_length = be8(input, 9);
     let max_length = be8(input, 10);
     if prefix_length > max_length {
-        return invalid_prefix_length(prefix_length, max_length, 32);
+        return Err(invalid_prefix_length(prefix_length, max_length, 32));
     }
     if max_length > 32 {
-        return invalid_prefix_length(prefix_length, max_length, 32);
+        return Err(invalid_prefix_length(prefix_length, max_length, 32));
     }
     ipv4_fields(input, version)
 }
@@ -315,15 +311,15 @@ fn parse_ipv6_prefix(
     ensures { verdict result ≡ read_ipv6_prefix version input.now }
 {
     if actual != RTR_IPV6_PREFIX_LEN {
-        return invalid_length(RTR_IPV6_PREFIX_LEN, actual, 6);
+        return Err(invalid_length(RTR_IPV6_PREFIX_LEN, actual, 6));
     }
     let prefix_length = be8(input, 9);
     let max_length = be8(input, 10);
     if prefix_length > max_length {
-        return invalid_prefix_length(prefix_length, max_length, 128);
+        return Err(invalid_prefix_length(prefix_length, max_length, 128));
     }
     if max_length > 128 {
-        return invalid_prefix_length(prefix_length, max_length, 128);
+        return Err(invalid_prefix_length(prefix_length, max_length, 128));
     }
     ipv6_fields(input, version)
 }
@@ -334,7 +330,7 @@ fn parse_end_of_data_v0(input: &[u8], actual: u32) -> Result<(RtrPdu, usize), Rt
     ensures { verdict result ≡ read_end_of_data RtrProtocolVersion.V0 input.now }
 {
     if actual != RTR_END_OF_DATA_V0_LEN {
-        return invalid_length(RTR_END_OF_DATA_V0_LEN, actual, 7);
+        return Err(invalid_length(RTR_END_OF_DATA_V0_LEN, actual, 7));
     }
     let session_id = be16(input, 2);
     let serial_number = be32(input, 8);
@@ -355,7 +351,7 @@ fn parse_end_of_data_v1(input: &[u8], actual: u32) -> Result<(RtrPdu, usize), Rt
     ensures { verdict result ≡ read_end_of_data RtrProtocolVersion.V1 input.now }
 {
     if actual != RTR_END_OF_DATA_V1_LEN {
-        return invalid_length(RTR_END_OF_DATA_V1_LEN, actual, 7);
+        return Err(invalid_length(RTR_END_OF_DATA_V1_LEN, actual, 7));
     }
     let session_id = be16(input, 2);
     let serial_number = be32(input, 8);
@@ -398,7 +394,7 @@ fn parse_cache_reset(
     ensures { verdict result ≡ read_cache_reset version input.now }
 {
     if actual != RTR_CACHE_RESET_LEN {
-        return invalid_length(RTR_CACHE_RESET_LEN, actual, 8);
+        return Err(invalid_length(RTR_CACHE_RESET_LEN, actual, 8));
     }
     let pdu = RtrPdu::CacheReset(RtrCacheReset { version });
     Ok((pdu, actual as usize))
@@ -410,7 +406,7 @@ fn parse_router_key_v1(input: &[u8], actual: u32) -> Result<(RtrPdu, usize), Rtr
     ensures { verdict result ≡ read_router_key crate RtrProtocolVersion.V1 input.now }
 {
     if actual < RTR_ROUTER_KEY_MIN_LEN {
-        return invalid_length(RTR_ROUTER_KEY_MIN_LEN, actual, 9);
+        return Err(invalid_length(RTR_ROUTER_KEY_MIN_LEN, actual, 9));
     }
     let flags = be8(input, 8);
     let asn = be32(input, 30);
@@ -466,7 +462,7 @@ fn parse_error_text(
     let error_text_offset = 16 + encap_pdu_len;
     let end = error_text_offset + error_text_len;
     if end > actual as usize {
-        return invalid_length(capped_length(end), actual, 10);
+        return Err(invalid_length(capped_length(end), actual, 10));
     }
     if rtr_text::is_well_formed(&input[error_text_offset..end]) {
         let erroneous_pdu = Place {
@@ -501,7 +497,7 @@ fn parse_error_pdu(
     let encap_pdu_len = be32(input, 8) as usize;
     let end = 16 + encap_pdu_len;
     if end > actual as usize {
-        return invalid_length(capped_length(end), actual, 10);
+        return Err(invalid_length(capped_length(end), actual, 10));
     }
     parse_error_text(input, version, error_code, encap_pdu_len, actual)
 }
@@ -516,14 +512,11 @@ fn parse_error_report(
     ensures { verdict result ≡ read_error_report in_use version input.now }
 {
     if actual < RTR_ERROR_REPORT_MIN_LEN {
-        return invalid_length(RTR_ERROR_REPORT_MIN_LEN, actual, 10);
+        return Err(invalid_length(RTR_ERROR_REPORT_MIN_LEN, actual, 10));
     }
     let code = be16(input, 2);
-    let found = RtrErrorCode::from_u16(code);
-    match found {
-        Some(error_code) => parse_error_pdu(input, version, error_code, actual),
-        None => Err(RtrError::InvalidErrorCode(code)),
-    }
+    let error_code = RtrErrorCode::from_u16(code).ok_or(RtrError::InvalidErrorCode(code))?;
+    parse_error_pdu(input, version, error_code, actual)
 }
 
 // ---- Reading any kind
@@ -562,11 +555,10 @@ fn parse_typed(
     ensures { verdict result ≡ read_typed in_use version (number input.now 1 1) (type_found (number input.now 1 1)) input.now }
 {
     let pdu_type_byte = be8(input, 1);
-    let found = RtrPduType::from_u8(pdu_type_byte);
-    match found {
-        Some(pdu_type) => parse_as(input, version, pdu_type, actual),
-        None => Err(RtrError::InvalidPduType(pdu_type_byte)),
-    }
+    let pdu_type = RtrPduType::from_u8(pdu_type_byte).ok_or(RtrError::InvalidPduType(
+        pdu_type_byte,
+    ))?;
+    parse_as(input, version, pdu_type, actual)
 }
 
 // One PDU of any kind: completeness is tested before all else.
@@ -588,11 +580,10 @@ fn parse_any(input: &[u8]) -> Result<(RtrPdu, usize), RtrError>
         });
     }
     let version_byte = be8(input, 0);
-    let found = RtrProtocolVersion::from_u8(version_byte);
-    match found {
-        Some(version) => parse_typed(input, version, length),
-        None => Err(RtrError::InvalidProtocolVersion(version_byte)),
-    }
+    let version = RtrProtocolVersion::from_u8(version_byte).ok_or(RtrError::InvalidProtocolVersion(
+        version_byte,
+    ))?;
+    parse_typed(input, version, length)
 }
 
 // A whole prefix of version 1 with its lengths in rule stands at the front. That nothing else is one nobody has to know.
@@ -660,14 +651,9 @@ pub fn read_at(input: &[u8], at: usize) -> RunRead
         return RunRead { answer, next: at };
     }
     let answer = parse_rtr_pdu(&input[at..]);
-    match answer {
-        Ok((pdu, consumed)) => RunRead {
-            answer: Ok((pdu, consumed)),
-            next: at + consumed,
-        },
-        Err(error) => RunRead {
-            answer: Err(error),
-            next: at,
-        },
-    }
+    let next = match answer {
+        Ok((_, consumed)) => at + consumed,
+        Err(_) => at,
+    };
+    RunRead { answer, next }
 }

@@ -2,6 +2,7 @@
 use borrow.Author.Tests.{le-leb, lt-leb}
 use Rattle.rtr_codec.specs.Read.{read, read_versioned, header_length}
 use borrow.Author.Rules.{rules}
+use Rattle.rtr_codec.proofs.Early.{refused_early}
 use Rattle.rtr_codec.proofs.parse_any.Goals as goal
 
 pub returns-then-input-lt-RTR_HEADER_LEN : goal.returns-then-input-lt-RTR_HEADER_LEN
@@ -16,10 +17,21 @@ pub parse_typed-requires : goal.parse_typed-requires
 unfolding header_length
 parse_typed-requires c = search rules
 
-pub returns-in-Some : goal.returns-in-Some
+pub returns-in_err-version : goal.returns-in_err-version
 unfolding read read_versioned header_length
-returns-in-Some c = simp (le-leb _ _ c.if-input-lt-RTR_HEADER_LEN.false, ← c.be32-length.ensures, le-leb _ _ c.if-input-length_usize.false, ← c.be8-version_byte.ensures, ← c.from_u8-found.ensures, c.in-Some.is) c.parse_typed.ensures
+returns-in_err-version c =
+    let p = refused_early _ _ _ _ _ c.ok_or.ensures.value c.in_err-version.was c.from_residual.ensures.1 in
+    simp (le-leb _ _ c.if-input-lt-RTR_HEADER_LEN.false, ← c.be32-length.ensures, le-leb _ _ c.if-input-length_usize.false, ← c.be8-version_byte.ensures, ← c.from_u8.ensures, p.0, p.1)
 
-pub returns-in-None : goal.returns-in-None
+pub returns : goal.returns
 unfolding read read_versioned header_length
-returns-in-None c = simp (le-leb _ _ c.if-input-lt-RTR_HEADER_LEN.false, ← c.be32-length.ensures, le-leb _ _ c.if-input-length_usize.false, ← c.be8-version_byte.ensures, ← c.from_u8-found.ensures, c.in-None.is)
+returns c =
+    simp (
+      le-leb _ _ c.if-input-lt-RTR_HEADER_LEN.false,
+      ← c.be32-length.ensures,
+      le-leb _ _ c.if-input-length_usize.false,
+      ← c.be8-version_byte.ensures,
+      ← c.from_u8.ensures,
+      c.ok_or.ensures.ok_part,
+      c.in_ok-version.was,
+    ) c.parse_typed.ensures
