@@ -21,6 +21,16 @@ pub enum EncodeError {
     OutputShort { needed: usize },
 }
 
+impl From<PlaceOutside> for EncodeError {
+    ghost use Rattle.rtr_encode.specs.declared.EncodeError.{EncodeError};
+
+    ghost from_gives = { λ _ e. e ≡ EncodeError.PlaceOutside };
+
+    fn from(_refusal: PlaceOutside) -> EncodeError {
+        EncodeError::PlaceOutside
+    }
+}
+
 impl EncodeError {
     // Document 01's number of it.
     pub fn number(self) -> u8
@@ -92,8 +102,7 @@ pub fn encode_serial_notify(pdu: RtrSerialNotify, out: &mut [u8]) -> Result<usiz
     if out.len() < 12 {
         return short(12);
     }
-    let version = pdu.version;
-    put_header(out, version, 0, pdu.session_id, 12);
+    put_header(out, pdu.version, 0, pdu.session_id, 12);
     put32(out, 8, pdu.serial_number);
     Ok(12)
 }
@@ -104,8 +113,7 @@ pub fn encode_serial_query(pdu: RtrSerialQuery, out: &mut [u8]) -> Result<usize,
     if out.len() < 12 {
         return short(12);
     }
-    let version = pdu.version;
-    put_header(out, version, 1, pdu.session_id, 12);
+    put_header(out, pdu.version, 1, pdu.session_id, 12);
     put32(out, 8, pdu.serial_number);
     Ok(12)
 }
@@ -116,8 +124,7 @@ pub fn encode_reset_query(pdu: RtrResetQuery, out: &mut [u8]) -> Result<usize, E
     if out.len() < 8 {
         return short(8);
     }
-    let version = pdu.version;
-    put_header(out, version, 2, 0, 8);
+    put_header(out, pdu.version, 2, 0, 8);
     Ok(8)
 }
 
@@ -127,8 +134,7 @@ pub fn encode_cache_response(pdu: RtrCacheResponse, out: &mut [u8]) -> Result<us
     if out.len() < 8 {
         return short(8);
     }
-    let version = pdu.version;
-    put_header(out, version, 3, pdu.session_id, 8);
+    put_header(out, pdu.version, 3, pdu.session_id, 8);
     Ok(8)
 }
 
@@ -149,8 +155,7 @@ pub fn encode_ipv4_prefix(pdu: RtrIPv4Prefix, out: &mut [u8]) -> Result<usize, E
     if out.len() < 20 {
         return short(20);
     }
-    let version = pdu.version;
-    put_header(out, version, 4, 0, 20);
+    put_header(out, pdu.version, 4, 0, 20);
     put_lengths(out, pdu.flags, pdu.prefix_length, pdu.max_length);
     put32(out, 12, pdu.prefix);
     put32(out, 16, pdu.asn);
@@ -163,9 +168,8 @@ pub fn encode_ipv6_prefix(pdu: RtrIPv6Prefix, out: &mut [u8]) -> Result<usize, E
     if out.len() < 32 {
         return short(32);
     }
-    let version = pdu.version;
     let prefix = pdu.prefix;
-    put_header(out, version, 6, 0, 32);
+    put_header(out, pdu.version, 6, 0, 32);
     put_lengths(out, pdu.flags, pdu.prefix_length, pdu.max_length);
     put32(out, 12, prefix.w0);
     put32(out, 16, prefix.w1);
@@ -212,8 +216,7 @@ fn encode_end_of_data_v1(
 pub fn encode_end_of_data(pdu: RtrEndOfData, out: &mut [u8]) -> Result<usize, EncodeError>
     ensures { leaves result out.new ≡ encode in_use (RtrPdu.EndOfData pdu) [] out.old }
 {
-    let version = pdu.version;
-    match version {
+    match pdu.version {
         RtrProtocolVersion::V0 => encode_end_of_data_v0(pdu, out),
         RtrProtocolVersion::V1 => {
             let refresh = pdu.refresh_interval_or_default();
@@ -237,8 +240,7 @@ pub fn encode_cache_reset(pdu: RtrCacheReset, out: &mut [u8]) -> Result<usize, E
     if out.len() < 8 {
         return short(8);
     }
-    let version = pdu.version;
-    put_header(out, version, 8, 0, 8);
+    put_header(out, pdu.version, 8, 0, 8);
     Ok(8)
 }
 
@@ -422,13 +424,6 @@ fn put_error_report(
 
 // ---- Encoding, the kinds with payloads: 11, 8, 10, 9, in this order
 
-// Refusal 11.
-fn outside() -> Result<usize, EncodeError>
-    ensures { result ≡ Err EncodeError.PlaceOutside }
-{
-    Err(EncodeError::PlaceOutside)
-}
-
 // The places lie in the slice: lengths are next.
 fn encode_key_parts(
     version: RtrProtocolVersion,
@@ -459,17 +454,10 @@ pub fn encode_router_key(
 ) -> Result<usize, EncodeError>
     ensures { leaves result out.new ≡ encode in_use (RtrPdu.RouterKey pdu) input.now out.old }
 {
-    let identifier = pdu.subject_key_identifier_answer(input);
-    if let Err(_) = identifier {
-        return outside();
-    }
-    let info = pdu.subject_public_key_info_answer(input);
-    if let Err(_) = info {
-        return outside();
-    }
-    let version = pdu.version;
+    pdu.subject_key_identifier_answer(input)?;
+    pdu.subject_public_key_info_answer(input)?;
     encode_key_parts(
-        version,
+        pdu.version,
         pdu.flags,
         pdu.subject_key_identifier_part(input),
         pdu.asn,
@@ -514,26 +502,19 @@ pub fn encode_error_report(
 ) -> Result<usize, EncodeError>
     ensures { leaves result out.new ≡ encode in_use (RtrPdu.ErrorReport pdu) input.now out.old }
 {
-    let copy = pdu.erroneous_pdu_answer(input);
-    if let Err(_) = copy {
-        return outside();
+    pdu.erroneous_pdu_answer(input)?;
+    pdu.error_text_answer(input)?;
+    let text = pdu.error_text_part(input);
+    if !rtr_text::is_well_formed(text) {
+        return Err(EncodeError::InvalidUtf8);
     }
-    let text = pdu.error_text_answer(input);
-    if let Err(_) = text {
-        return outside();
-    }
-    if rtr_text::is_well_formed(pdu.error_text_part(input)) {
-        let version = pdu.version;
-        let code = pdu.error_code;
-        return encode_report_parts(
-            version,
-            code.to_u16(),
-            pdu.erroneous_pdu_part(input),
-            pdu.error_text_part(input),
-            out,
-        );
-    }
-    Err(EncodeError::InvalidUtf8)
+    encode_report_parts(
+        pdu.version,
+        pdu.error_code.to_u16(),
+        pdu.erroneous_pdu_part(input),
+        text,
+        out,
+    )
 }
 
 // ---- Encoding any kind

@@ -1,4 +1,5 @@
 -- `encode_error_report` tests both places and then the text, and hands the parts on. Assumes nothing.
+use Rattle.std.proofs.lemmas.Result.{err_from_is_err_and}
 use mathlib.Core.Path.{◌∙◌, ap, sym}
 use Rattle.rtr_text.specs.Utf8.{well_formed}
 use Rattle.rtr_models.specs.Parts.{inside}
@@ -8,35 +9,34 @@ use Rattle.rtr_encode.proofs.Payloads.{part-is-true, refused-is-false}
 use Rattle.rtr_encode.proofs.Checks.{place-outside, text-refused, part_at, report-encodes}
 use Rattle.rtr_encode.proofs.encode_error_report.Goals as goal
 
-pub returns-in-Err : goal.returns-in-Err
-returns-in-Err c =
+pub returns-in_err-erroneous_pdu_answer : goal.returns-in_err-erroneous_pdu_answer
+returns-in_err-erroneous_pdu_answer c =
     let a = c.args in
-    rw c.outside.ensures (place-outside in_use (ErrorReport a.pdu) a.input.now a.out.now (simp (refused-is-false (inside a.pdu.erroneous_pdu a.input.now) _ c.erroneous_pdu_answer-copy.ensures c.in-Err.is)))
+    let e = err_from_is_err_and c.from_residual.result c.from_residual.ensures.1 in
+    rw (e.1, e.2) (place-outside in_use (ErrorReport a.pdu) a.input.now a.out.now (simp (refused-is-false (inside a.pdu.erroneous_pdu a.input.now) _ c.erroneous_pdu_answer.ensures c.in_err-erroneous_pdu_answer.was)))
 
-pub returns-in-Err-text : goal.returns-in-Err-text
-returns-in-Err-text c =
+pub returns-in_err-error_text_answer : goal.returns-in_err-error_text_answer
+returns-in_err-error_text_answer c =
     let a = c.args in
-    rw c.outside-in-Err-text.ensures
+    let e = err_from_is_err_and c.from_residual-in_err-error_text_answer.result c.from_residual-in_err-error_text_answer.ensures.1 in
+    rw (e.1, e.2)
     (place-outside in_use (ErrorReport a.pdu) a.input.now a.out.now
-    (simp ((part-is-true (inside a.pdu.erroneous_pdu a.input.now) _ c.erroneous_pdu_answer-copy.ensures c.in_default.is), (refused-is-false (inside a.pdu.error_text a.input.now) _ c.error_text_answer-text.ensures c.in-Err-text.is))))
+    (simp ((part-is-true (inside a.pdu.erroneous_pdu a.input.now) _ c.erroneous_pdu_answer.ensures c.in_ok-erroneous_pdu_answer.was), (refused-is-false (inside a.pdu.error_text a.input.now) _ c.error_text_answer.ensures c.in_err-error_text_answer.was))))
 
-pub returns-then-is_well_formed : goal.returns-then-is_well_formed
-returns-then-is_well_formed c =
+pub returns-then-not-is_well_formed : goal.returns-then-not-is_well_formed
+returns-then-not-is_well_formed c =
     let a = c.args in
-    let i = part-is-true (inside a.pdu.erroneous_pdu a.input.now) _ c.erroneous_pdu_answer-copy.ensures c.in_default.is in
-    let j = part-is-true (inside a.pdu.error_text a.input.now) _ c.error_text_answer-text.ensures c.in_default-text.is in
-    let text = part_at _ a.pdu.error_text a.input.now _ c.error_text_part.ensures.0 j in
-    let text₂ = part_at _ a.pdu.error_text a.input.now _ c.error_text_part-then-is_well_formed.ensures.0 j in
-    c.encode_report_parts.ensures
-    ∙ report-encodes a.pdu a.input.now a.out.now _ _ _ i j
-    (ap well_formed (text₂ ∙ sym text) ∙ sym c.is_well_formed.ensures ∙ c.if-is_well_formed.true)
-    c.to_u16.ensures (part_at _ a.pdu.erroneous_pdu a.input.now _ c.erroneous_pdu_part.ensures.0 i) text₂
+    let i = part-is-true (inside a.pdu.erroneous_pdu a.input.now) _ c.erroneous_pdu_answer.ensures c.in_ok-erroneous_pdu_answer.was in
+    let j = part-is-true (inside a.pdu.error_text a.input.now) _ c.error_text_answer.ensures c.in_ok-error_text_answer.was in
+    let text = part_at _ a.pdu.error_text a.input.now _ c.error_text_part-text.ensures.0 j in
+    text-refused in_use (ErrorReport a.pdu) a.input.now a.out.now (simp (i, j))
+    (ap well_formed (sym text) ∙ sym c.is_well_formed.ensures ∙ c.if-not-is_well_formed.true)
 
 pub returns : goal.returns
 returns c =
     let a = c.args in
-    let i = part-is-true (inside a.pdu.erroneous_pdu a.input.now) _ c.erroneous_pdu_answer-copy.ensures c.in_default.is in
-    let j = part-is-true (inside a.pdu.error_text a.input.now) _ c.error_text_answer-text.ensures c.in_default-text.is in
-    let text = part_at _ a.pdu.error_text a.input.now _ c.error_text_part.ensures.0 j in
-    text-refused in_use (ErrorReport a.pdu) a.input.now a.out.now (simp (i, j))
-    (ap well_formed (sym text) ∙ sym c.is_well_formed.ensures ∙ c.if-is_well_formed.false)
+    let i = part-is-true (inside a.pdu.erroneous_pdu a.input.now) _ c.erroneous_pdu_answer.ensures c.in_ok-erroneous_pdu_answer.was in
+    let j = part-is-true (inside a.pdu.error_text a.input.now) _ c.error_text_answer.ensures c.in_ok-error_text_answer.was in
+    c.encode_report_parts.ensures
+    ∙ report-encodes a.pdu a.input.now a.out.now _ _ _ i j (sym c.is_well_formed.ensures ∙ c.if-not-is_well_formed.false)
+    c.to_u16.ensures (part_at _ a.pdu.erroneous_pdu a.input.now _ c.erroneous_pdu_part.ensures.0 i) (part_at _ a.pdu.error_text a.input.now _ c.error_text_part-text.ensures.0 j)
