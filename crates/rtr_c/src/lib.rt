@@ -2,23 +2,24 @@
 // thin one over the crates below; every input has its answer, and a refused call changes nothing but the numbers that it answers with.
 #![tactic(auto)]
 
-ghost use Rattle.std.specs.Prelude.{true, ◌≡◌};
+ghost use Rattle.std.specs.Prelude.{ℕ, true, ◌≡◌};
 ghost use Rattle.rtr_codec.specs.Read.{read};
 ghost use Rattle.rtr_codec.specs.Reading.{in_use};
-ghost use Rattle.rtr_encode.specs.Answers.{writing, number_of};
-ghost use Rattle.rtr_listing.specs.Promises.{list_said};
+ghost use Rattle.rtr_encode.specs.Answers.{encode_refusal, number_of};
+ghost use Rattle.rtr_listing.specs.Promises.{list_refusal};
 ghost use Rattle.rtr_listed.specs.Promises.{line_in};
-ghost use Rattle.rtr_cache.specs.Cache.{run_writing};
+ghost use Rattle.rtr_cache.specs.Cache.{run_refusal};
 ghost use Rattle.rtr_cache.specs.Serves.{RoomFits};
-ghost use Rattle.rtr_receiver.specs.Promises.{ask_writing, reconnect_number};
+ghost use Rattle.rtr_receiver.specs.Promises.{ask_error};
 ghost use Rattle.rtr_receiver.specs.Runs.{Call};
 ghost use Rattle.rtr_receiver.specs.declared.LoadKind.{LoadKind};
 ghost use Rattle.rtr_numbers.specs.Numbers.{value_of};
-ghost use Rattle.rtr_origin.specs.Peer.{peer_said};
+ghost use Rattle.rtr_origin.specs.Promises.{route_refusal};
+ghost use Rattle.rtr_origin.specs.Peer.{peer_refusal};
 ghost use Rattle.rtr_walk.specs.Walk.{end_said};
 ghost use Rattle.rtr_c.specs.Calls.{is_session, amount_of, end_number, end_value, read_gives, read_c, encode_gives, encode_c, walk_gives, walk_c, start_gives, start_c, ask_gives, full_ask_c, change_ask_c, feed_gives, feed_c, reconnect_gives, reconnect_c, notify_gives, notify_c, listing_c, diff_gives, diff_c, validate_gives, validate_c, validate_all_c};
 ghost use Rattle.rtr_c.specs.Calls.{head_numbers, read_listing_gives, read_listing_c, full_run_c, change_run_c};
-ghost use Rattle.rtr_c.specs.Private.{feed_number, notify_number, notify_compared, validate_number, validate_state, asked_route};
+ghost use Rattle.rtr_c.specs.Private.{answer_number, answer_amount, feed_refusal, notify_compared, validate_state, asked_route};
 ghost use Rattle.rtr_c.specs.Runs.{memory, LeadsOn, Begins};
 
 use rtr_cache::RunError;
@@ -35,8 +36,25 @@ const HEAD_NUMBERS: usize = 8;
 
 // ---- Numbers of answers
 
-fn encode_number(answer: Result<usize, EncodeError>) -> u8
-    ensures { result ≡ number_of (writing answer) }
+// A call's error, and its number.
+trait Refusal {
+    ghost refusal: { Self → ℕ };
+
+    fn number(self) -> u8
+        ensures { result ≡ refusal self };
+}
+
+// An error of a call that counts what it wrote: what is needed where the output is too short, else 0.
+trait Needs {
+    ghost needs: { Self → ℕ };
+
+    fn needed(self) -> u64
+        ensures { result ≡ needs self };
+}
+
+// A call's number: 0, or its error's.
+fn number<T: Copy, E: Refusal>(answer: Result<T, E>) -> u8
+    ensures { result ≡ answer_number E.refusal answer }
 {
     match answer {
         Ok(_) => 0,
@@ -44,60 +62,131 @@ fn encode_number(answer: Result<usize, EncodeError>) -> u8
     }
 }
 
-// The bytes written, or needed where the output is too short.
-fn encode_amount(answer: Result<usize, EncodeError>) -> u64
-    ensures { result ≡ amount_of (writing answer) }
+// What is written, or needed.
+fn amount<E: Needs>(answer: Result<usize, E>) -> u64
+    ensures { result ≡ answer_amount E.needs answer }
 {
     match answer {
         Ok(n) => n as u64,
-        Err(error) => match error {
-            EncodeError::PlaceOutside => 0,
-            EncodeError::InvalidUtf8 => 0,
-            EncodeError::TooLong => 0,
+        Err(error) => error.needed(),
+    }
+}
+
+impl Refusal for EncodeError {
+    ghost refusal = { λ e. number_of (encode_refusal e) };
+
+    fn number(self) -> u8 {
+        self.number()
+    }
+}
+
+impl Needs for EncodeError {
+    ghost needs = { λ e. amount_of (encode_refusal e) };
+
+    fn needed(self) -> u64 {
+        match self {
             EncodeError::OutputShort { needed } => needed as u64,
-        },
+            _ => 0,
+        }
     }
 }
 
-fn list_number(answer: Result<usize, ListError>) -> u8
-    ensures { result ≡ number_of (list_said answer) }
-{
-    match answer {
-        Ok(_) => 0,
-        Err(error) => error.number(),
+impl Refusal for ListError {
+    ghost refusal = { λ e. number_of (list_refusal e) };
+
+    fn number(self) -> u8 {
+        self.number()
     }
 }
 
-fn list_amount(answer: Result<usize, ListError>) -> u64
-    ensures { result ≡ amount_of (list_said answer) }
-{
-    match answer {
-        Ok(n) => n as u64,
-        Err(error) => match error {
+impl Needs for ListError {
+    ghost needs = { λ e. amount_of (list_refusal e) };
+
+    fn needed(self) -> u64 {
+        match self {
             ListError::NotAReceiver => 0,
             ListError::OutputShort { needed } => needed as u64,
-        },
+        }
     }
 }
 
-fn run_number(answer: Result<usize, RunError>) -> u8
-    ensures { result ≡ number_of (run_writing answer) }
-{
-    match answer {
-        Ok(_) => 0,
-        Err(error) => error.number(),
+impl Refusal for RunError {
+    ghost refusal = { λ e. number_of (run_refusal e) };
+
+    fn number(self) -> u8 {
+        self.number()
     }
 }
 
-fn run_amount(answer: Result<usize, RunError>) -> u64
-    ensures { result ≡ amount_of (run_writing answer) }
-{
-    match answer {
-        Ok(n) => n as u64,
-        Err(error) => match error {
+impl Needs for RunError {
+    ghost needs = { λ e. amount_of (run_refusal e) };
+
+    fn needed(self) -> u64 {
+        match self {
             RunError::NotARoom => 0,
             RunError::OutputShort { needed } => needed as u64,
-        },
+        }
+    }
+}
+
+impl Refusal for PeerError {
+    ghost refusal = { λ e. number_of (peer_refusal e) };
+
+    fn number(self) -> u8 {
+        self.number()
+    }
+}
+
+// Of a list of states.
+impl Needs for PeerError {
+    ghost needs = { λ e. amount_of (peer_refusal e) };
+
+    fn needed(self) -> u64 {
+        match self {
+            PeerError::OutOfShape => 0,
+            PeerError::NoTable => 0,
+            PeerError::StatesShort { needed } => needed as u64,
+        }
+    }
+}
+
+impl Refusal for ValidateError {
+    ghost refusal = { route_refusal };
+
+    fn number(self) -> u8 {
+        self.number()
+    }
+}
+
+impl Refusal for AskError {
+    ghost refusal = { λ e. number_of (ask_error e) };
+
+    fn number(self) -> u8 {
+        match self {
+            AskError::NotAReceiver => 22,
+            AskError::WrongPhase => 20,
+            AskError::NoTable => 21,
+            AskError::Encoding(encoding) => encoding.number(),
+        }
+    }
+}
+
+impl Refusal for FeedError {
+    ghost refusal = { feed_refusal };
+
+    fn number(self) -> u8 {
+        match self {
+            FeedError::Stopped(stop) => stop.number(),
+            FeedError::NotAReceiver => 22,
+        }
+    }
+}
+
+impl Refusal for NotAReceiver {
+    ghost refusal = { λ _. 22 };
+
+    fn number(self) -> u8 {
+        22
     }
 }
 
@@ -151,53 +240,6 @@ fn end_value(end: WalkEnd) -> u64
     }
 }
 
-fn ask_number(answer: Result<usize, AskError>) -> u8
-    ensures { result ≡ number_of (ask_writing answer) }
-{
-    match answer {
-        Ok(_) => 0,
-        Err(error) => match error {
-            AskError::NotAReceiver => 22,
-            AskError::WrongPhase => 20,
-            AskError::NoTable => 21,
-            AskError::Encoding(encoding) => encoding.number(),
-        },
-    }
-}
-
-fn feed_number(answer: Result<(), FeedError>) -> u8
-    ensures { result ≡ feed_number answer }
-{
-    match answer {
-        Ok(()) => 0,
-        Err(FeedError::Stopped(stop)) => stop.number(),
-        Err(FeedError::NotAReceiver) => 22,
-    }
-}
-
-fn reconnect_number(answer: Result<(), NotAReceiver>) -> u8
-    ensures { result ≡ reconnect_number answer }
-{
-    match answer {
-        Ok(()) => 0,
-        Err(_) => 22,
-    }
-}
-
-fn notify_number(answer: Result<Comparison, NotAReceiver>) -> u8
-    ensures { result ≡ notify_number answer }
-{
-    match answer {
-        Ok(Comparison::None) => 0,
-        Ok(Comparison::OtherSession) => 0,
-        Ok(Comparison::Same) => 0,
-        Ok(Comparison::Newer) => 0,
-        Ok(Comparison::Older) => 0,
-        Ok(Comparison::Undefined) => 0,
-        Err(_) => 22,
-    }
-}
-
 fn notify_compared(answer: Result<Comparison, NotAReceiver>) -> u64
     ensures { result ≡ notify_compared answer }
 {
@@ -212,44 +254,12 @@ fn notify_compared(answer: Result<Comparison, NotAReceiver>) -> u64
     }
 }
 
-fn validate_number(answer: Result<RouteState, ValidateError>) -> u8
-    ensures { result ≡ validate_number answer }
-{
-    match answer {
-        Ok(_) => 0,
-        Err(error) => error.number(),
-    }
-}
-
 fn validate_state(answer: Result<RouteState, ValidateError>) -> u64
     ensures { result ≡ validate_state answer }
 {
     match answer {
         Ok(state) => state.number() as u64,
         Err(_) => 0,
-    }
-}
-
-fn peer_number(answer: Result<usize, PeerError>) -> u8
-    ensures { result ≡ number_of (peer_said answer) }
-{
-    match answer {
-        Ok(_) => 0,
-        Err(error) => error.number(),
-    }
-}
-
-// The routes answered, or the states needed where the list of them is too short.
-fn peer_amount(answer: Result<usize, PeerError>) -> u64
-    ensures { result ≡ amount_of (peer_said answer) }
-{
-    match answer {
-        Ok(n) => n as u64,
-        Err(error) => match error {
-            PeerError::OutOfShape => 0,
-            PeerError::NoTable => 0,
-            PeerError::StatesShort { needed } => needed as u64,
-        },
     }
 }
 
@@ -313,8 +323,8 @@ pub extern "C" fn hingemoss_encode(
     match found {
         Some((value, _)) => {
             let answer = rtr_encode::encode(value, payload, out);
-            *written = encode_amount(answer);
-            encode_number(answer)
+            *written = amount(answer);
+            number(answer)
         }
         None => {
             *written = 0;
@@ -405,7 +415,7 @@ pub extern "C" fn hingemoss_full_ask(
             let left = asked.session;
             let answer = asked.answer;
             rtr_numbers::put_session(left, session);
-            ask_number(answer)
+            number(answer)
         }
         None => 22,
     }
@@ -431,7 +441,7 @@ pub extern "C" fn hingemoss_change_ask(
             let left = asked.session;
             let answer = asked.answer;
             rtr_numbers::put_session(left, session);
-            ask_number(answer)
+            number(answer)
         }
         None => 22,
     }
@@ -462,7 +472,7 @@ pub extern "C" fn hingemoss_feed(
             rtr_numbers::put_session(left, session);
             *taken = done.taken as u64;
             *updates = done.updates as u64;
-            feed_number(answer)
+            number(answer)
         }
         None => {
             *taken = 0;
@@ -491,7 +501,7 @@ pub extern "C" fn hingemoss_reconnect(
             let left = reconnected.session;
             let answer = reconnected.answer;
             rtr_numbers::put_session(left, session);
-            reconnect_number(answer)
+            number(answer)
         }
         None => 22,
     }
@@ -513,7 +523,7 @@ pub extern "C" fn hingemoss_notify(
         Some(s) => {
             let compared = rtr_receiver::notify(s, live, working, hold);
             *answer = notify_compared(compared);
-            notify_number(compared)
+            number(compared)
         }
         None => {
             *answer = 0;
@@ -536,8 +546,8 @@ pub extern "C" fn hingemoss_listing(
     match found {
         Some(s) => {
             let answer = rtr_listing::listing(s, live, out);
-            *written = list_amount(answer);
-            list_number(answer)
+            *written = amount(answer);
+            number(answer)
         }
         None => {
             *written = 0;
@@ -587,8 +597,8 @@ pub extern "C" fn hingemoss_diff(
     ensures { diff_gives result written.new old_room.new new_room.new out.new ≡ diff_c old_text.now new_text.now old_room.old new_room.old out.old }
 {
     let answer = rtr_diffs::diff(old_text, new_text, old_room, new_room, out);
-    *written = list_amount(answer);
-    list_number(answer)
+    *written = amount(answer);
+    number(answer)
 }
 
 // Whether a route is good (RFC 6811) by the live table: 0 and its state, or the refusal.
@@ -613,7 +623,7 @@ pub extern "C" fn hingemoss_validate(
             let asked = asked_route(rtr_origin::route_of(route));
             let answer = rtr_origin::validate(s, live, working, hold, asked);
             *state = validate_state(answer);
-            validate_number(answer)
+            number(answer)
         }
         None => {
             *state = 0;
@@ -639,8 +649,8 @@ pub extern "C" fn hingemoss_validate_all(
     match found {
         Some(s) => {
             let answer = rtr_origin::validate_all(s, live, working, hold, routes, states);
-            *written = peer_amount(answer);
-            peer_number(answer)
+            *written = amount(answer);
+            number(answer)
         }
         None => {
             *written = 0;
@@ -672,8 +682,8 @@ pub extern "C" fn hingemoss_full_run(
             match numbers {
                 Some(t) => {
                     let answer = rtr_cache::full_run(v, t, table, count as usize, out);
-                    *written = run_amount(answer);
-                    run_number(answer)
+                    *written = amount(answer);
+                    number(answer)
                 }
                 None => 22,
             }
@@ -714,8 +724,8 @@ pub extern "C" fn hingemoss_change_run(
                         second_count as usize,
                         out,
                     );
-                    *written = run_amount(answer);
-                    run_number(answer)
+                    *written = amount(answer);
+                    number(answer)
                 }
                 None => 22,
             }

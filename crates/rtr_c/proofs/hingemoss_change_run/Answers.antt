@@ -1,9 +1,11 @@
 -- `hingemoss_change_run` finds the version and the table's numbers, and runs. That the lent numbers are of 32 bits is what holding them tells. Assumes nothing.
+use mathlib.Core.Path.{refl, ◌∙◌}
+use Rattle.rtr_c.proofs.Steps.{numbered, counted}
 use native.Mathlib.Omega.{arith}
 use Rattle.rtr_models.specs.declared.RtrProtocolVersion.{RtrProtocolVersion}
 use Rattle.rtr_encode.specs.Encode.{Encoded}
 use Rattle.rtr_receiver.specs.declared.Table.{Table}
-use Rattle.rtr_cache.specs.Cache.{change_run_says}
+use Rattle.rtr_cache.specs.Cache.{change_run_says, run_writing}
 use Rattle.rtr_cache.specs.Serves.{RoomFits}
 use Rattle.rtr_c.specs.Calls.{change_run_c}
 use Rattle.rtr_c.proofs.Serving.{run-unversioned, run-untabled, run-answered}
@@ -17,7 +19,7 @@ returns-in-Some-numbers c =
     let a = c.args in record {
       says = run-answered run a.version a.end.now a.out.now c.from_u8-found.result c.from_u8-found.ensures
           _ c.in-Some.is c.table_of-numbers.result c.table_of-numbers.ensures
-          _ c.change_run-answer.result _ _ _ c.in-Some-numbers.is c.change_run-answer.ensures.says c.run_number.ensures c.run_amount.ensures;
+          _ c.change_run-answer.result _ _ _ c.in-Some-numbers.is c.change_run-answer.ensures.says (c.number.ensures ∙ numbered run_writing (λ n. refl) c.change_run-answer.result) (c.amount.ensures ∙ counted run_writing (λ n. refl) c.change_run-answer.result);
       room_fits = held;
     }
 

@@ -7,7 +7,7 @@ use Rattle.rtr_c.proofs.hingemoss_feed.Goals as goal
 pub returns-in-Some : goal.returns-in-Some
 returns-in-Some c =
     record {
-      says = feed-known c.args.session.now c.session_of-found.result c.session_of-found.ensures c.args.live.now c.args.working.now c.args.hold.now c.args.piece.now _ c.feed-fed.result _ _ _ _ _ c.in-Some.is c.feed-fed.ensures.0 c.feed_number.ensures c.put_session.ensures.value.1;
+      says = feed-known c.args.session.now c.session_of-found.result c.session_of-found.ensures c.args.live.now c.args.working.now c.args.hold.now c.args.piece.now _ c.feed-fed.result _ _ _ _ _ c.in-Some.is c.feed-fed.ensures.0 c.number.ensures c.put_session.ensures.value.1;
       stays_session = stays-session c.args.session.now c.session_of-found.result c.session_of-found.ensures _ _ _ c.in-Some.is c.put_session.ensures.reads_back;
       leads_on = leads-fed c.args.session.now c.session_of-found.result c.session_of-found.ensures c.args.live.now c.args.working.now c.args.hold.now _ c.in-Some.is c.args.piece.now c.feed-fed.result _ _ _ _ c.feed-fed.ensures.0 c.put_session.ensures.reads_back (search rules);
     }

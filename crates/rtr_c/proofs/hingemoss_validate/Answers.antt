@@ -10,7 +10,7 @@ returns-then-route-ne6 c =
 pub returns-in-Some : goal.returns-in-Some
 returns-in-Some c =
     let a = c.args in
-    validate-known a.live.now a.working.now a.hold.now a.session.now a.route.now c.if-route-ne6.false c.session_of-found.result c.session_of-found.ensures _ c.route_of.result c.asked_route-asked.result c.validate-answer.result _ _ c.in-Some.is c.route_of.ensures c.asked_route-asked.ensures c.validate-answer.ensures c.validate_number.ensures c.validate_state.ensures
+    validate-known a.live.now a.working.now a.hold.now a.session.now a.route.now c.if-route-ne6.false c.session_of-found.result c.session_of-found.ensures _ c.route_of.result c.asked_route-asked.result c.validate-answer.result _ _ c.in-Some.is c.route_of.ensures c.asked_route-asked.ensures c.validate-answer.ensures c.number.ensures c.validate_state.ensures
 
 pub returns-in-None : goal.returns-in-None
 returns-in-None c =
