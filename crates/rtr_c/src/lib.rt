@@ -287,8 +287,7 @@ pub extern "C" fn hingemoss_read(bytes: &[u8], pdu: &mut [u64]) -> u8
     if pdu.len() != rtr_pdu_numbers::PDU_NUMBERS {
         return 9;
     }
-    let answer = rtr_codec::parse_rtr_pdu(bytes);
-    match answer {
+    match rtr_codec::parse_rtr_pdu(bytes) {
         Ok((value, consumed)) => {
             rtr_pdu_numbers::put_pdu(value, consumed, pdu);
             0
@@ -302,8 +301,7 @@ pub extern "C" fn hingemoss_read(bytes: &[u8], pdu: &mut [u64]) -> u8
 pub extern "C" fn hingemoss_read_value(bytes: &[u8], i: usize) -> u64
     ensures { result ≡ value_of i (read in_use bytes.now) }
 {
-    let answer = rtr_codec::parse_rtr_pdu(bytes);
-    match answer {
+    match rtr_codec::parse_rtr_pdu(bytes) {
         Ok((_, _)) => 0,
         Err(error) => rtr_numbers::error_value(error, i),
     }
@@ -319,18 +317,13 @@ pub extern "C" fn hingemoss_encode(
 ) -> u8
     ensures { encode_gives result written.new out.new ≡ encode_c pdu.now payload.now out.old }
 {
-    let found = rtr_pdu_numbers::pdu_of(pdu);
-    match found {
-        Some((value, _)) => {
-            let answer = rtr_encode::encode(value, payload, out);
-            *written = amount(answer);
-            number(answer)
-        }
-        None => {
-            *written = 0;
-            22
-        }
-    }
+    *written = 0;
+    let Some((value, _)) = rtr_pdu_numbers::pdu_of(pdu) else {
+        return 22;
+    };
+    let answer = rtr_encode::encode(value, payload, out);
+    *written = amount(answer);
+    number(answer)
 }
 
 // Walks an Error Report's copies: 0, the level, the end and its value, or the refusal.
@@ -343,8 +336,7 @@ pub extern "C" fn hingemoss_walk(
 ) -> u8
     ensures { walk_gives result level.new end.new value.new ≡ walk_c bytes.now }
 {
-    let answer = rtr_walk::walk(bytes);
-    match answer {
+    match rtr_walk::walk(bytes) {
         Ok((depth, last)) => {
             *level = depth as u64;
             *end = end_number(last);
@@ -379,19 +371,15 @@ pub extern "C" fn hingemoss_start(
     if session.len() != rtr_numbers::SESSION_NUMBERS {
         return 22;
     }
-    let found = RtrProtocolVersion::from_u8(version);
-    match found {
-        Some(v) => {
-            let answer = rtr_receiver::start(v, live, working, hold);
-            match answer {
-                Ok(s) => {
-                    rtr_numbers::put_session(s, session);
-                    0
-                }
-                Err(_) => 22,
-            }
+    let Some(v) = RtrProtocolVersion::from_u8(version) else {
+        return 22;
+    };
+    match rtr_receiver::start(v, live, working, hold) {
+        Ok(s) => {
+            rtr_numbers::put_session(s, session);
+            0
         }
-        None => 22,
+        Err(_) => 22,
     }
 }
 
@@ -408,17 +396,12 @@ pub extern "C" fn hingemoss_full_ask(
     ensures stays_session { is_session session.new ≡ is_session session.old }
     ensures leads_on { LeadsOn (memory session.old live.now working.now hold.now) (Call.ask LoadKind.Full out.old) (memory session.new live.now working.now hold.now) }
 {
-    let found = rtr_numbers::session_of(session);
-    match found {
-        Some(s) => {
-            let asked = rtr_receiver::full_ask(s, live, working, hold, out);
-            let left = asked.session;
-            let answer = asked.answer;
-            rtr_numbers::put_session(left, session);
-            number(answer)
-        }
-        None => 22,
-    }
+    let Some(s) = rtr_numbers::session_of(session) else {
+        return 22;
+    };
+    let asked = rtr_receiver::full_ask(s, live, working, hold, out);
+    rtr_numbers::put_session(asked.session, session);
+    number(asked.answer)
 }
 
 // Asks for what changed: 0 and a Serial Query of 12 bytes, or the refusal.
@@ -434,17 +417,12 @@ pub extern "C" fn hingemoss_change_ask(
     ensures stays_session { is_session session.new ≡ is_session session.old }
     ensures leads_on { LeadsOn (memory session.old live.now working.now hold.now) (Call.ask LoadKind.Change out.old) (memory session.new live.now working.now hold.now) }
 {
-    let found = rtr_numbers::session_of(session);
-    match found {
-        Some(s) => {
-            let asked = rtr_receiver::change_ask(s, live, working, hold, out);
-            let left = asked.session;
-            let answer = asked.answer;
-            rtr_numbers::put_session(left, session);
-            number(answer)
-        }
-        None => 22,
-    }
+    let Some(s) = rtr_numbers::session_of(session) else {
+        return 22;
+    };
+    let asked = rtr_receiver::change_ask(s, live, working, hold, out);
+    rtr_numbers::put_session(asked.session, session);
+    number(asked.answer)
 }
 
 // Feeds a piece of any length: 0 or the stop, the bytes taken and the updates finished.
@@ -462,24 +440,17 @@ pub extern "C" fn hingemoss_feed(
     ensures stays_session { is_session session.new ≡ is_session session.old }
     ensures leads_on { LeadsOn (memory session.old live.old working.old hold.old) (Call.feed piece.now) (memory session.new live.new working.new hold.new) }
 {
-    let found = rtr_numbers::session_of(session);
-    match found {
-        Some(s) => {
-            let fed = rtr_receiver::feed(s, live, working, hold, piece);
-            let left = fed.session;
-            let done = fed.done;
-            let answer = done.answer;
-            rtr_numbers::put_session(left, session);
-            *taken = done.taken as u64;
-            *updates = done.updates as u64;
-            number(answer)
-        }
-        None => {
-            *taken = 0;
-            *updates = 0;
-            22
-        }
-    }
+    *taken = 0;
+    *updates = 0;
+    let Some(s) = rtr_numbers::session_of(session) else {
+        return 22;
+    };
+    let fed = rtr_receiver::feed(s, live, working, hold, piece);
+    let done = fed.done;
+    rtr_numbers::put_session(fed.session, session);
+    *taken = done.taken as u64;
+    *updates = done.updates as u64;
+    number(done.answer)
 }
 
 // A new connection.
@@ -494,17 +465,12 @@ pub extern "C" fn hingemoss_reconnect(
     ensures stays_session { is_session session.new ≡ is_session session.old }
     ensures leads_on { LeadsOn (memory session.old live.now working.old hold.now) Call.reconnect (memory session.new live.now working.new hold.now) }
 {
-    let found = rtr_numbers::session_of(session);
-    match found {
-        Some(s) => {
-            let reconnected = rtr_receiver::reconnect(s, live, working, hold);
-            let left = reconnected.session;
-            let answer = reconnected.answer;
-            rtr_numbers::put_session(left, session);
-            number(answer)
-        }
-        None => 22,
-    }
+    let Some(s) = rtr_numbers::session_of(session) else {
+        return 22;
+    };
+    let reconnected = rtr_receiver::reconnect(s, live, working, hold);
+    rtr_numbers::put_session(reconnected.session, session);
+    number(reconnected.answer)
 }
 
 // The last Serial Notify beside the table.
@@ -518,18 +484,13 @@ pub extern "C" fn hingemoss_notify(
 ) -> u8
     ensures { notify_gives result answer.new ≡ notify_c session.now live.now working.now hold.now }
 {
-    let found = rtr_numbers::session_of(session);
-    match found {
-        Some(s) => {
-            let compared = rtr_receiver::notify(s, live, working, hold);
-            *answer = notify_compared(compared);
-            number(compared)
-        }
-        None => {
-            *answer = 0;
-            22
-        }
-    }
+    *answer = 0;
+    let Some(s) = rtr_numbers::session_of(session) else {
+        return 22;
+    };
+    let compared = rtr_receiver::notify(s, live, working, hold);
+    *answer = notify_compared(compared);
+    number(compared)
 }
 
 // The table as document 01's lines of text: 0 and the bytes written, or the refusal.
@@ -542,18 +503,13 @@ pub extern "C" fn hingemoss_listing(
 ) -> u8
     ensures { encode_gives result written.new out.new ≡ listing_c session.now live.now out.old }
 {
-    let found = rtr_numbers::session_of(session);
-    match found {
-        Some(s) => {
-            let answer = rtr_listing::listing(s, live, out);
-            *written = amount(answer);
-            number(answer)
-        }
-        None => {
-            *written = 0;
-            22
-        }
-    }
+    *written = 0;
+    let Some(s) = rtr_numbers::session_of(session) else {
+        return 22;
+    };
+    let answer = rtr_listing::listing(s, live, out);
+    *written = amount(answer);
+    number(answer)
 }
 
 // A listing read back: 0, its table in the room and what it says before its records; 22; or 24 and the line that does not fit or is missing.
@@ -570,8 +526,7 @@ pub extern "C" fn hingemoss_read_listing(
     if head.len() != HEAD_NUMBERS {
         return 22;
     }
-    let answer = rtr_listed::read_listing(text, room);
-    match answer {
+    match rtr_listed::read_listing(text, room) {
         Ok(said) => {
             let numbers = head_numbers(said);
             rtr_numbers::put_numbers(head, &numbers);
@@ -613,23 +568,17 @@ pub extern "C" fn hingemoss_validate(
 ) -> u8
     ensures { validate_gives result state.new ≡ validate_c session.now live.now working.now hold.now route.now }
 {
+    *state = 0;
     if route.len() != 6 {
-        *state = 0;
         return 22;
     }
-    let found = rtr_numbers::session_of(session);
-    match found {
-        Some(s) => {
-            let asked = asked_route(rtr_origin::route_of(route));
-            let answer = rtr_origin::validate(s, live, working, hold, asked);
-            *state = validate_state(answer);
-            number(answer)
-        }
-        None => {
-            *state = 0;
-            22
-        }
-    }
+    let Some(s) = rtr_numbers::session_of(session) else {
+        return 22;
+    };
+    let asked = asked_route(rtr_origin::route_of(route));
+    let answer = rtr_origin::validate(s, live, working, hold, asked);
+    *state = validate_state(answer);
+    number(answer)
 }
 
 // The states of a list of routes, each as for the route alone: 0 and how many routes there were, or the refusal.
@@ -645,18 +594,13 @@ pub extern "C" fn hingemoss_validate_all(
 ) -> u8
     ensures { encode_gives result written.new states.new ≡ validate_all_c session.now live.now working.now hold.now routes.now states.old }
 {
-    let found = rtr_numbers::session_of(session);
-    match found {
-        Some(s) => {
-            let answer = rtr_origin::validate_all(s, live, working, hold, routes, states);
-            *written = amount(answer);
-            number(answer)
-        }
-        None => {
-            *written = 0;
-            22
-        }
-    }
+    *written = 0;
+    let Some(s) = rtr_numbers::session_of(session) else {
+        return 22;
+    };
+    let answer = rtr_origin::validate_all(s, live, working, hold, routes, states);
+    *written = amount(answer);
+    number(answer)
 }
 
 // ---- Cache. By its second promise a call was lent numbers of 32 bits, as every host's are: what a receiver makes of the run rests on it (rtr_cache, specs/Serves.antt).
@@ -675,21 +619,15 @@ pub extern "C" fn hingemoss_full_run(
     ensures room_fits { RoomFits table.now }
 {
     *written = 0;
-    let found = RtrProtocolVersion::from_u8(version);
-    match found {
-        Some(v) => {
-            let numbers = rtr_numbers::table_of(end);
-            match numbers {
-                Some(t) => {
-                    let answer = rtr_cache::full_run(v, t, table, count as usize, out);
-                    *written = amount(answer);
-                    number(answer)
-                }
-                None => 22,
-            }
-        }
-        None => 22,
-    }
+    let Some(v) = RtrProtocolVersion::from_u8(version) else {
+        return 22;
+    };
+    let Some(t) = rtr_numbers::table_of(end) else {
+        return 22;
+    };
+    let answer = rtr_cache::full_run(v, t, table, count as usize, out);
+    *written = amount(answer);
+    number(answer)
 }
 
 // What changed from the first table to the second, as a cache answers a Serial Query: 0 and the bytes written, or the refusal.
@@ -709,27 +647,21 @@ pub extern "C" fn hingemoss_change_run(
     ensures room_fits { RoomFits first.now × RoomFits second.now }
 {
     *written = 0;
-    let found = RtrProtocolVersion::from_u8(version);
-    match found {
-        Some(v) => {
-            let numbers = rtr_numbers::table_of(end);
-            match numbers {
-                Some(t) => {
-                    let answer = rtr_cache::change_run(
-                        v,
-                        t,
-                        first,
-                        first_count as usize,
-                        second,
-                        second_count as usize,
-                        out,
-                    );
-                    *written = amount(answer);
-                    number(answer)
-                }
-                None => 22,
-            }
-        }
-        None => 22,
-    }
+    let Some(v) = RtrProtocolVersion::from_u8(version) else {
+        return 22;
+    };
+    let Some(t) = rtr_numbers::table_of(end) else {
+        return 22;
+    };
+    let answer = rtr_cache::change_run(
+        v,
+        t,
+        first,
+        first_count as usize,
+        second,
+        second_count as usize,
+        out,
+    );
+    *written = amount(answer);
+    number(answer)
 }
