@@ -11,21 +11,21 @@ use Rattle.rtr_receiver.specs.History.{has_table}
 use Rattle.rtr_receiver.specs.Promises.{is_receiver}
 use Rattle.rtr_receiver.specs.declared.Session.{Session}
 use Rattle.rtr_numbers.specs.Back.{session_of}
-use Rattle.rtr_origin.specs.Promises.{validate_says, route_said}
+use Rattle.rtr_origin.specs.Promises.{route_refusal, validate_says, route_said}
 use Rattle.rtr_encode.specs.Answers.{number_of}
 use Rattle.rtr_origin.specs.Numbers.{route_of}
 use Rattle.rtr_origin.specs.Peer.{peer_said, peer_gives, peer_leaves}
 use Rattle.rtr_origin.specs.declared.Route.{Route}
 use Rattle.rtr_origin.proofs.Shaped as origin
 use Rattle.rtr_c.specs.Calls.{validate_gives, validate_left, validate_found, validate_c, amount_of, encode_gives, encode_left, validate_all_found, validate_all_c}
-use Rattle.rtr_c.specs.Private.{validate_number, validate_state, asked_route}
+use Rattle.rtr_c.specs.Private.{answer_number, validate_state, asked_route}
 use Rattle.rtr_receiver.specs.declared.Table.{Table}
 use Rattle.rtr_origin.specs.declared.ValidateError.{ValidateError}
 use Rattle.rtr_origin.specs.declared.RouteState.{RouteState}
 use Rattle.rtr_origin.specs.declared.PeerError.{PeerError}
 
 -- the numbers of the code's answer are those of what it says
-said_of : (a : Result RouteState ValidateError) → validate_gives (validate_number a) (validate_state a) ≡ validate_left (route_said a)
+said_of : (a : Result RouteState ValidateError) → validate_gives (answer_number route_refusal a) (validate_state a) ≡ validate_left (route_said a)
 said_of (Ok s) = refl
 said_of (Err error) = refl
 
@@ -61,7 +61,7 @@ module _ (live working hold : List ℕ) where
         r ≡ route_of route →
         q ≡ asked_route r →
         route_said answer ≡ validate_says s.life.limit s live working hold q →
-        number ≡ validate_number answer →
+        number ≡ answer_number route_refusal answer →
         state ≡ validate_state answer →
         validate_gives number state ≡ validate_c n live working hold route
     unfolding validate_c

@@ -17,7 +17,7 @@ use Rattle.rtr_codec.specs.Read.{Verdict, read}
 use Rattle.rtr_codec.specs.Answers as codec
 use Rattle.rtr_codec.specs.declared.RtrError.{RtrError}
 use Rattle.rtr_codec.specs.declared.RtrError.TheVariants.{IncompletePdu, InvalidProtocolVersion, InvalidPduType, InvalidLength, RouterKeyInV0, InvalidPrefixLength, InvalidErrorCode, InvalidUtf8}
-use Rattle.rtr_encode.specs.Encode.{encode}
+use Rattle.rtr_encode.specs.Encode.{Writing, encode}
 use Rattle.rtr_encode.specs.Answers as encoding
 use Rattle.rtr_listing.specs.Promises as listing
 use Rattle.rtr_walk.specs.Walk.{end_said, refused_walk, walk_said, walk}
@@ -37,7 +37,7 @@ use Rattle.rtr_numbers.specs.Back.{session_of}
 use Rattle.rtr_pdu_numbers.specs.Back.{pdu_of}
 use Rattle.rtr_numbers.proofs.Laws.{session-held, session-of-length}
 use Rattle.rtr_c.specs.Calls.{is_known, is_session, amount_of, end_number, end_value, read_gives, read_left, read_c, encode_gives, encode_left, encode_found, encode_c, listing_found, listing_c, walk_gives, walk_left, walk_c, start_gives, start_left, start_found, start_c, ask_gives, ask_left, ask_found, FeedLeft, feed_gives, feed_left, feed_found, feed_c, reconnect_gives, reconnect_left, reconnect_found, reconnect_c, notify_gives, notify_left, notify_found, notify_c}
-use Rattle.rtr_c.specs.Private.{feed_number, notify_number, notify_compared}
+use Rattle.rtr_c.specs.Private.{answer_number, answer_amount, feed_refusal, notify_compared}
 use Rattle.rtr_c.specs.Runs.{CMemory, memory, LeadsOn, Begins}
 use Rattle.rtr_encode.specs.declared.EncodeError.{EncodeError}
 use Rattle.rtr_receiver.specs.declared.FeedError.{FeedError}
@@ -48,6 +48,16 @@ use Rattle.rtr_listing.specs.declared.ListError.{ListError}
 -- numbers of the right length are set
 pub set_at : (k : ℕ) (n x y : List ℕ) → length n ≡ k → x ≡ cond (eqb (length n) k) y n → x ≡ y
 set_at k n x y h e = e ∙ ap (λ (b : Bool). cond b y n) (eq-eqb (length n) k h)
+
+-- ---- an answer that counts what is written: its number and its amount are those of what it says
+module _ {E : Type 0} (said : Result ℕ E → Writing) (wrote : (n : ℕ) → said (Ok n) ≡ Writing.written n) where
+  pub numbered : (a : Result ℕ E) → answer_number (λ (e : E). encoding.number_of (said (Err e))) a ≡ encoding.number_of (said a)
+  numbered (Ok n) = sym (ap encoding.number_of (wrote n))
+  numbered (Err e) = refl
+
+  pub counted : (a : Result ℕ E) → answer_amount (λ (e : E). amount_of (said (Err e))) a ≡ amount_of (said a)
+  counted (Ok n) = sym (ap amount_of (wrote n))
+  counted (Err e) = refl
 
 -- ---- read
 
@@ -171,7 +181,11 @@ module _ (version : ℕ) (session live working hold : List ℕ) (long : length s
 
 -- ---- the calls on a session
 
-notify-said : (a : Result Comparison NotAReceiver) → notify_gives (notify_number a) (notify_compared a) ≡ notify_left (notify_said a)
+reconnect-numbered : (a : Result ⊤ NotAReceiver) → answer_number (λ _. 22) a ≡ reconnect_number a
+reconnect-numbered (Ok tt) = refl
+reconnect-numbered (Err refusal) = refl
+
+notify-said : (a : Result Comparison NotAReceiver) → notify_gives (answer_number (λ _. 22) a) (notify_compared a) ≡ notify_left (notify_said a)
 notify-said (Ok Comparison.None) = refl
 notify-said (Ok Comparison.OtherSession) = refl
 notify-said (Ok Comparison.Same) = refl
@@ -183,7 +197,7 @@ notify-said (Err refusal) = refl
 -- a stop is never 22, so the hold is promised up to the held count
 module _ (taken updates : ℕ) (s : Session) (live working hold : List ℕ) where
   gives : Result ⊤ FeedError → FeedLeft
-  gives a = feed_gives (feed_number a) (session_numbers s) live working hold taken updates
+  gives a = feed_gives (answer_number feed_refusal a) (session_numbers s) live working hold taken updates
 
   said_of : Result ⊤ FeedError → FeedLeft
   said_of a = feed_left (fed_said_by a taken updates (leaves s live working hold) hold)
@@ -296,13 +310,13 @@ module _ (n : List ℕ) (found : Option Session) (f : found ≡ session_of n) wh
     pub reconnect-known : (s : Session) (r : Reconnected) (number : ℕ) (n' working' : List ℕ) →
         found ≡ Some s →
         reconnect_said r live working' hold ≡ reconnect_says s.life.limit s live working hold →
-        number ≡ reconnect_number r.answer →
+        number ≡ answer_number (λ _. 22) r.answer →
         n' ≡ cond (eqb (length n) session_size) (session_numbers r.session) n →
         reconnect_gives number n' working' ≡ reconnect_c n live working hold
     unfolding reconnect_c
     reconnect-known s r number n' working' told said named put =
         let written = set_at session_size n n' (session_numbers r.session) (known-long s told) put in
-        (λ i. reconnect_gives (named i) (written i) working')
+        (λ i. reconnect_gives ((named ∙ reconnect-numbered r.answer) i) (written i) working')
         ∙ ap reconnect_left said
         ∙ ap (λ (x : Option Session). reconnect_found x n live working hold) (sym told ∙ f)
 
@@ -314,7 +328,7 @@ module _ (n : List ℕ) (found : Option Session) (f : found ≡ session_of n) wh
     pub notify-known : (s : Session) (answer : Result Comparison NotAReceiver) (number compared : ℕ) →
         found ≡ Some s →
         notify_said answer ≡ notify_says s.life.limit s live working hold →
-        number ≡ notify_number answer →
+        number ≡ answer_number (λ _. 22) answer →
         compared ≡ notify_compared answer →
         notify_gives number compared ≡ notify_c n live working hold
     unfolding notify_c
@@ -333,7 +347,7 @@ module _ (n : List ℕ) (found : Option Session) (f : found ≡ session_of n) wh
     pub feed-known : (s : Session) (r : Fed) (number : ℕ) (n' live' working' hold' : List ℕ) →
         found ≡ Some s →
         fed_said r live' working' hold' ≡ feed_says s.life.limit s live working hold piece →
-        number ≡ feed_number r.done.answer →
+        number ≡ answer_number feed_refusal r.done.answer →
         n' ≡ cond (eqb (length n) session_size) (session_numbers r.session) n →
         feed_gives number n' live' working' hold' r.done.taken r.done.updates ≡ feed_c n live working hold piece
     unfolding feed_c gives said_of

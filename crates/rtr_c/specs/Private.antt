@@ -1,9 +1,8 @@
 -- What the private functions of src/lib.rt promise; no public promise rests on this page.
-use Rattle.std.specs.Prelude.{ℕ, Option, Some, None, Result, Ok, Err, ⊤}
+use Rattle.std.specs.Prelude.{ℕ, Option, Some, None, Result, Ok, Err}
 use Rattle.rtr_codec.specs.Answers as codec
 use Rattle.rtr_receiver.specs.Promises.{stop_said}
 use Rattle.rtr_origin.specs.Origin.{state_number}
-use Rattle.rtr_origin.specs.Promises.{route_refusal}
 use Rattle.rtr_origin.specs.declared.RoutePrefix.{RoutePrefix}
 use Rattle.rtr_origin.specs.declared.Route.{Route}
 use Rattle.rtr_receiver.specs.declared.FeedError.{FeedError}
@@ -12,21 +11,20 @@ use Rattle.rtr_receiver.specs.declared.Comparison.{Comparison}
 use Rattle.rtr_origin.specs.declared.ValidateError.{ValidateError}
 use Rattle.rtr_origin.specs.declared.RouteState.{RouteState}
 
--- document 01's number of the code's answer
-abbrev pub feed_number : Result ⊤ FeedError → ℕ
-feed_number (Ok tt) = 0
-feed_number (Err (FeedError.Stopped stop)) = codec.number_of (stop_said stop)
-feed_number (Err FeedError.NotAReceiver) = 22
+-- a call's number: 0, or its error's
+abbrev pub answer_number : {A E : Type 0} → (E → ℕ) → Result A E → ℕ
+answer_number refusal (Ok value) = 0
+answer_number refusal (Err error) = refusal error
 
--- the numbers of the code's answer
-abbrev pub notify_number : Result Comparison NotAReceiver → ℕ
-notify_number (Ok Comparison.None) = 0
-notify_number (Ok Comparison.OtherSession) = 0
-notify_number (Ok Comparison.Same) = 0
-notify_number (Ok Comparison.Newer) = 0
-notify_number (Ok Comparison.Older) = 0
-notify_number (Ok Comparison.Undefined) = 0
-notify_number (Err refusal) = 22
+-- what is written, or needed
+abbrev pub answer_amount : {E : Type 0} → (E → ℕ) → Result ℕ E → ℕ
+answer_amount needs (Ok n) = n
+answer_amount needs (Err error) = needs error
+
+-- a refused feed's number
+abbrev pub feed_refusal : FeedError → ℕ
+feed_refusal (FeedError.Stopped stop) = codec.number_of (stop_said stop)
+feed_refusal FeedError.NotAReceiver = 22
 
 -- the comparison's number of the code's answer, 0 on 22
 abbrev pub notify_compared : Result Comparison NotAReceiver → ℕ
@@ -37,11 +35,6 @@ notify_compared (Ok Comparison.Newer) = 3
 notify_compared (Ok Comparison.Older) = 4
 notify_compared (Ok Comparison.Undefined) = 5
 notify_compared (Err refusal) = 0
-
--- the number of the code's answer to a question
-abbrev pub validate_number : Result RouteState ValidateError → ℕ
-validate_number (Ok state) = 0
-validate_number (Err error) = route_refusal error
 
 -- the state's number of the code's answer, 0 on a refusal
 abbrev pub validate_state : Result RouteState ValidateError → ℕ

@@ -2,23 +2,24 @@
 // thin one over the crates below; every input has its answer, and a refused call changes nothing but the numbers that it answers with.
 #![tactic(auto)]
 
-ghost use Rattle.std.specs.Prelude.{true, ◌≡◌};
+ghost use Rattle.std.specs.Prelude.{ℕ, true, ◌≡◌};
 ghost use Rattle.rtr_codec.specs.Read.{read};
 ghost use Rattle.rtr_codec.specs.Reading.{in_use};
-ghost use Rattle.rtr_encode.specs.Answers.{writing, number_of};
-ghost use Rattle.rtr_listing.specs.Promises.{list_said};
+ghost use Rattle.rtr_encode.specs.Answers.{encode_refusal, number_of};
+ghost use Rattle.rtr_listing.specs.Promises.{list_refusal};
 ghost use Rattle.rtr_listed.specs.Promises.{line_in};
-ghost use Rattle.rtr_cache.specs.Cache.{run_writing};
+ghost use Rattle.rtr_cache.specs.Cache.{run_refusal};
 ghost use Rattle.rtr_cache.specs.Serves.{RoomFits};
-ghost use Rattle.rtr_receiver.specs.Promises.{ask_writing, reconnect_number};
+ghost use Rattle.rtr_receiver.specs.Promises.{ask_error};
 ghost use Rattle.rtr_receiver.specs.Runs.{Call};
 ghost use Rattle.rtr_receiver.specs.declared.LoadKind.{LoadKind};
 ghost use Rattle.rtr_numbers.specs.Numbers.{value_of};
-ghost use Rattle.rtr_origin.specs.Peer.{peer_said};
+ghost use Rattle.rtr_origin.specs.Promises.{route_refusal};
+ghost use Rattle.rtr_origin.specs.Peer.{peer_refusal};
 ghost use Rattle.rtr_walk.specs.Walk.{end_said};
 ghost use Rattle.rtr_c.specs.Calls.{is_session, amount_of, end_number, end_value, read_gives, read_c, encode_gives, encode_c, walk_gives, walk_c, start_gives, start_c, ask_gives, full_ask_c, change_ask_c, feed_gives, feed_c, reconnect_gives, reconnect_c, notify_gives, notify_c, listing_c, diff_gives, diff_c, validate_gives, validate_c, validate_all_c};
 ghost use Rattle.rtr_c.specs.Calls.{head_numbers, read_listing_gives, read_listing_c, full_run_c, change_run_c};
-ghost use Rattle.rtr_c.specs.Private.{feed_number, notify_number, notify_compared, validate_number, validate_state, asked_route};
+ghost use Rattle.rtr_c.specs.Private.{answer_number, answer_amount, feed_refusal, notify_compared, validate_state, asked_route};
 ghost use Rattle.rtr_c.specs.Runs.{memory, LeadsOn, Begins};
 
 use rtr_cache::RunError;
@@ -35,8 +36,25 @@ const HEAD_NUMBERS: usize = 8;
 
 // ---- Numbers of answers
 
-fn encode_number(answer: Result<usize, EncodeError>) -> u8
-    ensures { result ≡ number_of (writing answer) }
+// A call's error, and its number.
+trait Refusal {
+    ghost refusal: { Self → ℕ };
+
+    fn number(self) -> u8
+        ensures { result ≡ refusal self };
+}
+
+// An error of a call that counts what it wrote: what is needed where the output is too short, else 0.
+trait Needs {
+    ghost needs: { Self → ℕ };
+
+    fn needed(self) -> u64
+        ensures { result ≡ needs self };
+}
+
+// A call's number: 0, or its error's.
+fn number<T: Copy, E: Refusal>(answer: Result<T, E>) -> u8
+    ensures { result ≡ answer_number E.refusal answer }
 {
     match answer {
         Ok(_) => 0,
@@ -44,60 +62,131 @@ fn encode_number(answer: Result<usize, EncodeError>) -> u8
     }
 }
 
-// The bytes written, or needed where the output is too short.
-fn encode_amount(answer: Result<usize, EncodeError>) -> u64
-    ensures { result ≡ amount_of (writing answer) }
+// What is written, or needed.
+fn amount<E: Needs>(answer: Result<usize, E>) -> u64
+    ensures { result ≡ answer_amount E.needs answer }
 {
     match answer {
         Ok(n) => n as u64,
-        Err(error) => match error {
-            EncodeError::PlaceOutside => 0,
-            EncodeError::InvalidUtf8 => 0,
-            EncodeError::TooLong => 0,
+        Err(error) => error.needed(),
+    }
+}
+
+impl Refusal for EncodeError {
+    ghost refusal = { λ e. number_of (encode_refusal e) };
+
+    fn number(self) -> u8 {
+        self.number()
+    }
+}
+
+impl Needs for EncodeError {
+    ghost needs = { λ e. amount_of (encode_refusal e) };
+
+    fn needed(self) -> u64 {
+        match self {
             EncodeError::OutputShort { needed } => needed as u64,
-        },
+            _ => 0,
+        }
     }
 }
 
-fn list_number(answer: Result<usize, ListError>) -> u8
-    ensures { result ≡ number_of (list_said answer) }
-{
-    match answer {
-        Ok(_) => 0,
-        Err(error) => error.number(),
+impl Refusal for ListError {
+    ghost refusal = { λ e. number_of (list_refusal e) };
+
+    fn number(self) -> u8 {
+        self.number()
     }
 }
 
-fn list_amount(answer: Result<usize, ListError>) -> u64
-    ensures { result ≡ amount_of (list_said answer) }
-{
-    match answer {
-        Ok(n) => n as u64,
-        Err(error) => match error {
+impl Needs for ListError {
+    ghost needs = { λ e. amount_of (list_refusal e) };
+
+    fn needed(self) -> u64 {
+        match self {
             ListError::NotAReceiver => 0,
             ListError::OutputShort { needed } => needed as u64,
-        },
+        }
     }
 }
 
-fn run_number(answer: Result<usize, RunError>) -> u8
-    ensures { result ≡ number_of (run_writing answer) }
-{
-    match answer {
-        Ok(_) => 0,
-        Err(error) => error.number(),
+impl Refusal for RunError {
+    ghost refusal = { λ e. number_of (run_refusal e) };
+
+    fn number(self) -> u8 {
+        self.number()
     }
 }
 
-fn run_amount(answer: Result<usize, RunError>) -> u64
-    ensures { result ≡ amount_of (run_writing answer) }
-{
-    match answer {
-        Ok(n) => n as u64,
-        Err(error) => match error {
+impl Needs for RunError {
+    ghost needs = { λ e. amount_of (run_refusal e) };
+
+    fn needed(self) -> u64 {
+        match self {
             RunError::NotARoom => 0,
             RunError::OutputShort { needed } => needed as u64,
-        },
+        }
+    }
+}
+
+impl Refusal for PeerError {
+    ghost refusal = { λ e. number_of (peer_refusal e) };
+
+    fn number(self) -> u8 {
+        self.number()
+    }
+}
+
+// Of a list of states.
+impl Needs for PeerError {
+    ghost needs = { λ e. amount_of (peer_refusal e) };
+
+    fn needed(self) -> u64 {
+        match self {
+            PeerError::OutOfShape => 0,
+            PeerError::NoTable => 0,
+            PeerError::StatesShort { needed } => needed as u64,
+        }
+    }
+}
+
+impl Refusal for ValidateError {
+    ghost refusal = { route_refusal };
+
+    fn number(self) -> u8 {
+        self.number()
+    }
+}
+
+impl Refusal for AskError {
+    ghost refusal = { λ e. number_of (ask_error e) };
+
+    fn number(self) -> u8 {
+        match self {
+            AskError::NotAReceiver => 22,
+            AskError::WrongPhase => 20,
+            AskError::NoTable => 21,
+            AskError::Encoding(encoding) => encoding.number(),
+        }
+    }
+}
+
+impl Refusal for FeedError {
+    ghost refusal = { feed_refusal };
+
+    fn number(self) -> u8 {
+        match self {
+            FeedError::Stopped(stop) => stop.number(),
+            FeedError::NotAReceiver => 22,
+        }
+    }
+}
+
+impl Refusal for NotAReceiver {
+    ghost refusal = { λ _. 22 };
+
+    fn number(self) -> u8 {
+        22
     }
 }
 
@@ -151,53 +240,6 @@ fn end_value(end: WalkEnd) -> u64
     }
 }
 
-fn ask_number(answer: Result<usize, AskError>) -> u8
-    ensures { result ≡ number_of (ask_writing answer) }
-{
-    match answer {
-        Ok(_) => 0,
-        Err(error) => match error {
-            AskError::NotAReceiver => 22,
-            AskError::WrongPhase => 20,
-            AskError::NoTable => 21,
-            AskError::Encoding(encoding) => encoding.number(),
-        },
-    }
-}
-
-fn feed_number(answer: Result<(), FeedError>) -> u8
-    ensures { result ≡ feed_number answer }
-{
-    match answer {
-        Ok(()) => 0,
-        Err(FeedError::Stopped(stop)) => stop.number(),
-        Err(FeedError::NotAReceiver) => 22,
-    }
-}
-
-fn reconnect_number(answer: Result<(), NotAReceiver>) -> u8
-    ensures { result ≡ reconnect_number answer }
-{
-    match answer {
-        Ok(()) => 0,
-        Err(_) => 22,
-    }
-}
-
-fn notify_number(answer: Result<Comparison, NotAReceiver>) -> u8
-    ensures { result ≡ notify_number answer }
-{
-    match answer {
-        Ok(Comparison::None) => 0,
-        Ok(Comparison::OtherSession) => 0,
-        Ok(Comparison::Same) => 0,
-        Ok(Comparison::Newer) => 0,
-        Ok(Comparison::Older) => 0,
-        Ok(Comparison::Undefined) => 0,
-        Err(_) => 22,
-    }
-}
-
 fn notify_compared(answer: Result<Comparison, NotAReceiver>) -> u64
     ensures { result ≡ notify_compared answer }
 {
@@ -212,44 +254,12 @@ fn notify_compared(answer: Result<Comparison, NotAReceiver>) -> u64
     }
 }
 
-fn validate_number(answer: Result<RouteState, ValidateError>) -> u8
-    ensures { result ≡ validate_number answer }
-{
-    match answer {
-        Ok(_) => 0,
-        Err(error) => error.number(),
-    }
-}
-
 fn validate_state(answer: Result<RouteState, ValidateError>) -> u64
     ensures { result ≡ validate_state answer }
 {
     match answer {
         Ok(state) => state.number() as u64,
         Err(_) => 0,
-    }
-}
-
-fn peer_number(answer: Result<usize, PeerError>) -> u8
-    ensures { result ≡ number_of (peer_said answer) }
-{
-    match answer {
-        Ok(_) => 0,
-        Err(error) => error.number(),
-    }
-}
-
-// The routes answered, or the states needed where the list of them is too short.
-fn peer_amount(answer: Result<usize, PeerError>) -> u64
-    ensures { result ≡ amount_of (peer_said answer) }
-{
-    match answer {
-        Ok(n) => n as u64,
-        Err(error) => match error {
-            PeerError::OutOfShape => 0,
-            PeerError::NoTable => 0,
-            PeerError::StatesShort { needed } => needed as u64,
-        },
     }
 }
 
@@ -277,8 +287,7 @@ pub extern "C" fn hingemoss_read(bytes: &[u8], pdu: &mut [u64]) -> u8
     if pdu.len() != rtr_pdu_numbers::PDU_NUMBERS {
         return 9;
     }
-    let answer = rtr_codec::parse_rtr_pdu(bytes);
-    match answer {
+    match rtr_codec::parse_rtr_pdu(bytes) {
         Ok((value, consumed)) => {
             rtr_pdu_numbers::put_pdu(value, consumed, pdu);
             0
@@ -292,8 +301,7 @@ pub extern "C" fn hingemoss_read(bytes: &[u8], pdu: &mut [u64]) -> u8
 pub extern "C" fn hingemoss_read_value(bytes: &[u8], i: usize) -> u64
     ensures { result ≡ value_of i (read in_use bytes.now) }
 {
-    let answer = rtr_codec::parse_rtr_pdu(bytes);
-    match answer {
+    match rtr_codec::parse_rtr_pdu(bytes) {
         Ok((_, _)) => 0,
         Err(error) => rtr_numbers::error_value(error, i),
     }
@@ -309,18 +317,13 @@ pub extern "C" fn hingemoss_encode(
 ) -> u8
     ensures { encode_gives result written.new out.new ≡ encode_c pdu.now payload.now out.old }
 {
-    let found = rtr_pdu_numbers::pdu_of(pdu);
-    match found {
-        Some((value, _)) => {
-            let answer = rtr_encode::encode(value, payload, out);
-            *written = encode_amount(answer);
-            encode_number(answer)
-        }
-        None => {
-            *written = 0;
-            22
-        }
-    }
+    *written = 0;
+    let Some((value, _)) = rtr_pdu_numbers::pdu_of(pdu) else {
+        return 22;
+    };
+    let answer = rtr_encode::encode(value, payload, out);
+    *written = amount(answer);
+    number(answer)
 }
 
 // Walks an Error Report's copies: 0, the level, the end and its value, or the refusal.
@@ -333,8 +336,7 @@ pub extern "C" fn hingemoss_walk(
 ) -> u8
     ensures { walk_gives result level.new end.new value.new ≡ walk_c bytes.now }
 {
-    let answer = rtr_walk::walk(bytes);
-    match answer {
+    match rtr_walk::walk(bytes) {
         Ok((depth, last)) => {
             *level = depth as u64;
             *end = end_number(last);
@@ -369,19 +371,15 @@ pub extern "C" fn hingemoss_start(
     if session.len() != rtr_numbers::SESSION_NUMBERS {
         return 22;
     }
-    let found = RtrProtocolVersion::from_u8(version);
-    match found {
-        Some(v) => {
-            let answer = rtr_receiver::start(v, live, working, hold);
-            match answer {
-                Ok(s) => {
-                    rtr_numbers::put_session(s, session);
-                    0
-                }
-                Err(_) => 22,
-            }
+    let Some(v) = RtrProtocolVersion::from_u8(version) else {
+        return 22;
+    };
+    match rtr_receiver::start(v, live, working, hold) {
+        Ok(s) => {
+            rtr_numbers::put_session(s, session);
+            0
         }
-        None => 22,
+        Err(_) => 22,
     }
 }
 
@@ -398,17 +396,12 @@ pub extern "C" fn hingemoss_full_ask(
     ensures stays_session { is_session session.new ≡ is_session session.old }
     ensures leads_on { LeadsOn (memory session.old live.now working.now hold.now) (Call.ask LoadKind.Full out.old) (memory session.new live.now working.now hold.now) }
 {
-    let found = rtr_numbers::session_of(session);
-    match found {
-        Some(s) => {
-            let asked = rtr_receiver::full_ask(s, live, working, hold, out);
-            let left = asked.session;
-            let answer = asked.answer;
-            rtr_numbers::put_session(left, session);
-            ask_number(answer)
-        }
-        None => 22,
-    }
+    let Some(s) = rtr_numbers::session_of(session) else {
+        return 22;
+    };
+    let asked = rtr_receiver::full_ask(s, live, working, hold, out);
+    rtr_numbers::put_session(asked.session, session);
+    number(asked.answer)
 }
 
 // Asks for what changed: 0 and a Serial Query of 12 bytes, or the refusal.
@@ -424,17 +417,12 @@ pub extern "C" fn hingemoss_change_ask(
     ensures stays_session { is_session session.new ≡ is_session session.old }
     ensures leads_on { LeadsOn (memory session.old live.now working.now hold.now) (Call.ask LoadKind.Change out.old) (memory session.new live.now working.now hold.now) }
 {
-    let found = rtr_numbers::session_of(session);
-    match found {
-        Some(s) => {
-            let asked = rtr_receiver::change_ask(s, live, working, hold, out);
-            let left = asked.session;
-            let answer = asked.answer;
-            rtr_numbers::put_session(left, session);
-            ask_number(answer)
-        }
-        None => 22,
-    }
+    let Some(s) = rtr_numbers::session_of(session) else {
+        return 22;
+    };
+    let asked = rtr_receiver::change_ask(s, live, working, hold, out);
+    rtr_numbers::put_session(asked.session, session);
+    number(asked.answer)
 }
 
 // Feeds a piece of any length: 0 or the stop, the bytes taken and the updates finished.
@@ -452,24 +440,17 @@ pub extern "C" fn hingemoss_feed(
     ensures stays_session { is_session session.new ≡ is_session session.old }
     ensures leads_on { LeadsOn (memory session.old live.old working.old hold.old) (Call.feed piece.now) (memory session.new live.new working.new hold.new) }
 {
-    let found = rtr_numbers::session_of(session);
-    match found {
-        Some(s) => {
-            let fed = rtr_receiver::feed(s, live, working, hold, piece);
-            let left = fed.session;
-            let done = fed.done;
-            let answer = done.answer;
-            rtr_numbers::put_session(left, session);
-            *taken = done.taken as u64;
-            *updates = done.updates as u64;
-            feed_number(answer)
-        }
-        None => {
-            *taken = 0;
-            *updates = 0;
-            22
-        }
-    }
+    *taken = 0;
+    *updates = 0;
+    let Some(s) = rtr_numbers::session_of(session) else {
+        return 22;
+    };
+    let fed = rtr_receiver::feed(s, live, working, hold, piece);
+    let done = fed.done;
+    rtr_numbers::put_session(fed.session, session);
+    *taken = done.taken as u64;
+    *updates = done.updates as u64;
+    number(done.answer)
 }
 
 // A new connection.
@@ -484,17 +465,12 @@ pub extern "C" fn hingemoss_reconnect(
     ensures stays_session { is_session session.new ≡ is_session session.old }
     ensures leads_on { LeadsOn (memory session.old live.now working.old hold.now) Call.reconnect (memory session.new live.now working.new hold.now) }
 {
-    let found = rtr_numbers::session_of(session);
-    match found {
-        Some(s) => {
-            let reconnected = rtr_receiver::reconnect(s, live, working, hold);
-            let left = reconnected.session;
-            let answer = reconnected.answer;
-            rtr_numbers::put_session(left, session);
-            reconnect_number(answer)
-        }
-        None => 22,
-    }
+    let Some(s) = rtr_numbers::session_of(session) else {
+        return 22;
+    };
+    let reconnected = rtr_receiver::reconnect(s, live, working, hold);
+    rtr_numbers::put_session(reconnected.session, session);
+    number(reconnected.answer)
 }
 
 // The last Serial Notify beside the table.
@@ -508,18 +484,13 @@ pub extern "C" fn hingemoss_notify(
 ) -> u8
     ensures { notify_gives result answer.new ≡ notify_c session.now live.now working.now hold.now }
 {
-    let found = rtr_numbers::session_of(session);
-    match found {
-        Some(s) => {
-            let compared = rtr_receiver::notify(s, live, working, hold);
-            *answer = notify_compared(compared);
-            notify_number(compared)
-        }
-        None => {
-            *answer = 0;
-            22
-        }
-    }
+    *answer = 0;
+    let Some(s) = rtr_numbers::session_of(session) else {
+        return 22;
+    };
+    let compared = rtr_receiver::notify(s, live, working, hold);
+    *answer = notify_compared(compared);
+    number(compared)
 }
 
 // The table as document 01's lines of text: 0 and the bytes written, or the refusal.
@@ -532,18 +503,13 @@ pub extern "C" fn hingemoss_listing(
 ) -> u8
     ensures { encode_gives result written.new out.new ≡ listing_c session.now live.now out.old }
 {
-    let found = rtr_numbers::session_of(session);
-    match found {
-        Some(s) => {
-            let answer = rtr_listing::listing(s, live, out);
-            *written = list_amount(answer);
-            list_number(answer)
-        }
-        None => {
-            *written = 0;
-            22
-        }
-    }
+    *written = 0;
+    let Some(s) = rtr_numbers::session_of(session) else {
+        return 22;
+    };
+    let answer = rtr_listing::listing(s, live, out);
+    *written = amount(answer);
+    number(answer)
 }
 
 // A listing read back: 0, its table in the room and what it says before its records; 22; or 24 and the line that does not fit or is missing.
@@ -560,8 +526,7 @@ pub extern "C" fn hingemoss_read_listing(
     if head.len() != HEAD_NUMBERS {
         return 22;
     }
-    let answer = rtr_listed::read_listing(text, room);
-    match answer {
+    match rtr_listed::read_listing(text, room) {
         Ok(said) => {
             let numbers = head_numbers(said);
             rtr_numbers::put_numbers(head, &numbers);
@@ -587,8 +552,8 @@ pub extern "C" fn hingemoss_diff(
     ensures { diff_gives result written.new old_room.new new_room.new out.new ≡ diff_c old_text.now new_text.now old_room.old new_room.old out.old }
 {
     let answer = rtr_diffs::diff(old_text, new_text, old_room, new_room, out);
-    *written = list_amount(answer);
-    list_number(answer)
+    *written = amount(answer);
+    number(answer)
 }
 
 // Whether a route is good (RFC 6811) by the live table: 0 and its state, or the refusal.
@@ -603,23 +568,17 @@ pub extern "C" fn hingemoss_validate(
 ) -> u8
     ensures { validate_gives result state.new ≡ validate_c session.now live.now working.now hold.now route.now }
 {
+    *state = 0;
     if route.len() != 6 {
-        *state = 0;
         return 22;
     }
-    let found = rtr_numbers::session_of(session);
-    match found {
-        Some(s) => {
-            let asked = asked_route(rtr_origin::route_of(route));
-            let answer = rtr_origin::validate(s, live, working, hold, asked);
-            *state = validate_state(answer);
-            validate_number(answer)
-        }
-        None => {
-            *state = 0;
-            22
-        }
-    }
+    let Some(s) = rtr_numbers::session_of(session) else {
+        return 22;
+    };
+    let asked = asked_route(rtr_origin::route_of(route));
+    let answer = rtr_origin::validate(s, live, working, hold, asked);
+    *state = validate_state(answer);
+    number(answer)
 }
 
 // The states of a list of routes, each as for the route alone: 0 and how many routes there were, or the refusal.
@@ -635,18 +594,13 @@ pub extern "C" fn hingemoss_validate_all(
 ) -> u8
     ensures { encode_gives result written.new states.new ≡ validate_all_c session.now live.now working.now hold.now routes.now states.old }
 {
-    let found = rtr_numbers::session_of(session);
-    match found {
-        Some(s) => {
-            let answer = rtr_origin::validate_all(s, live, working, hold, routes, states);
-            *written = peer_amount(answer);
-            peer_number(answer)
-        }
-        None => {
-            *written = 0;
-            22
-        }
-    }
+    *written = 0;
+    let Some(s) = rtr_numbers::session_of(session) else {
+        return 22;
+    };
+    let answer = rtr_origin::validate_all(s, live, working, hold, routes, states);
+    *written = amount(answer);
+    number(answer)
 }
 
 // ---- Cache. By its second promise a call was lent numbers of 32 bits, as every host's are: what a receiver makes of the run rests on it (rtr_cache, specs/Serves.antt).
@@ -665,21 +619,15 @@ pub extern "C" fn hingemoss_full_run(
     ensures room_fits { RoomFits table.now }
 {
     *written = 0;
-    let found = RtrProtocolVersion::from_u8(version);
-    match found {
-        Some(v) => {
-            let numbers = rtr_numbers::table_of(end);
-            match numbers {
-                Some(t) => {
-                    let answer = rtr_cache::full_run(v, t, table, count as usize, out);
-                    *written = run_amount(answer);
-                    run_number(answer)
-                }
-                None => 22,
-            }
-        }
-        None => 22,
-    }
+    let Some(v) = RtrProtocolVersion::from_u8(version) else {
+        return 22;
+    };
+    let Some(t) = rtr_numbers::table_of(end) else {
+        return 22;
+    };
+    let answer = rtr_cache::full_run(v, t, table, count as usize, out);
+    *written = amount(answer);
+    number(answer)
 }
 
 // What changed from the first table to the second, as a cache answers a Serial Query: 0 and the bytes written, or the refusal.
@@ -699,27 +647,21 @@ pub extern "C" fn hingemoss_change_run(
     ensures room_fits { RoomFits first.now × RoomFits second.now }
 {
     *written = 0;
-    let found = RtrProtocolVersion::from_u8(version);
-    match found {
-        Some(v) => {
-            let numbers = rtr_numbers::table_of(end);
-            match numbers {
-                Some(t) => {
-                    let answer = rtr_cache::change_run(
-                        v,
-                        t,
-                        first,
-                        first_count as usize,
-                        second,
-                        second_count as usize,
-                        out,
-                    );
-                    *written = run_amount(answer);
-                    run_number(answer)
-                }
-                None => 22,
-            }
-        }
-        None => 22,
-    }
+    let Some(v) = RtrProtocolVersion::from_u8(version) else {
+        return 22;
+    };
+    let Some(t) = rtr_numbers::table_of(end) else {
+        return 22;
+    };
+    let answer = rtr_cache::change_run(
+        v,
+        t,
+        first,
+        first_count as usize,
+        second,
+        second_count as usize,
+        out,
+    );
+    *written = amount(answer);
+    number(answer)
 }

@@ -1,9 +1,11 @@
 -- `hingemoss_encode` finds the PDU and encodes it. Assumes nothing.
-use Rattle.rtr_c.proofs.Steps.{encode-known, encode-unknown}
+use mathlib.Core.Path.{refl, ◌∙◌}
+use Rattle.rtr_encode.specs.Answers.{writing}
+use Rattle.rtr_c.proofs.Steps.{numbered, counted, encode-known, encode-unknown}
 use Rattle.rtr_c.proofs.hingemoss_encode.Goals as goal
 
-pub returns-in-Some : goal.returns-in-Some
-returns-in-Some c = encode-known c.args.pdu.now c.args.payload.now c.args.out.now _ c.pdu_of-found.result _ _ c.encode-answer.result _ _ c.pdu_of-found.ensures c.in-Some.is c.encode-answer.ensures c.encode_number.ensures c.encode_amount.ensures
+pub returns : goal.returns
+returns c = encode-known c.args.pdu.now c.args.payload.now c.args.out.now _ c.pdu_of.result _ _ c.encode-answer.result _ _ c.pdu_of.ensures c.in-Some.is c.encode-answer.ensures (c.number.ensures ∙ numbered writing (λ n. refl) c.encode-answer.result) (c.amount.ensures ∙ counted writing (λ n. refl) c.encode-answer.result)
 
-pub returns-in-None : goal.returns-in-None
-returns-in-None c = encode-unknown c.args.pdu.now c.args.payload.now c.args.out.now c.pdu_of-found.result c.pdu_of-found.ensures c.in-None.is
+pub returns-in_default : goal.returns-in_default
+returns-in_default c = encode-unknown c.args.pdu.now c.args.payload.now c.args.out.now c.pdu_of.result c.pdu_of.ensures c.in_default.is

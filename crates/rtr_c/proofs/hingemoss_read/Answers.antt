@@ -9,7 +9,7 @@ unfolding read_c
 returns-then-pdu-ne-PDU_NUMBERS c = simp (ne_eqb _ _ c.if-pdu-ne-PDU_NUMBERS.true)
 
 pub returns-in-Ok : goal.returns-in-Ok
-returns-in-Ok c = read-accepted c.args.bytes.now c.args.pdu.now c.parse_rtr_pdu-answer.result c.if-pdu-ne-PDU_NUMBERS.false c.parse_rtr_pdu-answer.ensures _ _ _ c.in-Ok.is c.put_pdu.ensures.1
+returns-in-Ok c = read-accepted c.args.bytes.now c.args.pdu.now c.parse_rtr_pdu.result c.if-pdu-ne-PDU_NUMBERS.false c.parse_rtr_pdu.ensures _ _ _ c.in-Ok.is c.put_pdu.ensures.1
 
 pub returns-in-Err : goal.returns-in-Err
-returns-in-Err c = read-refused c.args.bytes.now c.args.pdu.now c.parse_rtr_pdu-answer.result c.if-pdu-ne-PDU_NUMBERS.false c.parse_rtr_pdu-answer.ensures _ _ c.in-Err.is c.number.ensures
+returns-in-Err c = read-refused c.args.bytes.now c.args.pdu.now c.parse_rtr_pdu.result c.if-pdu-ne-PDU_NUMBERS.false c.parse_rtr_pdu.ensures _ _ c.in-Err.is c.number.ensures

@@ -11,11 +11,11 @@ returns-then-head-ne-HEAD_NUMBERS c = simp (ne_eqb _ _ c.if-head-ne-HEAD_NUMBERS
 pub returns-in-Ok : goal.returns-in-Ok
 returns-in-Ok c =
     let a = c.args in
-    listing-read a.text.now a.room.now a.head.now c.if-head-ne-HEAD_NUMBERS.false c.read_listing-answer.result _ c.read_listing-answer.ensures
+    listing-read a.text.now a.room.now a.head.now c.if-head-ne-HEAD_NUMBERS.false c.read_listing.result _ c.read_listing.ensures
     _ _ _ c.in-Ok.is c.head_numbers-numbers.ensures c.put_numbers.ensures.1
 
 pub returns-in-Err : goal.returns-in-Err
 returns-in-Err c =
     let a = c.args in
-    listing-misread a.text.now a.room.now a.head.now c.if-head-ne-HEAD_NUMBERS.false c.read_listing-answer.result _ c.read_listing-answer.ensures
+    listing-misread a.text.now a.room.now a.head.now c.if-head-ne-HEAD_NUMBERS.false c.read_listing.result _ c.read_listing.ensures
     _ _ _ c.in-Err.is c.number.ensures c.line_number.ensures

@@ -7,12 +7,12 @@ returns-then-route-ne6 c =
     let a = c.args in
     validate-not-six a.live.now a.working.now a.hold.now a.session.now a.route.now c.if-route-ne6.true
 
-pub returns-in-Some : goal.returns-in-Some
-returns-in-Some c =
+pub returns : goal.returns
+returns c =
     let a = c.args in
-    validate-known a.live.now a.working.now a.hold.now a.session.now a.route.now c.if-route-ne6.false c.session_of-found.result c.session_of-found.ensures _ c.route_of.result c.asked_route-asked.result c.validate-answer.result _ _ c.in-Some.is c.route_of.ensures c.asked_route-asked.ensures c.validate-answer.ensures c.validate_number.ensures c.validate_state.ensures
+    validate-known a.live.now a.working.now a.hold.now a.session.now a.route.now c.if-route-ne6.false c.session_of.result c.session_of.ensures _ c.route_of.result c.asked_route-asked.result c.validate-answer.result _ _ c.in-Some.is c.route_of.ensures c.asked_route-asked.ensures c.validate-answer.ensures c.number.ensures c.validate_state.ensures
 
-pub returns-in-None : goal.returns-in-None
-returns-in-None c =
+pub returns-in_default : goal.returns-in_default
+returns-in_default c =
     let a = c.args in
-    validate-unknown a.live.now a.working.now a.hold.now a.session.now a.route.now c.if-route-ne6.false c.session_of-found.result c.session_of-found.ensures c.in-None.is
+    validate-unknown a.live.now a.working.now a.hold.now a.session.now a.route.now c.if-route-ne6.false c.session_of.result c.session_of.ensures c.in_default.is
