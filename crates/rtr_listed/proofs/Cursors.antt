@@ -16,7 +16,6 @@ use Rattle.rtr_listed.specs.Private.{number_said, line_gives, behind, lines_at, 
 use Rattle.rtr_listed.specs.Private.Took.{took, missed}
 use Rattle.rtr_listed.specs.declared.Cursor.{Cursor}
 use Rattle.rtr_listed.specs.declared.NumberRead.{NumberRead}
-use Rattle.rtr_listed.specs.declared.Value.{Value}
 use Rattle.rtr_listed.proofs.Texts.{same_refl, length-other, named_value, whole-line}
 use Rattle.rtr_listed.specs.declared.Words.{Words}
 use Rattle.rtr_listed.proofs.Numbers.{number_fits, number_by, number-none}
@@ -40,7 +39,7 @@ module _ {A : Type 0} (reads : List ℕ → Fit A) (s : List ℕ) (c : Cursor) (
   pub value-missed : (from end : ℕ) (a : A) → ValueAt s c name from end → reads (between s from end) ≡ misfits → Took (named name reads) s c a (refused_at c)
   value-missed from end a v e = missed (λ _. value-gives from end v ∙ e) refl
 
-  pub nowhere-missed : (a : A) → ValueIs s c name Value.Nowhere → Took (named name reads) s c a (refused_at c)
+  pub nowhere-missed : (a : A) → ValueIs s c name None → Took (named name reads) s c a (refused_at c)
   nowhere-missed a none = missed (λ f. go (lines_at s c) (none f)) refl
     where
       other : (l : Line) (b : Bool) → l.ended ≡ b → (l.ended ≡ true → same_text (take (length name) l.bytes) name ≡ false) → cond b (named name reads l.bytes) misfits ≡ misfits
@@ -74,7 +73,7 @@ module _ (s : List ℕ) (c : Cursor) (name : List ℕ) where
       let other : same_text (between s from end) [] ≡ false = length-other (between s from end) [] (λ h. e (omega (arith, some, h, v.order))) in
       as-whole (refused_at c) (value-missed nothing-behind s c name from end 0 v (ap (λ (b : Bool). fitting b 0) other))
 
-  pub whole-nowhere : ValueIs s c name Value.Nowhere → Took {A = ℕ} (λ b. fitting (same_text b name) 0) s c 0 (refused_at c)
+  pub whole-nowhere : ValueIs s c name None → Took {A = ℕ} (λ b. fitting (same_text b name) 0) s c 0 (refused_at c)
   whole-nowhere none = as-whole (refused_at c) (nowhere-missed nothing-behind s c name 0 none)
 
 -- ---- numbers
@@ -85,7 +84,7 @@ module _ (reads : List ℕ → Fit ℕ) (s : List ℕ) (c : Cursor) (name : List
   number-took from end (Some n) v e low h = (value-took reads s c name from end n v (sym e), (low n (sym e), past_near s c end v.inside))
   number-took from end None v e low h = (value-missed reads s c name from end 0 v (sym e), (omega arith, refused-near s c h))
 
-  pub number-nowhere : (end : ℕ) → ValueIs s c name Value.Nowhere → c.at ≤ length s → NumberTook (named name reads) s c most (number_took c end None)
+  pub number-nowhere : (end : ℕ) → ValueIs s c name None → c.at ≤ length s → NumberTook (named name reads) s c most (number_took c end None)
   number-nowhere end none h = (nowhere-missed reads s c name 0 none, (omega arith, refused-near s c h))
 
 -- one test more

@@ -1,4 +1,5 @@
 -- The value of a line, by where the line ends: a line that ends nowhere, is shorter than the name or begins otherwise has none; else the line is the name and the value. Assumes nothing.
+use Rattle.std.specs.Prelude.{None}
 use Prim.Native.Nat.{ℕ, zero, suc, ◌+◌, ◌-◌, ◌≤◌, ◌<◌}
 use mathlib.Core.Bool.{true, false, true≢false}
 use mathlib.Core.List.{List, [], ◌∷◌, ◌++◌}
@@ -9,7 +10,6 @@ use lib.Seq.{drop-drop, take-add, take-take}
 use Rattle.rtr_listed.specs.Listed.{Line, same_text, lines_of}
 use Rattle.rtr_listed.specs.Private.{line_length, lines_at, between, ValueAt, ValueIs}
 use Rattle.rtr_listed.specs.declared.Cursor.{Cursor}
-use Rattle.rtr_listed.specs.declared.Value.{Value}
 use Rattle.rtr_listed.proofs.Texts.{same-equal, length-other}
 use Rattle.rtr_listed.proofs.Lines.{Unended, lines-ended, lines-unended}
 
@@ -25,7 +25,7 @@ module _ (s : List ℕ) (c : Cursor) (name : List ℕ) (end : ℕ) (in-text : c.
   abbrev k : ℕ
   k = line_length d
 
-  pub value-unended : end ≡ length s → ValueIs s c name Value.Nowhere
+  pub value-unended : end ≡ length s → ValueIs s c name None
   value-unended e f l ls p q =
       let all : k ≡ length d = omega (arith, ends, length-drop c.at s) in
       let open' : l.ended ≡ false = subst Unended p (lines-unended d all) in
@@ -43,7 +43,7 @@ module _ (s : List ℕ) (c : Cursor) (name : List ℕ) (end : ℕ) (in-text : c.
         bytes_of [] = []
         bytes_of (x ∷ xs) = x.bytes
 
-    pub value-short : end - c.at < length name → ValueIs s c name Value.Nowhere
+    pub value-short : end - c.at < length name → ValueIs s c name None
     value-short h f l ls p q =
         let few : length (take (length name) l.bytes) ≤ length l.bytes = take-fewer (length name) l.bytes in
         let k' : length l.bytes ≤ k = rw (the-line l ls p) (take-at-most k d) in
@@ -58,7 +58,7 @@ module _ (s : List ℕ) (c : Cursor) (name : List ℕ) (end : ℕ) (in-text : c.
       front : between s c.at from ≡ take (length name) d
       front = let n : from - c.at ≡ length name = omega arith in ap (λ (x : ℕ). take x d) n
 
-      pub value-other : same_text (between s c.at from) name ≡ false → ValueIs s c name Value.Nowhere
+      pub value-other : same_text (between s c.at from) name ≡ false → ValueIs s c name None
       value-other other f l ls p q =
           ap (λ (x : List ℕ). same_text x name) (ap (take (length name)) (the-line l ls p) ∙ take-take (length name) k d (omega (arith, ends)) ∙ sym front) ∙ other
 

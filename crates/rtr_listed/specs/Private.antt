@@ -15,7 +15,7 @@ use Rattle.rtr_listed.specs.declared.WordsRead.{WordsRead}
 use Rattle.rtr_listed.specs.declared.TableRead.{TableRead}
 use Rattle.rtr_listed.specs.declared.HeadRead.{HeadRead}
 use Rattle.rtr_listed.specs.declared.RecordRead.{RecordRead}
-use Rattle.rtr_listed.specs.declared.Value.{Value}
+use Rattle.rtr_listed.specs.declared.Span.{Span}
 
 -- ---- lines and digits
 
@@ -125,9 +125,9 @@ pub record ValueAt (s : List ℕ) (c : Cursor) (name : List ℕ) (from end : ℕ
   pub inside : end < length s
 
 -- where the value of a line stands, or that the line has not that name
-abbrev pub ValueIs : List ℕ → Cursor → List ℕ → Value → Type 0
-ValueIs s c name (Value.At from end) = ValueAt s c name from end
-ValueIs s c name Value.Nowhere = c.fits ≡ true → (l : Line) (ls : List Line) → lines_at s c ≡ l ∷ ls → l.ended ≡ true → same_text (take (length name) l.bytes) name ≡ false
+abbrev pub ValueIs : List ℕ → Cursor → List ℕ → Option Span → Type 0
+ValueIs s c name (Some span) = ValueAt s c name span.from span.end
+ValueIs s c name None = c.fits ≡ true → (l : Line) (ls : List Line) → lines_at s c ≡ l ∷ ls → l.ended ≡ true → same_text (take (length name) l.bytes) name ≡ false
 
 -- the records were read into the room, or a line does not fit
 pub data AllRead (limit : ℕ) (s : List ℕ) (h : Head) (c : Cursor) (left : List ℕ) (next : Cursor) : Type 0 where

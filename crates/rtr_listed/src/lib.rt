@@ -55,12 +55,12 @@ struct Words {
 
 // Where a line's value begins and ends.
 #[derive(Clone, Copy)]
-enum Value {
-    At { from: usize, end: usize },
-    Nowhere,
+struct Span {
+    from: usize,
+    end: usize,
 }
 
-// Each has what was read of a line and the cursor behind it.
+// Each has what was read of a line and the cursor behind it. Not an `Option`: of a line that does not fit there is the cursor too, which tells its number.
 #[derive(Clone, Copy)]
 struct NumberRead {
     value: usize,
@@ -149,26 +149,26 @@ fn past(c: Cursor, end: usize) -> Cursor
 }
 
 // The value of the line at the cursor, where it has that name and an end.
-fn value_of(listing: &[u8], c: Cursor, name: &[u8]) -> Value
+fn value_of(listing: &[u8], c: Cursor, name: &[u8]) -> Option<Span>
     requires { c.at ≤ length listing.now }
     ensures { ValueIs listing.now c name.now result }
 {
     if !c.fits {
-        return Value::Nowhere;
+        return None;
     }
     let at = c.at;
     let end = line_end(listing, at);
     if end == listing.len() {
-        return Value::Nowhere;
+        return None;
     }
     if end - at < name.len() {
-        return Value::Nowhere;
+        return None;
     }
     let from = at + name.len();
     if !is_text(&listing[at..from], name) {
-        return Value::Nowhere;
+        return None;
     }
-    Value::At { from, end }
+    Some(Span { from, end })
 }
 
 // ---- Values
@@ -215,15 +215,11 @@ fn number_in(value: &[u8], most: usize) -> Option<usize>
     if !has_no_lead(value) {
         return None;
     }
-    match sum_of(value) {
-        Some(n) => {
-            if n > most {
-                return None;
-            }
-            Some(n)
-        }
-        None => None,
+    let n = sum_of(value)?;
+    if n > most {
+        return None;
     }
+    Some(n)
 }
 
 // A count of records in four digits, within the limit.
@@ -233,18 +229,14 @@ fn count_in(value: &[u8], limit: usize) -> Option<usize>
     if value.len() != COUNT_DIGITS {
         return None;
     }
-    match sum_of(value) {
-        Some(n) => {
-            if n > RECORD_LIMIT {
-                return None;
-            }
-            if n > limit {
-                return None;
-            }
-            Some(n)
-        }
-        None => None,
+    let n = sum_of(value)?;
+    if n > RECORD_LIMIT {
+        return None;
     }
+    if n > limit {
+        return None;
+    }
+    Some(n)
 }
 
 fn is_hex(c: u8) -> bool
@@ -348,8 +340,8 @@ fn number_line(listing: &[u8], c: Cursor, name: &[u8], most: usize) -> NumberRea
     ensures { NumberTook (named name.now (number_in (λ n. leb n most))) listing.now c most result }
 {
     match value_of(listing, c, name) {
-        Value::At { from, end } => took(c, end, number_in(&listing[from..end], most)),
-        Value::Nowhere => took(c, 0, None),
+        Some(span) => took(c, span.end, number_in(&listing[span.from..span.end], most)),
+        None => took(c, 0, None),
     }
 }
 
@@ -359,8 +351,8 @@ fn count_line(listing: &[u8], c: Cursor, limit: usize) -> NumberRead
     ensures { NumberTook (named (text "count=") (count_in count_widths limit)) listing.now c limit result }
 {
     match value_of(listing, c, b"count=") {
-        Value::At { from, end } => took(c, end, count_in(&listing[from..end], limit)),
-        Value::Nowhere => took(c, 0, None),
+        Some(span) => took(c, span.end, count_in(&listing[span.from..span.end], limit)),
+        None => took(c, 0, None),
     }
 }
 
@@ -369,15 +361,15 @@ fn address_line(listing: &[u8], c: Cursor, family: usize) -> WordsRead
     requires { (c.at ≤ length listing.now) × (c.line < 4294967295) }
     ensures { WordsTook (named (text "address=") (address_in family)) listing.now c result }
 {
-    match value_of(listing, c, b"address=") {
-        Value::At { from, end } => match address_in(&listing[from..end], family) {
-            Some(words) => WordsRead {
-                words,
-                next: past(c, end),
-            },
-            None => no_words(c),
-        },
-        Value::Nowhere => no_words(c),
+    let Some(span) = value_of(listing, c, b"address=") else {
+        return no_words(c);
+    };
+    let Some(words) = address_in(&listing[span.from..span.end], family) else {
+        return no_words(c);
+    };
+    WordsRead {
+        words,
+        next: past(c, span.end),
     }
 }
 
@@ -401,13 +393,8 @@ fn none_line(listing: &[u8], c: Cursor) -> Cursor
     ensures { NoneTook listing.now c result }
 {
     match value_of(listing, c, b"count=none") {
-        Value::At { from, end } => {
-            if from == end {
-                return past(c, end);
-            }
-            refused(c)
-        }
-        Value::Nowhere => refused(c),
+        Some(span) if span.from == span.end => past(c, span.end),
+        _ => refused(c),
     }
 }
 

@@ -16,7 +16,7 @@ pub returns-then-end-at : goal.returns-then-end-at
 returns-then-end-at c = let a = c.args in value-short a.listing.now a.c a.name.now _ c.requires c.line_end-end.ensures.0 (omega (arith, c.line_end-end.ensures.1)) c.if-end-at.true
 
 pub returns-then-not-is_text : goal.returns-then-not-is_text
-returns-then-not-is_text c = let a = c.args in value-other a.listing.now a.c a.name.now _ c.requires c.line_end-end.ensures.0 (omega (arith, c.line_end-end.ensures.1)) _ (omega arith) refl (sym c.is_text.ensures ∙ not-true _ c.if-not-is_text.true-raw)
+returns-then-not-is_text c = let a = c.args in value-other a.listing.now a.c a.name.now _ c.requires c.line_end-end.ensures.0 (omega (arith, c.line_end-end.ensures.1)) _ (omega arith) refl (sym c.is_text.ensures ∙ c.if-not-is_text.true)
 
 pub returns : goal.returns
-returns c = let a = c.args in value_there a.listing.now a.c a.name.now _ c.requires c.line_end-end.ensures.0 (omega (arith, c.line_end-end.ensures.1)) _ (omega arith) refl (not-false _ c.if-not-c.false) (sym c.is_text.ensures ∙ not-false _ c.if-not-is_text.false-raw)
+returns c = let a = c.args in value_there a.listing.now a.c a.name.now _ c.requires c.line_end-end.ensures.0 (omega (arith, c.line_end-end.ensures.1)) _ (omega arith) refl (not-false _ c.if-not-c.false) (sym c.is_text.ensures ∙ c.if-not-is_text.false)
