@@ -3,8 +3,6 @@ use Rattle.std.specs.Prelude.{Option, Some, None, ⊤, Result, Ok, Err}
 use Rattle.std.proofs.Common.{◌≡◌, ◌⊎◌, inl, inr, ℕ, ◌+◌, ◌-◌, ◌*◌, ◌%◌, ◌<◌, ◌≤◌, Bool, true, false, cond, not, ◌&&◌, ◌||◌, eqb, leb, List, [], ◌∷◌, length, replicate, sym, refl, ap, ◌∙◌, arith, le-ltb, lt-ltb, eq-eqb, ne_eqb, le-leb, leb-false, leb-true}
 use mathlib.Core.Bool.{and-true}
 use borrow.Author.Tests.{lt-leb}
-use types.Run.{OneOf, miss}
-use denote.Enum.Declared.{tag_of}
 use Rattle.rtr_models.specs.declared.RtrProtocolVersion.{RtrProtocolVersion}
 use Rattle.rtr_models.specs.declared.RtrPdu.{RtrPdu}
 use Rattle.rtr_codec.specs.Reading.{in_use}
@@ -17,35 +15,32 @@ use Rattle.rtr_receiver.specs.Receiver.{Stage, Receiver, Query, Notified, full_q
 use Rattle.rtr_receiver.specs.History.{has_table}
 use Rattle.rtr_receiver.specs.Promises.{Left, StartSays, NotifySays, change_under_way, is_loading, is_stopped, stage_of, receiver_of, is_limit, is_receiver, leaves, in_memory, start_says, asked_to, ask_says, ask_said, reconnect_says, notify_says, tabled}
 use Rattle.rtr_receiver.specs.Private.{asked_for}
+use Rattle.rtr_receiver.specs.declared.LoadKind.{LoadKind}
 use Rattle.rtr_receiver.specs.declared.Stop.{Stop}
 use Rattle.rtr_receiver.specs.declared.Phase.{Phase}
 use Rattle.rtr_receiver.specs.declared.Table.{Table}
 use Rattle.rtr_receiver.specs.declared.Session.{Session}
 use Rattle.rtr_receiver.specs.declared.AskError.{AskError}
 use Rattle.rtr_receiver.specs.declared.AskedSession.{AskedSession}
-use Rattle.rtr_receiver.specs.contracts.Phase as phase
 use Rattle.rtr_receiver.proofs.Memory.{with-limit, with-records, left-alike, limit_is, room-stands, room-size, shape_of, standing, stopped-is}
 
 -- ---- The phases that a `_` stands for
 
-abbrev tag : Phase → ℕ
-tag p = tag_of phase.the_type p
+pub no_change : (p : Phase) → (p ≡ Phase.AskedChange → ⊥) → ((kind : LoadKind) (session : ℕ) → p ≡ Phase.Loading kind session → ⊥) → change_under_way p ≡ false
+no_change Phase.Idle a l = refl
+no_change Phase.MustReset a l = refl
+no_change Phase.AskedFull a l = refl
+no_change Phase.AskedChange a l = absurd (a refl)
+no_change (Phase.Loading kind session) a l = absurd (l kind session refl)
+no_change (Phase.Stopped stop) a l = refl
 
-pub no_change : (p : Phase) → OneOf (0 ∷ 1 ∷ 2 ∷ 5 ∷ []) (tag p) → change_under_way p ≡ false
-no_change Phase.Idle h = refl
-no_change Phase.MustReset h = refl
-no_change Phase.AskedFull h = refl
-no_change Phase.AskedChange h = absurd (miss (0 ∷ 1 ∷ 2 ∷ 5 ∷ []) 3 tt h)
-no_change (Phase.Loading kind session) h = absurd (miss (0 ∷ 1 ∷ 2 ∷ 5 ∷ []) 4 tt h)
-no_change (Phase.Stopped stop) h = refl
-
-pub cleared-else : (p : Phase) (w h : ℕ) → OneOf (0 ∷ 1 ∷ 2 ∷ 3 ∷ []) (tag p) → ((is_loading p || eqb w 0) && (not (is_stopped p) || eqb h 0)) ≡ eqb w 0
-cleared-else Phase.Idle w h k = and-true (eqb w 0)
-cleared-else Phase.MustReset w h k = and-true (eqb w 0)
-cleared-else Phase.AskedFull w h k = and-true (eqb w 0)
-cleared-else Phase.AskedChange w h k = and-true (eqb w 0)
-cleared-else (Phase.Loading kind session) w h k = absurd (miss (0 ∷ 1 ∷ 2 ∷ 3 ∷ []) 4 tt k)
-cleared-else (Phase.Stopped stop) w h k = absurd (miss (0 ∷ 1 ∷ 2 ∷ 3 ∷ []) 5 tt k)
+pub cleared-else : (p : Phase) (w h : ℕ) → ((kind : LoadKind) (session : ℕ) → p ≡ Phase.Loading kind session → ⊥) → ((stop : Stop) → p ≡ Phase.Stopped stop → ⊥) → ((is_loading p || eqb w 0) && (not (is_stopped p) || eqb h 0)) ≡ eqb w 0
+cleared-else Phase.Idle w h l k = and-true (eqb w 0)
+cleared-else Phase.MustReset w h l k = and-true (eqb w 0)
+cleared-else Phase.AskedFull w h l k = and-true (eqb w 0)
+cleared-else Phase.AskedChange w h l k = and-true (eqb w 0)
+cleared-else (Phase.Loading kind session) w h l k = absurd (l kind session refl)
+cleared-else (Phase.Stopped stop) w h l k = absurd (k stop refl)
 
 -- a stop has nothing held and an empty working room
 stopped-cleared : (p : Phase) (w h : ℕ) (stop : Stop) → p ≡ Phase.Stopped stop → ((is_loading p || eqb w 0) && (not (is_stopped p) || eqb h 0)) ≡ (eqb w 0 && eqb h 0)
@@ -83,8 +78,8 @@ full-either p r (inl e) = ap (λ (x : Phase). full_query (stage_of x) r) e
 full-either p r (inr e) = ap (λ (x : Phase). full_query (stage_of x) r) e
 
 -- a change ask in another phase than Idle
-pub change-else : (p : Phase) (r : Receiver) → OneOf (1 ∷ 2 ∷ 3 ∷ 4 ∷ 5 ∷ []) (tag p) → change_query (stage_of p) r ≡ Query.refused 20
-change-else Phase.Idle r h = absurd (miss (1 ∷ 2 ∷ 3 ∷ 4 ∷ 5 ∷ []) 0 tt h)
+pub change-else : (p : Phase) (r : Receiver) → (p ≡ Phase.Idle → ⊥) → change_query (stage_of p) r ≡ Query.refused 20
+change-else Phase.Idle r h = absurd (h refl)
 change-else Phase.MustReset r h = refl
 change-else Phase.AskedFull r h = refl
 change-else Phase.AskedChange r h = refl

@@ -2,8 +2,6 @@
 -- the laws of rooms say what a call makes of it. Assumes nothing.
 use Rattle.std.specs.Prelude.{Option, Some, ⊤, Result, Err}
 use Rattle.std.proofs.Common.{◌≡◌, ℕ, ◌*◌, Bool, true, cond, List, [], ◌∷◌, length, take, replicate, sym, refl, ap, ◌∙◌, ap₂, ⊎_elim, arith, eq-eqb, ne_eqb}
-use denote.Enum.Declared.{tag_of}
-use types.Run.{OneOf, miss}
 use Rattle.rtr_models.specs.Values.{seconds_or}
 use Rattle.rtr_models.specs.declared.RtrEndOfData.{RtrEndOfData}
 use Rattle.rtr_codec.specs.Read.{Verdict}
@@ -24,7 +22,6 @@ use Rattle.rtr_receiver.specs.declared.Table.{Table}
 use Rattle.rtr_receiver.specs.declared.Counts.{Counts}
 use Rattle.rtr_receiver.specs.declared.Session.{Session}
 use Rattle.rtr_receiver.specs.declared.Doing.{Doing}
-use Rattle.rtr_receiver.specs.contracts.Phase as phase-enum
 use Rattle.rtr_receiver.proofs.Memory.{room-stands, room-size, with-limit, with-records, left-alike}
 use Rattle.rtr_room.specs.declared.EnterError.{EnterError}
 use Rattle.rtr_room.specs.declared.LeaveError.{LeaveError}
@@ -64,44 +61,29 @@ kept-stands limit s live working b r k lc wc hc =
     let w = room-stands limit s.working.records working b.1 in
     rooms-stand limit r live working _ _ (k ∙ b.4) (ap (λ (n : Counts). n.records) lc ∙ sym l.1) (ap (λ (n : Counts). n.records) wc ∙ sym w.1) (hc ∙ b.2) l.0 w.0
 
--- ---- phases by their place in the enum
+-- ---- the phases that a `_` stands for
 
--- what comes of the phases of some places, where it is the same in each
-out-of-turn : {A : Type 0} (f : Stage → A) (x : A) (ks : List ℕ) → f idle ≡ x → f must_reset ≡ x → (OneOf ks 2 → f asked_full ≡ x) → (OneOf ks 3 → f asked_change ≡ x) → (OneOf ks 4 → (kind : LoadKind) (session : ℕ) → f (loading kind session) ≡ x) → ((n : ℕ) (v : List ℕ) → f (stopped n v) ≡ x) → (p : Phase) → OneOf ks (tag_of phase-enum.the_type p) → f (stage_of p) ≡ x
-out-of-turn f x ks i m a c l s Phase.Idle h = i
-out-of-turn f x ks i m a c l s Phase.MustReset h = m
-out-of-turn f x ks i m a c l s Phase.AskedFull h = a h
-out-of-turn f x ks i m a c l s Phase.AskedChange h = c h
-out-of-turn f x ks i m a c l s (Phase.Loading kind session) h = l h kind session
-out-of-turn f x ks i m a c l s (Phase.Stopped why) h = go (stop_said why)
+-- what comes of the phases, where it is the same in each that the phase may be
+out-of-turn : {A : Type 0} (f : Stage → A) (x : A) (p : Phase) → f idle ≡ x → f must_reset ≡ x → (p ≡ Phase.AskedFull → f asked_full ≡ x) → (p ≡ Phase.AskedChange → f asked_change ≡ x) → ((kind : LoadKind) (session : ℕ) → p ≡ Phase.Loading kind session → f (loading kind session) ≡ x) → ((n : ℕ) (v : List ℕ) → f (stopped n v) ≡ x) → f (stage_of p) ≡ x
+out-of-turn f x Phase.Idle i m a c l s = i
+out-of-turn f x Phase.MustReset i m a c l s = m
+out-of-turn f x Phase.AskedFull i m a c l s = a refl
+out-of-turn f x Phase.AskedChange i m a c l s = c refl
+out-of-turn f x (Phase.Loading kind session) i m a c l s = l kind session refl
+out-of-turn f x (Phase.Stopped why) i m a c l s = go (stop_said why)
   where
     go : (v : Verdict) → f (stopped_by v) ≡ x
     go (Verdict.accepted pdu n) = i
     go (Verdict.refused n v) = s n v
 
--- the places of every phase but a load, but a change asked for, and but those asked for
-abbrev not_loading : List ℕ
-not_loading = 0 ∷ 1 ∷ 2 ∷ 3 ∷ 5 ∷ []
+pub response-out : (id : ℕ) (r : Receiver) (p : Phase) → (p ≡ Phase.AskedFull → ⊥) → (p ≡ Phase.AskedChange → ⊥) → response_in (stage_of p) id r ≡ stop 13 [] r
+response-out id r p a c = out-of-turn (λ (x : Stage). response_in x id r) (stop 13 [] r) p refl refl (λ e. absurd (a e)) (λ e. absurd (c e)) (λ kind session e. refl) (λ n v. refl)
 
-abbrev not_change : List ℕ
-not_change = 0 ∷ 1 ∷ 2 ∷ 4 ∷ 5 ∷ []
+pub reset-out : (r : Receiver) (p : Phase) → (p ≡ Phase.AskedChange → ⊥) → reset_in (stage_of p) r ≡ stop 13 [] r
+reset-out r p c = out-of-turn (λ (x : Stage). reset_in x r) (stop 13 [] r) p refl refl (λ e. refl) (λ e. absurd (c e)) (λ kind session e. refl) (λ n v. refl)
 
-abbrev not_asked : List ℕ
-not_asked = 0 ∷ 1 ∷ 4 ∷ 5 ∷ []
-
-out-of-loading : {A : Type 0} (f : Stage → A) (x : A) → f idle ≡ x → f must_reset ≡ x → f asked_full ≡ x → f asked_change ≡ x → ((n : ℕ) (v : List ℕ) → f (stopped n v) ≡ x) → (p : Phase) → OneOf not_loading (tag_of phase-enum.the_type p) → f (stage_of p) ≡ x
-out-of-loading f x i m a c s p h = out-of-turn f x not_loading i m (λ k. a) (λ k. c) (λ k. absurd (miss not_loading 4 tt k)) s p h
-
-pub response-out : (id : ℕ) (r : Receiver) (p : Phase) → OneOf not_asked (tag_of phase-enum.the_type p) → response_in (stage_of p) id r ≡ stop 13 [] r
-response-out id r p h =
-    out-of-turn (λ (x : Stage). response_in x id r) (stop 13 [] r) not_asked refl refl (λ k. absurd (miss not_asked 2 tt k)) (λ k. absurd (miss not_asked 3 tt k)) (λ k kind session. refl) (λ n v. refl) p h
-
-pub reset-out : (r : Receiver) (p : Phase) → OneOf not_change (tag_of phase-enum.the_type p) → reset_in (stage_of p) r ≡ stop 13 [] r
-reset-out r p h =
-    out-of-turn (λ (x : Stage). reset_in x r) (stop 13 [] r) not_change refl refl (λ k. refl) (λ k. absurd (miss not_change 3 tt k)) (λ k kind session. refl) (λ n v. refl) p h
-
-pub end-out : (e : RtrEndOfData) (r : Receiver) (p : Phase) → OneOf not_loading (tag_of phase-enum.the_type p) → end_in (stage_of p) e r ≡ no_update (stop 13 [] r)
-end-out e r p h = out-of-loading (λ (x : Stage). end_in x e r) (no_update (stop 13 [] r)) refl refl refl refl (λ n v. refl) p h
+pub end-out : (e : RtrEndOfData) (r : Receiver) (p : Phase) → ((kind : LoadKind) (session : ℕ) → p ≡ Phase.Loading kind session → ⊥) → end_in (stage_of p) e r ≡ no_update (stop 13 [] r)
+end-out e r p l = out-of-turn (λ (x : Stage). end_in x e r) (no_update (stop 13 [] r)) p refl refl (λ k. refl) (λ k. refl) (λ kind session k. absurd (l kind session k)) (λ n v. refl)
 
 -- ---- a record enters or leaves
 

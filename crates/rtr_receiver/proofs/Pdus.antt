@@ -2,8 +2,6 @@
 use Rattle.std.specs.Prelude.{Option, ⊤, Some, None, Result}
 use Rattle.std.proofs.Common.{◌≡◌, ℕ, ◌+◌, Bool, true, false, cond, eqb, [], ◌∷◌, sym, refl, ap, ◌∙◌, ap₂}
 use mathlib.Core.Bool.{false≢true}
-use denote.Enum.Declared.{tag_of}
-use types.Run.{OneOf, miss}
 use Rattle.rtr_models.specs.Codes.{version_number, code_number}
 use Rattle.rtr_models.specs.Values.{announces, version_of}
 use Rattle.rtr_models.specs.declared.RtrPduType.{RtrPduType}
@@ -18,7 +16,6 @@ use Rattle.rtr_models.specs.declared.RtrCacheReset.{RtrCacheReset}
 use Rattle.rtr_models.specs.declared.RtrRouterKey.{RtrRouterKey}
 use Rattle.rtr_models.specs.declared.RtrErrorReport.{RtrErrorReport}
 use Rattle.rtr_models.specs.declared.RtrProtocolVersion.{RtrProtocolVersion}
-use Rattle.rtr_models.specs.contracts.RtrPdu as pdu-enum
 use Rattle.rtr_room.specs.declared.Record.{Record}
 use Rattle.rtr_room.specs.Table.{ipv4_record, ipv6_record}
 use Rattle.rtr_receiver.specs.Receiver.{Receiver, Deed, is_due, stop, on_serial_notify, on_record, no_update, deed_of, on_kind, of_version, on_pdu, listens}
@@ -28,8 +25,6 @@ use Rattle.rtr_receiver.specs.declared.Doing.{Doing}
 use Rattle.rtr_receiver.specs.declared.Stop.{Stop}
 use Rattle.rtr_receiver.specs.declared.Phase.{Phase}
 use Rattle.rtr_receiver.specs.declared.DeedDone.{DeedDone}
-use Rattle.rtr_receiver.specs.contracts.Phase as phase-enum
-use Rattle.rtr_receiver.specs.contracts.Doing as doing-enum
 use Rattle.rtr_receiver.proofs.Turns.{notify-due, never-due, prefixes-alike, load-turn}
 use Rattle.rtr_receiver.specs.declared.Table.{Table}
 use Rattle.rtr_receiver.specs.declared.FeedError.{FeedError}
@@ -79,18 +74,18 @@ module _ (pdu : RtrPdu) where
   unfolding carried_by
   carried-ipv6 p e announced f x g = ap₂ (λ (b : Bool) (y : Record). Some (b, y)) f g ∙ ap carried_by (sym e)
 
-pub carried_none : (pdu : RtrPdu) → OneOf (0 ∷ 1 ∷ 2 ∷ 3 ∷ 6 ∷ 7 ∷ 8 ∷ 9 ∷ []) (tag_of pdu-enum.the_type pdu) → None ≡ carried_by pdu
+pub carried_none : (pdu : RtrPdu) → ((p : RtrIPv4Prefix) → pdu ≡ IPv4Prefix p → ⊥) → ((p : RtrIPv6Prefix) → pdu ≡ IPv6Prefix p → ⊥) → None ≡ carried_by pdu
 unfolding carried_by
-carried_none (SerialNotify p) h = refl
-carried_none (SerialQuery p) h = refl
-carried_none (ResetQuery p) h = refl
-carried_none (CacheResponse p) h = refl
-carried_none (IPv4Prefix p) h = absurd (miss (0 ∷ 1 ∷ 2 ∷ 3 ∷ 6 ∷ 7 ∷ 8 ∷ 9 ∷ []) 4 tt h)
-carried_none (IPv6Prefix p) h = absurd (miss (0 ∷ 1 ∷ 2 ∷ 3 ∷ 6 ∷ 7 ∷ 8 ∷ 9 ∷ []) 5 tt h)
-carried_none (EndOfData p) h = refl
-carried_none (CacheReset p) h = refl
-carried_none (RouterKey p) h = refl
-carried_none (ErrorReport p) h = refl
+carried_none (SerialNotify p) a b = refl
+carried_none (SerialQuery p) a b = refl
+carried_none (ResetQuery p) a b = refl
+carried_none (CacheResponse p) a b = refl
+carried_none (IPv4Prefix p) a b = absurd (a p refl)
+carried_none (IPv6Prefix p) a b = absurd (b p refl)
+carried_none (EndOfData p) a b = refl
+carried_none (CacheReset p) a b = refl
+carried_none (RouterKey p) a b = refl
+carried_none (ErrorReport p) a b = refl
 
 -- what the definition makes of a PDU that carries a record
 deed-of : ℕ → Receiver → Deed → Option (Bool × Record) → Deed
@@ -127,22 +122,22 @@ carries-none : Option (Bool × Record) → Bool
 carries-none (Some (announced, x)) = false
 carries-none None = true
 
-pub kind-out : (limit : ℕ) (r : Receiver) (pdu : RtrPdu) → OneOf (1 ∷ 2 ∷ 4 ∷ 5 ∷ 9 ∷ []) (tag_of pdu-enum.the_type pdu) → carried_by pdu ≡ None →
+pub kind-out : (limit : ℕ) (r : Receiver) (pdu : RtrPdu) → ((p : RtrSerialNotify) → pdu ≡ SerialNotify p → ⊥) → ((p : RtrCacheResponse) → pdu ≡ CacheResponse p → ⊥) → ((p : RtrEndOfData) → pdu ≡ EndOfData p → ⊥) → ((p : RtrCacheReset) → pdu ≡ CacheReset p → ⊥) → ((p : RtrRouterKey) → pdu ≡ RouterKey p → ⊥) → carried_by pdu ≡ None →
     on_kind limit pdu r ≡ no_update (stop 13 [] r)
 unfolding on_kind deed_of carried_by carries-none
-kind-out limit r (SerialNotify p) h e = absurd (miss (1 ∷ 2 ∷ 4 ∷ 5 ∷ 9 ∷ []) 0 tt h)
-kind-out limit r (SerialQuery p) h e = ap (λ (b : Bool). cond b (no_update r) (no_update (stop 13 [] r))) (never-due r.stage).0
-kind-out limit r (ResetQuery p) h e = ap (λ (b : Bool). cond b (no_update r) (no_update (stop 13 [] r))) (never-due r.stage).1
-kind-out limit r (CacheResponse p) h e = absurd (miss (1 ∷ 2 ∷ 4 ∷ 5 ∷ 9 ∷ []) 3 tt h)
-kind-out limit r (IPv4Prefix p) h e = absurd (false≢true (ap carries-none e))
-kind-out limit r (IPv6Prefix p) h e = absurd (false≢true (ap carries-none e))
-kind-out limit r (EndOfData p) h e = absurd (miss (1 ∷ 2 ∷ 4 ∷ 5 ∷ 9 ∷ []) 6 tt h)
-kind-out limit r (CacheReset p) h e = absurd (miss (1 ∷ 2 ∷ 4 ∷ 5 ∷ 9 ∷ []) 7 tt h)
-kind-out limit r (RouterKey p) h e = absurd (miss (1 ∷ 2 ∷ 4 ∷ 5 ∷ 9 ∷ []) 8 tt h)
-kind-out limit r (ErrorReport p) h e = ap (λ (b : Bool). cond b (deed_of limit (ErrorReport p) r) (no_update (stop 13 [] r))) (never-due r.stage).2
+kind-out limit r (SerialNotify p) a b c d k e = absurd (a p refl)
+kind-out limit r (SerialQuery p) a b c d k e = ap (λ (b : Bool). cond b (no_update r) (no_update (stop 13 [] r))) (never-due r.stage).0
+kind-out limit r (ResetQuery p) a b c d k e = ap (λ (b : Bool). cond b (no_update r) (no_update (stop 13 [] r))) (never-due r.stage).1
+kind-out limit r (CacheResponse p) a b c d k e = absurd (b p refl)
+kind-out limit r (IPv4Prefix p) a b c d k e = absurd (false≢true (ap carries-none e))
+kind-out limit r (IPv6Prefix p) a b c d k e = absurd (false≢true (ap carries-none e))
+kind-out limit r (EndOfData p) a b c d k e = absurd (c p refl)
+kind-out limit r (CacheReset p) a b c d k e = absurd (d p refl)
+kind-out limit r (RouterKey p) a b c d k e = absurd (k p refl)
+kind-out limit r (ErrorReport p) a b c d k e = ap (λ (b : Bool). cond b (deed_of limit (ErrorReport p) r) (no_update (stop 13 [] r))) (never-due r.stage).2
 
 -- every PDU but an Error Report is judged by its version first
-by-version : (limit : ℕ) (r : Receiver) (pdu : RtrPdu) → OneOf (0 ∷ 1 ∷ 2 ∷ 3 ∷ 4 ∷ 5 ∷ 6 ∷ 7 ∷ 8 ∷ []) (tag_of pdu-enum.the_type pdu) → on_pdu limit pdu r ≡ of_version (version_of pdu) r (on_kind limit pdu r)
+by-version : (limit : ℕ) (r : Receiver) (pdu : RtrPdu) → ((p : RtrErrorReport) → pdu ≡ ErrorReport p → ⊥) → on_pdu limit pdu r ≡ of_version (version_of pdu) r (on_kind limit pdu r)
 unfolding on_pdu
 by-version limit r (SerialNotify p) h = refl
 by-version limit r (SerialQuery p) h = refl
@@ -153,9 +148,9 @@ by-version limit r (IPv6Prefix p) h = refl
 by-version limit r (EndOfData p) h = refl
 by-version limit r (CacheReset p) h = refl
 by-version limit r (RouterKey p) h = refl
-by-version limit r (ErrorReport p) h = absurd (miss (0 ∷ 1 ∷ 2 ∷ 3 ∷ 4 ∷ 5 ∷ 6 ∷ 7 ∷ 8 ∷ []) 9 tt h)
+by-version limit r (ErrorReport p) h = absurd (h p refl)
 
-pub of-version : (limit : ℕ) (r : Receiver) (pdu : RtrPdu) → OneOf (0 ∷ 1 ∷ 2 ∷ 3 ∷ 4 ∷ 5 ∷ 6 ∷ 7 ∷ 8 ∷ []) (tag_of pdu-enum.the_type pdu) →
+pub of-version : (limit : ℕ) (r : Receiver) (pdu : RtrPdu) → ((p : RtrErrorReport) → pdu ≡ ErrorReport p → ⊥) →
     (v : RtrProtocolVersion) → v ≡ version_of pdu → (same : Bool) → same ≡ eqb (version_number v) (version_number r.version) → (known : Bool) → same ≡ known →
     on_pdu limit pdu r ≡ cond known (on_kind limit pdu r) (no_update (stop 14 [] r))
 of-version limit r pdu h v e same f known k =
@@ -192,25 +187,25 @@ module _ (phase : Phase) (table : Option Table) (pdu : RtrPdu) (d : Doing) where
       ∙ sym (kind-key limit q pdu p e)
 
 -- what finishes no update
-pub none-finished : (d : Doing) → OneOf (0 ∷ 1 ∷ 2 ∷ 3 ∷ 4 ∷ 5 ∷ []) (tag_of doing-enum.the_type d) → Updates d 0
+pub none-finished : (d : Doing) → ((p : RtrEndOfData) → d ≡ Doing.Finishes p → ⊥) → Updates d 0
 none-finished Doing.Passes h limit r = refl
 none-finished (Doing.Notes id serial) h limit r = refl
 none-finished Doing.Resets h limit r = refl
 none-finished (Doing.Stops why) h limit r = refl
 none-finished (Doing.Begins kind id) h limit r = refl
 none-finished (Doing.Takes announced x) h limit r = refl
-none-finished (Doing.Finishes p) h limit r = absurd (miss (0 ∷ 1 ∷ 2 ∷ 3 ∷ 4 ∷ 5 ∷ []) 6 tt h)
+none-finished (Doing.Finishes p) h limit r = absurd (h p refl)
 
 -- ---- after a PDU
 
 -- every phase but Stopped goes on
-pub goes_on : (p : Phase) → OneOf (0 ∷ 1 ∷ 2 ∷ 3 ∷ 4 ∷ []) (tag_of phase-enum.the_type p) → goes_on_in p ≡ None
+pub goes_on : (p : Phase) → ((stop : Stop) → p ≡ Phase.Stopped stop → ⊥) → goes_on_in p ≡ None
 goes_on Phase.Idle h = refl
 goes_on Phase.MustReset h = refl
 goes_on Phase.AskedFull h = refl
 goes_on Phase.AskedChange h = refl
 goes_on (Phase.Loading kind session) h = refl
-goes_on (Phase.Stopped why) h = absurd (miss (0 ∷ 1 ∷ 2 ∷ 3 ∷ 4 ∷ []) 5 tt h)
+goes_on (Phase.Stopped why) h = absurd (h why refl)
 
 pub step_is : (d : DeedDone) (next updates : ℕ) (then : Option (Result ⊤ FeedError)) → then ≡ goes_on_in d.session.phase → record { session = d.session; next = next; updates = updates + d.updates; then = then } ≡ after_pdu d next updates
 step_is d next updates then e = ap (λ (x : Option (Result ⊤ FeedError)). record { session = d.session; next = next; updates = updates + d.updates; then = x }) e

@@ -1,8 +1,6 @@
 -- What a step of a feed comes to, by what the search found. Assumes nothing.
 use Rattle.std.specs.Prelude.{Ok, Err, ⊤, Result, Option, Some, None}
 use Rattle.std.proofs.Common.{◌≡◌, ℕ, ◌+◌, ◌-◌, ◌<◌, ◌≤◌, true, false, eqb, List, [], ◌∷◌, length, take, drop, replicate, sym, refl, ap, ◌∙◌, inr, arith, length-drop, drop-drop}
-use denote.Enum.Declared.{tag_of}
-use types.Run.{OneOf, miss}
 use lib.Seq.{take-nil}
 use Rattle.rtr_models.specs.declared.RtrPdu.{RtrPdu}
 use Rattle.rtr_codec.specs.Reading.{in_use}
@@ -25,7 +23,6 @@ use Rattle.rtr_receiver.specs.declared.Stop.{Stop}
 use Rattle.rtr_receiver.specs.declared.Phase.{Phase}
 use Rattle.rtr_receiver.specs.declared.Session.{Session}
 use Rattle.rtr_receiver.specs.declared.DeedDone.{DeedDone}
-use Rattle.rtr_receiver.specs.contracts.Phase as phase-enum
 use Rattle.rtr_receiver.proofs.Feeds.{from, stopped-takes-none, fed-more, fed-pdu, fed-stop}
 use Rattle.rtr_receiver.proofs.Good.{Good, pdu-good}
 use Rattle.rtr_room.proofs.Laws.Tests.{second-of}
@@ -271,10 +268,10 @@ module _ (limit : ℕ) (s : Session) (live working : Rooms) (hold piece : List �
       ∙ feed-taken shape
 
 -- any phase but Stopped
-pub other-listens : (p : Phase) → OneOf (0 ∷ 1 ∷ 2 ∷ 3 ∷ 4 ∷ []) (tag_of phase-enum.the_type p) → listens (stage_of p) ≡ true
+pub other-listens : (p : Phase) → ((stop : Stop) → p ≡ Phase.Stopped stop → ⊥) → listens (stage_of p) ≡ true
 other-listens Phase.Idle h = refl
 other-listens Phase.MustReset h = refl
 other-listens Phase.AskedFull h = refl
 other-listens Phase.AskedChange h = refl
 other-listens (Phase.Loading kind session) h = refl
-other-listens (Phase.Stopped why) h = absurd (miss (0 ∷ 1 ∷ 2 ∷ 3 ∷ 4 ∷ []) 5 tt h)
+other-listens (Phase.Stopped why) h = absurd (h why refl)

@@ -2,8 +2,6 @@
 -- Assumes nothing.
 use Rattle.std.proofs.Common.{◌≡◌, ℕ, Bool, true, false, cond, eqb, List, [], ◌∷◌, refl}
 use mathlib.Core.Bool.{false≢true}
-use denote.Enum.Declared.{tag_of}
-use types.Run.{OneOf, miss}
 use Rattle.rtr_models.specs.Codes.{version_number}
 use Rattle.rtr_models.specs.Values.{type_of, version_of}
 use Rattle.rtr_models.specs.declared.RtrPduType.{RtrPduType}
@@ -13,8 +11,8 @@ use Rattle.rtr_codec.specs.Read.{Verdict}
 use Rattle.rtr_receiver.specs.Receiver.{Stage, Receiver, Deed, is_due, stop, no_update, deed_of, on_kind, on_pdu, listens}
 use Rattle.rtr_receiver.specs.Receiver.Stage.{idle, must_reset, asked_full, asked_change, loading, stopped}
 use Rattle.rtr_receiver.specs.Promises.{is_loading, stop_said, stopped_by, stage_of}
+use Rattle.rtr_receiver.specs.declared.LoadKind.{LoadKind}
 use Rattle.rtr_receiver.specs.declared.Phase.{Phase}
-use Rattle.rtr_receiver.specs.contracts.Phase as phase-enum
 
 -- a Serial Notify is due in any phase but Stopped
 pub notify-due : (stage : Stage) → listens stage ≡ true → is_due RtrPduType.SerialNotify stage ≡ true
@@ -56,12 +54,12 @@ load-turn (Phase.Stopped why) = go (stop_said why)
     go (Verdict.accepted pdu n) = (refl, refl)
     go (Verdict.refused n v) = (refl, refl)
 
-pub not-loading : (p : Phase) → OneOf (0 ∷ 1 ∷ 2 ∷ 3 ∷ 5 ∷ []) (tag_of phase-enum.the_type p) → is_loading p ≡ false
+pub not-loading : (p : Phase) → ((kind : LoadKind) (session : ℕ) → p ≡ Phase.Loading kind session → ⊥) → is_loading p ≡ false
 not-loading Phase.Idle h = refl
 not-loading Phase.MustReset h = refl
 not-loading Phase.AskedFull h = refl
 not-loading Phase.AskedChange h = refl
-not-loading (Phase.Loading kind session) h = absurd (miss (0 ∷ 1 ∷ 2 ∷ 3 ∷ 5 ∷ []) 4 tt h)
+not-loading (Phase.Loading kind session) h = absurd (h kind session refl)
 not-loading (Phase.Stopped why) h = refl
 
 -- an Error Report first, then the version, then the turn, then the deed

@@ -2,7 +2,6 @@
 use Rattle.std.proofs.Common.{sym, ap}
 use Rattle.rtr_receiver.specs.Private.{goes_on_in}
 use Rattle.rtr_receiver.proofs.Pdus.{goes_on, step_is}
-use borrow.Enum.Refused.{opened}
 use Rattle.rtr_receiver.proofs.after_pdu.Goals as goal
 
 pub returns-in-Stopped : goal.returns-in-Stopped
@@ -13,4 +12,4 @@ returns-in-Stopped c =
 pub returns-in_default : goal.returns-in_default
 returns-in_default c =
     let a = c.args in
-    step_is a.d a.next a.updates _ (sym (goes_on a.d.session.phase (opened c.in_default.in_default-own.keys2)))
+    step_is a.d a.next a.updates _ (sym (goes_on a.d.session.phase c.in_default.not-Stopped))

@@ -6,7 +6,6 @@ use Rattle.rtr_receiver.specs.Receiver.{no_update, on_change_response}
 use Rattle.rtr_receiver.specs.Promises.{stage_of}
 use Rattle.rtr_receiver.specs.declared.Phase.{Phase}
 use Rattle.rtr_receiver.proofs.Deeds.{response-out, response-change, same-session, other-session}
-use borrow.Enum.Refused.{opened}
 use Rattle.rtr_receiver.proofs.at_response.Goals as goal
 use Rattle.rtr_receiver.specs.declared.Table.{Table}
 
@@ -33,4 +32,4 @@ returns-else-session_id-t c =
 pub returns-in_default : goal.returns-in_default
 returns-in_default c =
     let a = c.args in
-    λ limit r. ap no_update (sym (response-out a.session_id (placed a.phase a.table r) a.phase (opened c.in_default.in_default-own.keys3)))
+    λ limit r. ap no_update (sym (response-out a.session_id (placed a.phase a.table r) a.phase c.in_default.not-AskedFull c.in_default.not-AskedChange))

@@ -6,7 +6,6 @@ use Rattle.rtr_receiver.specs.Promises.{stage_of, receiver_of, change_ask_says}
 use Rattle.rtr_receiver.specs.declared.Phase.{Phase}
 use Rattle.rtr_receiver.proofs.Calls.{change-else, ask-shapeless, ask-in-wrong-phase, ask-without-table, ask-written}
 use Rattle.rtr_receiver.proofs.Memory.{fails, holds}
-use borrow.Enum.Refused.{opened}
 use Rattle.rtr_receiver.proofs.change_ask.Goals as goal
 use Rattle.rtr_receiver.specs.declared.Table.{Table}
 
@@ -36,4 +35,4 @@ unfolding change_ask_says
 returns-in_default c =
     let a = c.args in
     ask-in-wrong-phase a.s.life.limit a.s a.live.now a.working.now a.hold.now (λ (r : Receiver). change_query r.stage r) a.out.now c.ask_refused-in_default.result c.ask_refused-in_default.ensures (holds c.is_receiver.ensures c.if-not-is_receiver.false-raw)
-    (change-else a.s.phase (receiver_of a.s a.live.now a.working.now a.hold.now) (opened c.in_default.in_default-own.keys2))
+    (change-else a.s.phase (receiver_of a.s a.live.now a.working.now a.hold.now) c.in_default.not-Idle)

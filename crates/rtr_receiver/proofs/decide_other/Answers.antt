@@ -32,4 +32,4 @@ returns-in-RouterKey c =
 pub returns-in_default : goal.returns-in_default
 returns-in_default c =
     let a = c.args in
-    λ limit r. sym (kind-out limit (placed a.phase a.table r) a.pdu c.in_default.in_default-own.keys6 c.requires.1)
+    λ limit r. sym (kind-out limit (placed a.phase a.table r) a.pdu c.in_default.not-SerialNotify c.in_default.not-CacheResponse c.in_default.not-EndOfData c.in_default.not-CacheReset c.in_default.not-RouterKey c.requires.1)

@@ -4,7 +4,6 @@ use Rattle.rtr_receiver.specs.Promises.{is_receiver, fed_to}
 use Rattle.rtr_receiver.specs.Private.{feed_here, SteppedTo}
 use Rattle.rtr_receiver.proofs.Memory.{limit-of}
 use Rattle.rtr_receiver.proofs.Stepping.{feed-refused, feed-taken, feed-stopped, other-listens}
-use borrow.Enum.Refused.{opened}
 use Rattle.rtr_receiver.proofs.feed.Goals as goal
 
 pub returns-then-not-is_receiver : goal.returns-then-not-is_receiver
@@ -20,7 +19,7 @@ returns-in-Stopped c =
 pub loop-done-init : goal.loop-done-init
 loop-done-init c =
     let a = c.args in
-    (sym c.is_receiver.ensures ∙ not-false _ c.if-not-is_receiver.false-raw, other-listens a.s.phase (opened c.in_default.in_default-own.keys2), omega arith, omega arith, refl, refl, refl, refl, refl)
+    (sym c.is_receiver.ensures ∙ not-false _ c.if-not-is_receiver.false-raw, other-listens a.s.phase c.in_default.not-Stopped, omega arith, omega arith, refl, refl, refl, refl, refl)
 
 pub next_step-step-requires : goal.next_step-step-requires
 next_step-step-requires c =

@@ -3,11 +3,10 @@ use Rattle.std.proofs.Common.{sym, ap}
 use Rattle.rtr_receiver.specs.Private.{carried_out}
 use Rattle.rtr_receiver.specs.declared.Doing.{Doing}
 use Rattle.rtr_receiver.proofs.Pdus.{none-finished}
-use borrow.Enum.Refused.{opened}
 use Rattle.rtr_receiver.proofs.finished_by.Goals as goal
 
 pub returns-in-Finishes : goal.returns-in-Finishes
 returns-in-Finishes c = λ limit r. ap (λ (d : Doing). (carried_out limit d r).updates) (sym c.in-Finishes.is)
 
 pub returns-in_default : goal.returns-in_default
-returns-in_default c = none-finished c.args.doing (opened c.in_default.in_default-own.keys2)
+returns-in_default c = none-finished c.args.doing c.in_default.not-Finishes

@@ -1,5 +1,5 @@
 -- `gather_one`: an announcement that neither table has is one more in the tail; anything else is left alone. Assumes nothing.
-use Rattle.std.proofs.Common.{Result, Ok, Err, ◌≡◌, ℕ, List, sym, refl, ap, ◌∙◌, subst, inl, inr}
+use Rattle.std.proofs.Common.{Result, Err, ◌≡◌, ℕ, List, sym, refl, ap, ◌∙◌, subst, inl, inr}
 use Rattle.rtr_base.proofs.Told.{ok_told}
 use Rattle.rtr_room.specs.Room.{Said, Outcome, enter_said, found, limit_of}
 use Rattle.rtr_room.specs.Room.Said.{refused_by}

@@ -1,7 +1,6 @@
 -- `is_cleared` goes by the phase. Assumes nothing.
 use Rattle.std.proofs.Common.{sym}
 use Rattle.rtr_receiver.proofs.Calls.{cleared-else, stopped-empty, stopped-full}
-use borrow.Enum.Refused.{opened}
 use Rattle.rtr_receiver.proofs.is_cleared.Goals as goal
 
 pub returns-then-working-eq0 : goal.returns-then-working-eq0
@@ -17,4 +16,4 @@ returns-else-working-eq0 c =
 pub returns-in_default : goal.returns-in_default
 returns-in_default c =
     let s = c.args.s in
-    sym (cleared-else s.phase s.working.records s.held (opened c.in_default.in_default-own.keys3))
+    sym (cleared-else s.phase s.working.records s.held c.in_default.not-Loading c.in_default.not-Stopped)

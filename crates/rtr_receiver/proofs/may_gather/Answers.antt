@@ -3,7 +3,6 @@ use Rattle.std.proofs.Common.{ap, eq-eqb, ne_eqb, le-leb}
 use borrow.Author.Tests.{lt-leb}
 use Rattle.rtr_receiver.specs.Promises.{is_loading}
 use Rattle.rtr_receiver.proofs.Turns.{not-loading}
-use borrow.Enum.Refused.{opened}
 use Rattle.rtr_receiver.proofs.may_gather.Goals as goal
 
 pub returns-then-s-ne0 : goal.returns-then-s-ne0
@@ -20,4 +19,4 @@ returns-in-Loading c =
 pub returns-in_default : goal.returns-in_default
 returns-in_default c =
     let a = c.args in
-    simp (eq-eqb a.s.held 0 c.if-s-ne0.false, le-leb 32 a.hold_len c.if-hold_len-lt32.false, not-loading a.s.phase (opened c.in_default.in_default-own.keys2))
+    simp (eq-eqb a.s.held 0 c.if-s-ne0.false, le-leb 32 a.hold_len c.if-hold_len-lt32.false, not-loading a.s.phase c.in_default.not-Loading)
