@@ -35,10 +35,15 @@ impl RtrProtocolVersion {
             RtrProtocolVersion::V1 => 1,
         }
     }
+}
 
-    pub fn default() -> Self
-        ensures { result ≡ RtrProtocolVersion.V1 }
-    {
+// By hand, so that the promise stands here: a derived one would promise whatever variant is marked.
+impl Default for RtrProtocolVersion {
+    ghost use Rattle.rtr_models.specs.declared.RtrProtocolVersion.{RtrProtocolVersion};
+
+    ghost is_default = { λ version. version ≡ RtrProtocolVersion.V1 };
+
+    fn default() -> Self {
         RtrProtocolVersion::V1
     }
 }
@@ -276,10 +281,14 @@ impl RtrResetQuery {
     {
         Self::new(RtrProtocolVersion::V0)
     }
+}
 
-    pub fn default() -> Self
-        ensures { result ≡ record { version = RtrProtocolVersion.V1 } }
-    {
+impl Default for RtrResetQuery {
+    ghost use Rattle.rtr_models.specs.declared.RtrProtocolVersion.{RtrProtocolVersion};
+
+    ghost is_default = { λ query. query ≡ record { version = RtrProtocolVersion.V1 } };
+
+    fn default() -> Self {
         Self::new_v1()
     }
 }
