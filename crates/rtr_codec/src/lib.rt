@@ -17,7 +17,7 @@ use rtr_models::*;
 // ---- Answers
 
 // Why a PDU is not read; `number` gives document 01's number of it.
-#[derive(Clone, Copy)]
+#[derive(Clone, Copy, PartialEq, Eq)]
 pub enum RtrError {
     IncompletePdu {
         available: usize,
