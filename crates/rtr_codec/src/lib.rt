@@ -17,7 +17,7 @@ use rtr_models::*;
 // ---- Answers
 
 // Why a PDU is not read; `number` gives document 01's number of it.
-#[derive(Clone, Copy)]
+#[derive(Clone, Copy, PartialEq, Eq)]
 pub enum RtrError {
     IncompletePdu {
         available: usize,
@@ -97,12 +97,6 @@ pub const RTR_ERROR_REPORT_MIN_LEN: u32 = 16;
 
 // ---- Numbers on the wire
 
-fn wide(b: u8) -> u32
-    ensures { (result ≡ b) × (result < 256) }
-{
-    b as u32
-}
-
 fn be8(input: &[u8], at: usize) -> u8
     requires { at < length input.now }
     ensures { result ≡ number input.now at 1 }
@@ -114,18 +108,14 @@ fn be16(input: &[u8], at: usize) -> u16
     requires { at + 2 ≤ length input.now }
     ensures { result ≡ number input.now at 2 }
 {
-    let n = wide(input[at]) * 256 + wide(input[at + 1]);
-    n as u16
+    u16::from_be_bytes([input[at], input[at + 1]])
 }
 
 fn be32(input: &[u8], at: usize) -> u32
     requires { at + 4 ≤ length input.now }
     ensures { result ≡ number input.now at 4 }
 {
-    wide(input[at]) * 16777216
-        + wide(input[at + 1]) * 65536
-        + wide(input[at + 2]) * 256
-        + wide(input[at + 3])
+    u32::from_be_bytes([input[at], input[at + 1], input[at + 2], input[at + 3]])
 }
 
 // ---- Reading, one function for each kind: `actual` is the header's length, and so many bytes are there

@@ -9,7 +9,7 @@ use Rattle.rtr_base.proofs.Unique.{only_one, only-this}
 use Rattle.rtr_models.specs.Parts.{part_number}
 use Rattle.rtr_models.proofs.RtrProtocolVersion.from_u8.Reads as rtr-protocol-version-from-u8
 use Rattle.rtr_models.proofs.RtrProtocolVersion.to_u8.Reads as rtr-protocol-version-to-u8
-use Rattle.rtr_models.proofs.RtrProtocolVersion.default.Reads as rtr-protocol-version-default
+use Rattle.rtr_models.proofs.RtrProtocolVersionDefault.default.Reads as rtr-protocol-version-default
 use Rattle.rtr_models.proofs.RtrPduType.from_u8.Reads as rtr-pdu-type-from-u8
 use Rattle.rtr_models.proofs.RtrPduType.to_u8.Reads as rtr-pdu-type-to-u8
 use Rattle.rtr_models.proofs.RtrErrorCode.from_u16.Reads as rtr-error-code-from-u16
@@ -22,7 +22,7 @@ use Rattle.rtr_models.proofs.RtrSerialQuery.new.Reads as rtr-serial-query-new
 use Rattle.rtr_models.proofs.RtrResetQuery.new.Reads as rtr-reset-query-new
 use Rattle.rtr_models.proofs.RtrResetQuery.new_v1.Reads as rtr-reset-query-new-v1
 use Rattle.rtr_models.proofs.RtrResetQuery.new_v0.Reads as rtr-reset-query-new-v0
-use Rattle.rtr_models.proofs.RtrResetQuery.default.Reads as rtr-reset-query-default
+use Rattle.rtr_models.proofs.RtrResetQueryDefault.default.Reads as rtr-reset-query-default
 use Rattle.rtr_models.proofs.RtrIPv4Prefix.is_announcement.Reads as rtr-ipv4-prefix-is-announcement
 use Rattle.rtr_models.proofs.RtrIPv4Prefix.is_withdrawal.Reads as rtr-ipv4-prefix-is-withdrawal
 use Rattle.rtr_models.proofs.RtrIPv6Prefix.is_announcement.Reads as rtr-ipv6-prefix-is-announcement

@@ -10,7 +10,7 @@ ghost use Rattle.rtr_models.specs.Values.{announces, withdraws, seconds_or, type
 // ---- Codes
 
 // Version 0 is RFC 6810, version 1 is RFC 8210.
-#[derive(Clone, Copy)]
+#[derive(Clone, Copy, PartialEq, Eq)]
 pub enum RtrProtocolVersion {
     V0,
     V1,
@@ -35,16 +35,21 @@ impl RtrProtocolVersion {
             RtrProtocolVersion::V1 => 1,
         }
     }
+}
 
-    pub fn default() -> Self
-        ensures { result ≡ RtrProtocolVersion.V1 }
-    {
+// By hand, so that the promise stands here: a derived one would promise whatever variant is marked.
+impl Default for RtrProtocolVersion {
+    ghost use Rattle.rtr_models.specs.declared.RtrProtocolVersion.{RtrProtocolVersion};
+
+    ghost is_default = { λ version. version ≡ RtrProtocolVersion.V1 };
+
+    fn default() -> Self {
         RtrProtocolVersion::V1
     }
 }
 
 // What kind of PDU it is; there is no type 5.
-#[derive(Clone, Copy)]
+#[derive(Clone, Copy, PartialEq, Eq)]
 pub enum RtrPduType {
     SerialNotify,
     SerialQuery,
@@ -96,7 +101,7 @@ impl RtrPduType {
 }
 
 // Why an Error Report was sent.
-#[derive(Clone, Copy)]
+#[derive(Clone, Copy, PartialEq, Eq)]
 pub enum RtrErrorCode {
     CorruptData,
     InternalError,
@@ -147,14 +152,14 @@ impl RtrErrorCode {
 // ---- What a PDU's fields are made of
 
 // A payload by place: len bytes from start, counted from the first byte of the PDU that was read.
-#[derive(Clone, Copy)]
+#[derive(Clone, Copy, PartialEq, Eq)]
 pub struct Place {
     pub start: usize,
     pub len: usize,
 }
 
 // Refusal 11: a payload does not lie in the slice that it is asked of.
-#[derive(Clone, Copy)]
+#[derive(Clone, Copy, PartialEq, Eq)]
 pub struct PlaceOutside;
 
 impl Place {
@@ -214,7 +219,7 @@ impl Place {
 }
 
 // An IPv6 address as four numbers, the leading 32 bits first.
-#[derive(Clone, Copy)]
+#[derive(Clone, Copy, PartialEq, Eq)]
 pub struct Ipv6Addr {
     pub w0: u32,
     pub w1: u32,
@@ -276,10 +281,14 @@ impl RtrResetQuery {
     {
         Self::new(RtrProtocolVersion::V0)
     }
+}
 
-    pub fn default() -> Self
-        ensures { result ≡ record { version = RtrProtocolVersion.V1 } }
-    {
+impl Default for RtrResetQuery {
+    ghost use Rattle.rtr_models.specs.declared.RtrProtocolVersion.{RtrProtocolVersion};
+
+    ghost is_default = { λ query. query ≡ record { version = RtrProtocolVersion.V1 } };
+
+    fn default() -> Self {
         Self::new_v1()
     }
 }
