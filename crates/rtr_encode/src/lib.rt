@@ -11,6 +11,7 @@ ghost use Rattle.rtr_encode.specs.Answers.{leaves, encode_refusal, number_of};
 ghost use Rattle.rtr_base.specs.Over.{over};
 
 use rtr_models::*;
+use std::simd::Simd;
 
 // Why nothing is written.
 #[derive(Clone, Copy)]
@@ -246,87 +247,24 @@ pub fn encode_cache_reset(pdu: RtrCacheReset, out: &mut [u8]) -> Result<usize, E
 
 // ---- Payloads
 
-// Four bytes of a slice, loaded and not yet stored.
-#[derive(Clone, Copy)]
-struct Four {
-    b0: u8,
-    b1: u8,
-    b2: u8,
-    b3: u8,
-}
-
-fn read_four(part: &[u8], i: usize) -> Four
-    requires { i + 4 ≤ length part.now }
-    ensures { result.b0 ∷ result.b1 ∷ result.b2 ∷ result.b3 ∷ [] ≡ take 4 (drop i part.now) }
+// The first N bytes of a part, all loaded before any is stored.
+fn put_block<const N: usize>(out: &mut [u8], at: usize, part: &[u8])
+    requires { (N ≤ length part.now) × (at + N ≤ length out.old) }
+    ensures { out.new ≡ over out.old at (take N part.now) }
 {
-    Four {
-        b0: part[i],
-        b1: part[i + 1],
-        b2: part[i + 2],
-        b3: part[i + 3],
-    }
-}
-
-fn put_four(out: &mut [u8], at: usize, b: Four)
-    requires { at + 4 ≤ length out.old }
-    ensures { out.new ≡ over out.old at (b.b0 ∷ b.b1 ∷ b.b2 ∷ b.b3 ∷ []) }
-{
-    out[at] = b.b0;
-    out[at + 1] = b.b1;
-    out[at + 2] = b.b2;
-    out[at + 3] = b.b3;
-}
-
-// Blocks of a part, from i on: all of up to 16 bytes are loaded before any is stored, of which the compiler makes one load and one store.
-fn put_4(out: &mut [u8], at: usize, part: &[u8], i: usize)
-    requires { (i + 4 ≤ length part.now) × (at + 4 ≤ length out.old) }
-    ensures { out.new ≡ over out.old at (take 4 (drop i part.now)) }
-{
-    put_four(out, at, read_four(part, i));
-}
-
-fn put_8(out: &mut [u8], at: usize, part: &[u8], i: usize)
-    requires { (i + 8 ≤ length part.now) × (at + 8 ≤ length out.old) }
-    ensures { out.new ≡ over out.old at (take 8 (drop i part.now)) }
-{
-    let a = read_four(part, i);
-    let b = read_four(part, i + 4);
-    put_four(out, at, a);
-    put_four(out, at + 4, b);
-}
-
-fn put_16(out: &mut [u8], at: usize, part: &[u8], i: usize)
-    requires { (i + 16 ≤ length part.now) × (at + 16 ≤ length out.old) }
-    ensures { out.new ≡ over out.old at (take 16 (drop i part.now)) }
-{
-    let a = read_four(part, i);
-    let b = read_four(part, i + 4);
-    let c = read_four(part, i + 8);
-    let d = read_four(part, i + 12);
-    put_four(out, at, a);
-    put_four(out, at + 4, b);
-    put_four(out, at + 8, c);
-    put_four(out, at + 12, d);
-}
-
-fn put_32(out: &mut [u8], at: usize, part: &[u8], i: usize)
-    requires { (i + 32 ≤ length part.now) × (at + 32 ≤ length out.old) }
-    ensures { out.new ≡ over out.old at (take 32 (drop i part.now)) }
-{
-    put_16(out, at, part, i);
-    put_16(out, at + 16, part, i + 16);
+    Simd::<u8, N>::from_slice(part).copy_to_slice(&mut out[at..]);
 }
 
 // Block by block; the last one ends with the part, and may lie over the one before.
 fn put_long(out: &mut [u8], at: usize, part: &[u8])
-    requires { (32 ≤ length part.now) × (at + length part.now ≤ length out.old) }
+    requires { (64 ≤ length part.now) × (at + length part.now ≤ length out.old) }
     ensures { out.new ≡ over out.old at part.now }
 {
-    let last = part.len() - 32;
+    let last = part.len() - 64;
     for i in (0..last).step_by(32) {
-        put_32(out, at + i, part, i);
+        put_block::<32>(out, at + i, &part[i..]);
     }
-    put_32(out, at + last, part, last);
+    put_block::<64>(out, at + last, &part[last..]);
 }
 
 // One by one. Not by `copy_from_slice`: it calls C's memmove, and the library for hosts is to need memset alone.
@@ -339,7 +277,18 @@ fn put_few(out: &mut [u8], at: usize, part: &[u8])
     }
 }
 
-// Copies a part of a slice behind what is written: 4 to 64 bytes as a first block and a last one, which may lie over each other.
+// A part of N to 2N bytes, as a first block and a last one, which may lie over each other.
+fn put_ends<const N: usize>(out: &mut [u8], at: usize, part: &[u8])
+    requires { (N ≤ length part.now) × (length part.now ≤ N + N) × (at + length part.now ≤ length out.old) }
+    ensures { out.new ≡ over out.old at part.now }
+{
+    let last = part.len() - N;
+    put_block::<N>(out, at, part);
+    put_block::<N>(out, at + last, &part[last..]);
+}
+
+// Copies a part of a slice behind what is written. Not in line: where it is, its callers keep more in memory, 3 % of a prefix's encoding.
+#[inline(never)]
 fn put_part(out: &mut [u8], at: usize, part: &[u8])
     requires { at + length part.now ≤ length out.old }
     ensures { out.new ≡ over out.old at part.now }
@@ -347,29 +296,17 @@ fn put_part(out: &mut [u8], at: usize, part: &[u8])
     let n = part.len();
     if n > 64 {
         put_long(out, at, part);
-        return;
+    } else if n > 32 {
+        put_ends::<32>(out, at, part);
+    } else if n >= 16 {
+        put_ends::<16>(out, at, part);
+    } else if n >= 8 {
+        put_ends::<8>(out, at, part);
+    } else if n >= 4 {
+        put_ends::<4>(out, at, part);
+    } else {
+        put_few(out, at, part);
     }
-    if n > 32 {
-        put_32(out, at, part, 0);
-        put_32(out, at + (n - 32), part, n - 32);
-        return;
-    }
-    if n >= 16 {
-        put_16(out, at, part, 0);
-        put_16(out, at + (n - 16), part, n - 16);
-        return;
-    }
-    if n >= 8 {
-        put_8(out, at, part, 0);
-        put_8(out, at + (n - 8), part, n - 8);
-        return;
-    }
-    if n >= 4 {
-        put_4(out, at, part, 0);
-        put_4(out, at + (n - 4), part, n - 4);
-        return;
-    }
-    put_few(out, at, part);
 }
 
 // Bytes 8 and 9 of a key.
@@ -396,8 +333,8 @@ fn put_router_key(
 {
     put_header(out, version, 9, 0, whole);
     put_flags(out, flags);
-    put_16(out, 10, identifier, 0);
-    put_4(out, 26, identifier, 16);
+    put_block::<16>(out, 10, identifier);
+    put_block::<4>(out, 26, &identifier[16..]);
     put32(out, 30, asn);
     put_part(out, 34, info);
 }
