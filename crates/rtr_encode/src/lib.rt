@@ -3,10 +3,9 @@
 #![tactic(auto)]
 
 ghost use Rattle.std.specs.Prelude.{◌≡◌, [], ◌∷◌, ◌++◌, ◌+◌, ◌≤◌, ◌<◌, length, take, drop};
-ghost use Rattle.rtr_models.specs.Codes.{version_number};
 ghost use Rattle.rtr_codec.specs.Reading.{in_use};
 ghost use Rattle.rtr_encode.specs.Encode.{bytes_of, encode};
-ghost use Rattle.rtr_encode.specs.Private.{with_version, end_of_data, key_bytes, report_bytes, last_checks};
+ghost use Rattle.rtr_encode.specs.Private.{end_of_data, header_bytes, key_bytes, report_bytes, last_checks};
 ghost use Rattle.rtr_encode.specs.Answers.{leaves, encode_refusal, number_of};
 ghost use Rattle.rtr_base.specs.Over.{over};
 
@@ -80,7 +79,7 @@ fn put32(out: &mut [u8], at: usize, n: u32)
 // The first eight bytes: what stands in bytes 2 and 3 is the session, the error code, or zero.
 fn put_header(out: &mut [u8], version: RtrProtocolVersion, pdu_type: u8, session: u16, whole: u32)
     requires { 8 ≤ length out.old }
-    ensures { out.new ≡ over out.old 0 (version_number version ∷ pdu_type ∷ (bytes_of 2 session ++ bytes_of 4 whole)) }
+    ensures { out.new ≡ over out.old 0 (header_bytes version pdu_type session whole) }
 {
     put8(out, 0, version.to_u8());
     put8(out, 1, pdu_type);
@@ -97,46 +96,62 @@ fn short(needed: usize) -> Result<usize, EncodeError>
     Err(EncodeError::OutputShort { needed })
 }
 
-pub fn encode_serial_notify(pdu: RtrSerialNotify, out: &mut [u8]) -> Result<usize, EncodeError>
-    ensures { leaves result out.new ≡ encode in_use (RtrPdu.SerialNotify pdu) [] out.old }
+// A PDU that is its header alone.
+fn encode_bare(
+    version: RtrProtocolVersion,
+    pdu_type: u8,
+    session: u16,
+    out: &mut [u8],
+) -> Result<usize, EncodeError>
+    ensures { leaves result out.new ≡ last_checks 8 (header_bytes version pdu_type session 8) out.old }
+{
+    if out.len() < 8 {
+        return short(8);
+    }
+    put_header(out, version, pdu_type, session, 8);
+    Ok(8)
+}
+
+// A header and a serial number.
+fn encode_serial(
+    version: RtrProtocolVersion,
+    pdu_type: u8,
+    session: u16,
+    serial_number: u32,
+    out: &mut [u8],
+) -> Result<usize, EncodeError>
+    ensures { leaves result out.new ≡ last_checks 12 (header_bytes version pdu_type session 12 ++ bytes_of 4 serial_number) out.old }
 {
     if out.len() < 12 {
         return short(12);
     }
-    put_header(out, pdu.version, 0, pdu.session_id, 12);
-    put32(out, 8, pdu.serial_number);
+    put_header(out, version, pdu_type, session, 12);
+    put32(out, 8, serial_number);
     Ok(12)
+}
+
+pub fn encode_serial_notify(pdu: RtrSerialNotify, out: &mut [u8]) -> Result<usize, EncodeError>
+    ensures { leaves result out.new ≡ encode in_use (RtrPdu.SerialNotify pdu) [] out.old }
+{
+    encode_serial(pdu.version, 0, pdu.session_id, pdu.serial_number, out)
 }
 
 pub fn encode_serial_query(pdu: RtrSerialQuery, out: &mut [u8]) -> Result<usize, EncodeError>
     ensures { leaves result out.new ≡ encode in_use (RtrPdu.SerialQuery pdu) [] out.old }
 {
-    if out.len() < 12 {
-        return short(12);
-    }
-    put_header(out, pdu.version, 1, pdu.session_id, 12);
-    put32(out, 8, pdu.serial_number);
-    Ok(12)
+    encode_serial(pdu.version, 1, pdu.session_id, pdu.serial_number, out)
 }
 
 pub fn encode_reset_query(pdu: RtrResetQuery, out: &mut [u8]) -> Result<usize, EncodeError>
     ensures { leaves result out.new ≡ encode in_use (RtrPdu.ResetQuery pdu) [] out.old }
 {
-    if out.len() < 8 {
-        return short(8);
-    }
-    put_header(out, pdu.version, 2, 0, 8);
-    Ok(8)
+    encode_bare(pdu.version, 2, 0, out)
 }
 
 pub fn encode_cache_response(pdu: RtrCacheResponse, out: &mut [u8]) -> Result<usize, EncodeError>
     ensures { leaves result out.new ≡ encode in_use (RtrPdu.CacheResponse pdu) [] out.old }
 {
-    if out.len() < 8 {
-        return short(8);
-    }
-    put_header(out, pdu.version, 3, pdu.session_id, 8);
-    Ok(8)
+    encode_bare(pdu.version, 3, pdu.session_id, out)
 }
 
 // Bytes 8 to 11 of a prefix: prefix lengths are not tested, as in the Rust.
@@ -180,18 +195,6 @@ pub fn encode_ipv6_prefix(pdu: RtrIPv6Prefix, out: &mut [u8]) -> Result<usize, E
     Ok(32)
 }
 
-// Version 0 drops the intervals.
-fn encode_end_of_data_v0(pdu: RtrEndOfData, out: &mut [u8]) -> Result<usize, EncodeError>
-    ensures { leaves result out.new ≡ encode in_use (RtrPdu.EndOfData (with_version RtrProtocolVersion.V0 pdu)) [] out.old }
-{
-    if out.len() < 12 {
-        return short(12);
-    }
-    put_header(out, RtrProtocolVersion::V0, 7, pdu.session_id, 12);
-    put32(out, 8, pdu.serial_number);
-    Ok(12)
-}
-
 fn encode_end_of_data_v1(
     session_id: u16,
     serial_number: u32,
@@ -213,12 +216,20 @@ fn encode_end_of_data_v1(
     Ok(24)
 }
 
-// In version 1 an absent interval is written as its default.
+// Version 0 drops the intervals; in version 1 an absent one is written as its default.
 pub fn encode_end_of_data(pdu: RtrEndOfData, out: &mut [u8]) -> Result<usize, EncodeError>
     ensures { leaves result out.new ≡ encode in_use (RtrPdu.EndOfData pdu) [] out.old }
 {
     match pdu.version {
-        RtrProtocolVersion::V0 => encode_end_of_data_v0(pdu, out),
+        RtrProtocolVersion::V0 => {
+            encode_serial(
+                RtrProtocolVersion::V0,
+                7,
+                pdu.session_id,
+                pdu.serial_number,
+                out,
+            )
+        }
         RtrProtocolVersion::V1 => {
             let refresh = pdu.refresh_interval_or_default();
             let retry = pdu.retry_interval_or_default();
@@ -238,11 +249,7 @@ pub fn encode_end_of_data(pdu: RtrEndOfData, out: &mut [u8]) -> Result<usize, En
 pub fn encode_cache_reset(pdu: RtrCacheReset, out: &mut [u8]) -> Result<usize, EncodeError>
     ensures { leaves result out.new ≡ encode in_use (RtrPdu.CacheReset pdu) [] out.old }
 {
-    if out.len() < 8 {
-        return short(8);
-    }
-    put_header(out, pdu.version, 8, 0, 8);
-    Ok(8)
+    encode_bare(pdu.version, 8, 0, out)
 }
 
 // ---- Payloads
