@@ -39,6 +39,12 @@ module _ (n : ℕ) (bytes out : List ℕ) where
       let e : exit ≡ bytes ++ drop n out = q ∙ over-front out bytes ∙ ap (λ (k : ℕ). bytes ++ drop k out) l in
       simp (le-leb n 4294967295 f, le-leb n (length out) h, e)
 
+-- a PDU with no payload comes to those checks at once
+pub plain-encodes : (R : Reading) (pdu : RtrPdu) (s out : List ℕ) (n : ℕ) (bytes : List ℕ) → places_inside pdu s ≡ true → text_in pdu s ≡ true
+    → encoded_length R pdu ≡ n → encoding R pdu s ≡ bytes → last_checks n bytes out ≡ encode R pdu s out
+unfolding encode encode_says
+plain-encodes R pdu s out n bytes p t e b = simp (p, t, e, b)
+
 pub key-length : (v : RtrProtocolVersion) (flags asn whole : ℕ) (identifier info : List ℕ) → length identifier ≡ 20 → length (key_bytes v flags identifier asn info whole) ≡ 34 + length info
 key-length v flags asn whole identifier info h = simp (length-append, length-bytes) (omega arith)
 

@@ -7,7 +7,7 @@ use Rattle.rtr_models.specs.declared.RtrEndOfData.{RtrEndOfData}
 use Rattle.rtr_encode.specs.Encode.{Writing, bytes_of, unless, out_after, Encoded}
 use Rattle.rtr_encode.specs.Encode.Writing.{written}
 
--- an End of Data with this version: the two functions of the code take one each
+-- an End of Data with this version
 abbrev pub with_version : RtrProtocolVersion → RtrEndOfData → RtrEndOfData
 with_version v p =
     record {
@@ -31,15 +31,19 @@ end_of_data session serial refresh retry expire =
       expire_interval = Some expire;
     }
 
+-- a header's bytes
+abbrev pub header_bytes : RtrProtocolVersion → ℕ → ℕ → ℕ → List ℕ
+header_bytes v type session whole = version_number v ∷ type ∷ (bytes_of 2 session ++ bytes_of 4 whole)
+
 -- a Router Key's bytes in the crate's arrangement, with its payloads at hand
 abbrev pub key_bytes : RtrProtocolVersion → ℕ → List ℕ → ℕ → List ℕ → ℕ → List ℕ
 key_bytes v flags identifier asn info whole =
-    version_number v ∷ 9 ∷ (bytes_of 2 0 ++ bytes_of 4 whole) ++ (bytes_of 1 flags ++ (0 ∷ [])) ++ identifier ++ bytes_of 4 asn ++ info
+    header_bytes v 9 0 whole ++ (bytes_of 1 flags ++ (0 ∷ [])) ++ identifier ++ bytes_of 4 asn ++ info
 
 -- an Error Report's bytes, with its payloads at hand
 abbrev pub report_bytes : RtrProtocolVersion → ℕ → List ℕ → List ℕ → ℕ → List ℕ
 report_bytes v code copy text whole =
-    version_number v ∷ 10 ∷ (bytes_of 2 code ++ bytes_of 4 whole) ++ bytes_of 4 (length copy) ++ copy ++ bytes_of 4 (length text) ++ text
+    header_bytes v 10 code whole ++ bytes_of 4 (length copy) ++ copy ++ bytes_of 4 (length text) ++ text
 
 -- the checks that are left once the payloads are in rule: 10, then 9
 abbrev pub last_says : ℕ → ℕ → Writing

@@ -3,14 +3,14 @@
 #![tactic(auto)]
 
 ghost use Rattle.std.specs.Prelude.{◌≡◌, [], ◌∷◌, ◌++◌, ◌+◌, ◌≤◌, ◌<◌, length, take, drop};
-ghost use Rattle.rtr_models.specs.Codes.{version_number};
 ghost use Rattle.rtr_codec.specs.Reading.{in_use};
 ghost use Rattle.rtr_encode.specs.Encode.{bytes_of, encode};
-ghost use Rattle.rtr_encode.specs.Private.{with_version, end_of_data, key_bytes, report_bytes, last_checks};
+ghost use Rattle.rtr_encode.specs.Private.{end_of_data, header_bytes, key_bytes, report_bytes, last_checks};
 ghost use Rattle.rtr_encode.specs.Answers.{leaves, encode_refusal, number_of};
 ghost use Rattle.rtr_base.specs.Over.{over};
 
 use rtr_models::*;
+use std::simd::Simd;
 
 // Why nothing is written.
 #[derive(Clone, Copy)]
@@ -79,7 +79,7 @@ fn put32(out: &mut [u8], at: usize, n: u32)
 // The first eight bytes: what stands in bytes 2 and 3 is the session, the error code, or zero.
 fn put_header(out: &mut [u8], version: RtrProtocolVersion, pdu_type: u8, session: u16, whole: u32)
     requires { 8 ≤ length out.old }
-    ensures { out.new ≡ over out.old 0 (version_number version ∷ pdu_type ∷ (bytes_of 2 session ++ bytes_of 4 whole)) }
+    ensures { out.new ≡ over out.old 0 (header_bytes version pdu_type session whole) }
 {
     put8(out, 0, version.to_u8());
     put8(out, 1, pdu_type);
@@ -96,46 +96,62 @@ fn short(needed: usize) -> Result<usize, EncodeError>
     Err(EncodeError::OutputShort { needed })
 }
 
-pub fn encode_serial_notify(pdu: RtrSerialNotify, out: &mut [u8]) -> Result<usize, EncodeError>
-    ensures { leaves result out.new ≡ encode in_use (RtrPdu.SerialNotify pdu) [] out.old }
+// A PDU that is its header alone.
+fn encode_bare(
+    version: RtrProtocolVersion,
+    pdu_type: u8,
+    session: u16,
+    out: &mut [u8],
+) -> Result<usize, EncodeError>
+    ensures { leaves result out.new ≡ last_checks 8 (header_bytes version pdu_type session 8) out.old }
+{
+    if out.len() < 8 {
+        return short(8);
+    }
+    put_header(out, version, pdu_type, session, 8);
+    Ok(8)
+}
+
+// A header and a serial number.
+fn encode_serial(
+    version: RtrProtocolVersion,
+    pdu_type: u8,
+    session: u16,
+    serial_number: u32,
+    out: &mut [u8],
+) -> Result<usize, EncodeError>
+    ensures { leaves result out.new ≡ last_checks 12 (header_bytes version pdu_type session 12 ++ bytes_of 4 serial_number) out.old }
 {
     if out.len() < 12 {
         return short(12);
     }
-    put_header(out, pdu.version, 0, pdu.session_id, 12);
-    put32(out, 8, pdu.serial_number);
+    put_header(out, version, pdu_type, session, 12);
+    put32(out, 8, serial_number);
     Ok(12)
+}
+
+pub fn encode_serial_notify(pdu: RtrSerialNotify, out: &mut [u8]) -> Result<usize, EncodeError>
+    ensures { leaves result out.new ≡ encode in_use (RtrPdu.SerialNotify pdu) [] out.old }
+{
+    encode_serial(pdu.version, 0, pdu.session_id, pdu.serial_number, out)
 }
 
 pub fn encode_serial_query(pdu: RtrSerialQuery, out: &mut [u8]) -> Result<usize, EncodeError>
     ensures { leaves result out.new ≡ encode in_use (RtrPdu.SerialQuery pdu) [] out.old }
 {
-    if out.len() < 12 {
-        return short(12);
-    }
-    put_header(out, pdu.version, 1, pdu.session_id, 12);
-    put32(out, 8, pdu.serial_number);
-    Ok(12)
+    encode_serial(pdu.version, 1, pdu.session_id, pdu.serial_number, out)
 }
 
 pub fn encode_reset_query(pdu: RtrResetQuery, out: &mut [u8]) -> Result<usize, EncodeError>
     ensures { leaves result out.new ≡ encode in_use (RtrPdu.ResetQuery pdu) [] out.old }
 {
-    if out.len() < 8 {
-        return short(8);
-    }
-    put_header(out, pdu.version, 2, 0, 8);
-    Ok(8)
+    encode_bare(pdu.version, 2, 0, out)
 }
 
 pub fn encode_cache_response(pdu: RtrCacheResponse, out: &mut [u8]) -> Result<usize, EncodeError>
     ensures { leaves result out.new ≡ encode in_use (RtrPdu.CacheResponse pdu) [] out.old }
 {
-    if out.len() < 8 {
-        return short(8);
-    }
-    put_header(out, pdu.version, 3, pdu.session_id, 8);
-    Ok(8)
+    encode_bare(pdu.version, 3, pdu.session_id, out)
 }
 
 // Bytes 8 to 11 of a prefix: prefix lengths are not tested, as in the Rust.
@@ -179,18 +195,6 @@ pub fn encode_ipv6_prefix(pdu: RtrIPv6Prefix, out: &mut [u8]) -> Result<usize, E
     Ok(32)
 }
 
-// Version 0 drops the intervals.
-fn encode_end_of_data_v0(pdu: RtrEndOfData, out: &mut [u8]) -> Result<usize, EncodeError>
-    ensures { leaves result out.new ≡ encode in_use (RtrPdu.EndOfData (with_version RtrProtocolVersion.V0 pdu)) [] out.old }
-{
-    if out.len() < 12 {
-        return short(12);
-    }
-    put_header(out, RtrProtocolVersion::V0, 7, pdu.session_id, 12);
-    put32(out, 8, pdu.serial_number);
-    Ok(12)
-}
-
 fn encode_end_of_data_v1(
     session_id: u16,
     serial_number: u32,
@@ -212,12 +216,20 @@ fn encode_end_of_data_v1(
     Ok(24)
 }
 
-// In version 1 an absent interval is written as its default.
+// Version 0 drops the intervals; in version 1 an absent one is written as its default.
 pub fn encode_end_of_data(pdu: RtrEndOfData, out: &mut [u8]) -> Result<usize, EncodeError>
     ensures { leaves result out.new ≡ encode in_use (RtrPdu.EndOfData pdu) [] out.old }
 {
     match pdu.version {
-        RtrProtocolVersion::V0 => encode_end_of_data_v0(pdu, out),
+        RtrProtocolVersion::V0 => {
+            encode_serial(
+                RtrProtocolVersion::V0,
+                7,
+                pdu.session_id,
+                pdu.serial_number,
+                out,
+            )
+        }
         RtrProtocolVersion::V1 => {
             let refresh = pdu.refresh_interval_or_default();
             let retry = pdu.retry_interval_or_default();
@@ -237,96 +249,29 @@ pub fn encode_end_of_data(pdu: RtrEndOfData, out: &mut [u8]) -> Result<usize, En
 pub fn encode_cache_reset(pdu: RtrCacheReset, out: &mut [u8]) -> Result<usize, EncodeError>
     ensures { leaves result out.new ≡ encode in_use (RtrPdu.CacheReset pdu) [] out.old }
 {
-    if out.len() < 8 {
-        return short(8);
-    }
-    put_header(out, pdu.version, 8, 0, 8);
-    Ok(8)
+    encode_bare(pdu.version, 8, 0, out)
 }
 
 // ---- Payloads
 
-// Four bytes of a slice, loaded and not yet stored.
-#[derive(Clone, Copy)]
-struct Four {
-    b0: u8,
-    b1: u8,
-    b2: u8,
-    b3: u8,
-}
-
-fn read_four(part: &[u8], i: usize) -> Four
-    requires { i + 4 ≤ length part.now }
-    ensures { result.b0 ∷ result.b1 ∷ result.b2 ∷ result.b3 ∷ [] ≡ take 4 (drop i part.now) }
+// The first N bytes of a part, all loaded before any is stored.
+fn put_block<const N: usize>(out: &mut [u8], at: usize, part: &[u8])
+    requires { (N ≤ length part.now) × (at + N ≤ length out.old) }
+    ensures { out.new ≡ over out.old at (take N part.now) }
 {
-    Four {
-        b0: part[i],
-        b1: part[i + 1],
-        b2: part[i + 2],
-        b3: part[i + 3],
-    }
-}
-
-fn put_four(out: &mut [u8], at: usize, b: Four)
-    requires { at + 4 ≤ length out.old }
-    ensures { out.new ≡ over out.old at (b.b0 ∷ b.b1 ∷ b.b2 ∷ b.b3 ∷ []) }
-{
-    out[at] = b.b0;
-    out[at + 1] = b.b1;
-    out[at + 2] = b.b2;
-    out[at + 3] = b.b3;
-}
-
-// Blocks of a part, from i on: all of up to 16 bytes are loaded before any is stored, of which the compiler makes one load and one store.
-fn put_4(out: &mut [u8], at: usize, part: &[u8], i: usize)
-    requires { (i + 4 ≤ length part.now) × (at + 4 ≤ length out.old) }
-    ensures { out.new ≡ over out.old at (take 4 (drop i part.now)) }
-{
-    put_four(out, at, read_four(part, i));
-}
-
-fn put_8(out: &mut [u8], at: usize, part: &[u8], i: usize)
-    requires { (i + 8 ≤ length part.now) × (at + 8 ≤ length out.old) }
-    ensures { out.new ≡ over out.old at (take 8 (drop i part.now)) }
-{
-    let a = read_four(part, i);
-    let b = read_four(part, i + 4);
-    put_four(out, at, a);
-    put_four(out, at + 4, b);
-}
-
-fn put_16(out: &mut [u8], at: usize, part: &[u8], i: usize)
-    requires { (i + 16 ≤ length part.now) × (at + 16 ≤ length out.old) }
-    ensures { out.new ≡ over out.old at (take 16 (drop i part.now)) }
-{
-    let a = read_four(part, i);
-    let b = read_four(part, i + 4);
-    let c = read_four(part, i + 8);
-    let d = read_four(part, i + 12);
-    put_four(out, at, a);
-    put_four(out, at + 4, b);
-    put_four(out, at + 8, c);
-    put_four(out, at + 12, d);
-}
-
-fn put_32(out: &mut [u8], at: usize, part: &[u8], i: usize)
-    requires { (i + 32 ≤ length part.now) × (at + 32 ≤ length out.old) }
-    ensures { out.new ≡ over out.old at (take 32 (drop i part.now)) }
-{
-    put_16(out, at, part, i);
-    put_16(out, at + 16, part, i + 16);
+    Simd::<u8, N>::from_slice(part).copy_to_slice(&mut out[at..]);
 }
 
 // Block by block; the last one ends with the part, and may lie over the one before.
 fn put_long(out: &mut [u8], at: usize, part: &[u8])
-    requires { (32 ≤ length part.now) × (at + length part.now ≤ length out.old) }
+    requires { (64 ≤ length part.now) × (at + length part.now ≤ length out.old) }
     ensures { out.new ≡ over out.old at part.now }
 {
-    let last = part.len() - 32;
+    let last = part.len() - 64;
     for i in (0..last).step_by(32) {
-        put_32(out, at + i, part, i);
+        put_block::<32>(out, at + i, &part[i..]);
     }
-    put_32(out, at + last, part, last);
+    put_block::<64>(out, at + last, &part[last..]);
 }
 
 // One by one. Not by `copy_from_slice`: it calls C's memmove, and the library for hosts is to need memset alone.
@@ -339,7 +284,18 @@ fn put_few(out: &mut [u8], at: usize, part: &[u8])
     }
 }
 
-// Copies a part of a slice behind what is written: 4 to 64 bytes as a first block and a last one, which may lie over each other.
+// A part of N to 2N bytes, as a first block and a last one, which may lie over each other.
+fn put_ends<const N: usize>(out: &mut [u8], at: usize, part: &[u8])
+    requires { (N ≤ length part.now) × (length part.now ≤ N + N) × (at + length part.now ≤ length out.old) }
+    ensures { out.new ≡ over out.old at part.now }
+{
+    let last = part.len() - N;
+    put_block::<N>(out, at, part);
+    put_block::<N>(out, at + last, &part[last..]);
+}
+
+// Copies a part of a slice behind what is written. Not in line: where it is, its callers keep more in memory, 3 % of a prefix's encoding.
+#[inline(never)]
 fn put_part(out: &mut [u8], at: usize, part: &[u8])
     requires { at + length part.now ≤ length out.old }
     ensures { out.new ≡ over out.old at part.now }
@@ -347,29 +303,17 @@ fn put_part(out: &mut [u8], at: usize, part: &[u8])
     let n = part.len();
     if n > 64 {
         put_long(out, at, part);
-        return;
+    } else if n > 32 {
+        put_ends::<32>(out, at, part);
+    } else if n >= 16 {
+        put_ends::<16>(out, at, part);
+    } else if n >= 8 {
+        put_ends::<8>(out, at, part);
+    } else if n >= 4 {
+        put_ends::<4>(out, at, part);
+    } else {
+        put_few(out, at, part);
     }
-    if n > 32 {
-        put_32(out, at, part, 0);
-        put_32(out, at + (n - 32), part, n - 32);
-        return;
-    }
-    if n >= 16 {
-        put_16(out, at, part, 0);
-        put_16(out, at + (n - 16), part, n - 16);
-        return;
-    }
-    if n >= 8 {
-        put_8(out, at, part, 0);
-        put_8(out, at + (n - 8), part, n - 8);
-        return;
-    }
-    if n >= 4 {
-        put_4(out, at, part, 0);
-        put_4(out, at + (n - 4), part, n - 4);
-        return;
-    }
-    put_few(out, at, part);
 }
 
 // Bytes 8 and 9 of a key.
@@ -396,8 +340,8 @@ fn put_router_key(
 {
     put_header(out, version, 9, 0, whole);
     put_flags(out, flags);
-    put_16(out, 10, identifier, 0);
-    put_4(out, 26, identifier, 16);
+    put_block::<16>(out, 10, identifier);
+    put_block::<4>(out, 26, &identifier[16..]);
     put32(out, 30, asn);
     put_part(out, 34, info);
 }

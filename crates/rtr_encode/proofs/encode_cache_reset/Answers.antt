@@ -1,23 +1,15 @@
--- `encode_cache_reset` writes the picture from the front, field behind field, where the output has room for it. Assumes nothing.
+-- `encode_cache_reset` writes a header alone: its picture. Assumes nothing.
 use mathlib.Core.List.{[]}
-use mathlib.Core.Path.{refl}
-use native.Mathlib.Omega.{arith}
+use mathlib.Core.Path.{refl, ◌∙◌}
 use Rattle.rtr_text.proofs.Laws.{empty-is-well-formed}
 use Rattle.rtr_models.specs.declared.RtrPdu.TheVariants.{CacheReset}
 use Rattle.rtr_codec.specs.Reading.{in_use}
 use Rattle.rtr_encode.specs.Encode.{bytes_of, encoded_length, encoding}
-use Rattle.rtr_encode.proofs.Written.{too_short, wrote}
+use Rattle.rtr_encode.proofs.Checks.{plain-encodes}
 use Rattle.rtr_encode.proofs.encode_cache_reset.Goals as goal
-
-pub returns-then-out-lt8 : goal.returns-then-out-lt8
-unfolding encoded_length
-returns-then-out-lt8 c =
-    let a = c.args in
-    rw c.short.ensures (too_short in_use (CacheReset a.pdu) [] a.out.now 8 refl empty-is-well-formed refl (omega arith) c.if-out-lt8.true)
 
 pub returns : goal.returns
 unfolding bytes_of encoded_length encoding
 returns c =
     let a = c.args in
-    wrote in_use (CacheReset a.pdu) [] a.out.now 8 refl empty-is-well-formed refl (omega arith) _ c.if-out-lt8.false refl
-    c.put_header.ensures
+    c.encode_bare.ensures ∙ plain-encodes in_use (CacheReset a.pdu) [] a.out.now _ _ refl empty-is-well-formed refl refl

@@ -1,24 +1,15 @@
--- `encode_serial_notify` writes the picture from the front, field behind field, where the output has room for it. Assumes nothing.
+-- `encode_serial_notify` writes a header and a serial number: its picture. Assumes nothing.
 use mathlib.Core.List.{[]}
-use mathlib.Core.Path.{refl}
-use native.Mathlib.Omega.{arith}
+use mathlib.Core.Path.{refl, ◌∙◌}
 use Rattle.rtr_text.proofs.Laws.{empty-is-well-formed}
 use Rattle.rtr_models.specs.declared.RtrPdu.TheVariants.{SerialNotify}
 use Rattle.rtr_codec.specs.Reading.{in_use}
 use Rattle.rtr_encode.specs.Encode.{bytes_of, encoded_length, encoding}
-use Rattle.rtr_base.proofs.Overs.{next}
-use Rattle.rtr_encode.proofs.Written.{too_short, wrote}
+use Rattle.rtr_encode.proofs.Checks.{plain-encodes}
 use Rattle.rtr_encode.proofs.encode_serial_notify.Goals as goal
-
-pub returns-then-out-lt12 : goal.returns-then-out-lt12
-unfolding encoded_length
-returns-then-out-lt12 c =
-    let a = c.args in
-    rw c.short.ensures (too_short in_use (SerialNotify a.pdu) [] a.out.now 12 refl empty-is-well-formed refl (omega arith) c.if-out-lt12.true)
 
 pub returns : goal.returns
 unfolding bytes_of encoded_length encoding
 returns c =
     let a = c.args in
-    wrote in_use (SerialNotify a.pdu) [] a.out.now 12 refl empty-is-well-formed refl (omega arith) _ c.if-out-lt12.false refl
-    (next a.out.now _ _ _ _ 8 c.put_header.ensures refl c.put32.ensures)
+    c.encode_serial.ensures ∙ plain-encodes in_use (SerialNotify a.pdu) [] a.out.now _ _ refl empty-is-well-formed refl refl

@@ -7,6 +7,6 @@ use Rattle.rtr_encode.proofs.put_router_key.Goals as goal
 pub returns : goal.returns
 returns c =
     let a = c.args in
-    let identifier = ends _ _ _ a.identifier.now 10 16 16 4 (omega arith) (omega arith) (omega arith) (omega arith) c.put_16.ensures c.put_4.ensures in
+    let identifier = ends _ _ _ a.identifier.now 10 16 16 4 (omega arith) (omega arith) (omega arith) (omega arith) c.put_block.ensures c.put_block-2.ensures in
     key-stored a.version a.flags a.asn a.whole a.identifier.now a.info.now a.out.now _ _ _ _ _ c.requires.0
     c.put_header.ensures c.put_flags.ensures identifier c.put32.ensures c.put_part.ensures
