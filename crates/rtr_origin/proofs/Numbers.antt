@@ -1,5 +1,5 @@
 -- A route and its six numbers, both ways: a route in range is found from its numbers, and what is found has those numbers and is in range. Six numbers are a
--- list of its six members, and family and length are found again in the first, by arithmetic. Before that the tests of `route_of`. Assumes nothing.
+-- list of its six members, and family and length are found again in the first, by arithmetic. Assumes nothing.
 use Rattle.std.specs.Prelude.{Option, Some, None}
 use Prim.Native.Nat.{ℕ, zero, suc, ◌+◌, ◌*◌, ◌/◌, ◌%◌, ◌≤◌, ◌<◌}
 use mathlib.Core.Bool.{Bool, true, false, cond, ◌&&◌}
@@ -15,32 +15,6 @@ use Rattle.rtr_origin.specs.Numbers.{numbers_of, is_ipv4, is_ipv6, route_of, NoR
 use Rattle.rtr_origin.specs.declared.RoutePrefix.{RoutePrefix}
 use Rattle.rtr_origin.specs.declared.RoutePrefix.TheVariants.{IPv4, IPv6}
 use Rattle.rtr_origin.specs.declared.Route.{Route}
-
--- ---- the tests of the code
-
-module _ (first w1 w2 w3 : ℕ) where
-  pub other-than-four : (first / 65536 ≡ 4 → ⊥) → false ≡ is_ipv4 first w1 w2 w3
-  other-than-four h = rw (ne_eqb (first / 65536) 4 h)
-
-  module _ (f : first / 65536 ≡ 4) where
-    pub over-32 : 32 < first % 65536 → false ≡ is_ipv4 first w1 w2 w3
-    over-32 h = rw (eq-eqb (first / 65536) 4 f, lt-leb (first % 65536) 32 h)
-
-    module _ (l : first % 65536 ≤ 32) where
-      pub spare-1 : (w1 ≡ 0 → ⊥) → false ≡ is_ipv4 first w1 w2 w3
-      spare-1 h = rw (eq-eqb (first / 65536) 4 f, le-leb (first % 65536) 32 l, ne_eqb w1 0 h)
-
-      pub spare-2 : w1 ≡ 0 → (w2 ≡ 0 → ⊥) → false ≡ is_ipv4 first w1 w2 w3
-      spare-2 z h = rw (eq-eqb (first / 65536) 4 f, le-leb (first % 65536) 32 l, eq-eqb w1 0 z, ne_eqb w2 0 h)
-
-      pub spare-3 : w1 ≡ 0 → w2 ≡ 0 → eqb w3 0 ≡ is_ipv4 first w1 w2 w3
-      spare-3 z y = rw (eq-eqb (first / 65536) 4 f, le-leb (first % 65536) 32 l, eq-eqb w1 0 z, eq-eqb w2 0 y)
-
-pub other-than-six : (first : ℕ) → (first / 65536 ≡ 6 → ⊥) → false ≡ is_ipv6 first
-other-than-six first h = rw (ne_eqb (first / 65536) 6 h)
-
-pub up-to-128 : (first : ℕ) → first / 65536 ≡ 6 → leb (first % 65536) 128 ≡ is_ipv6 first
-up-to-128 first f = rw (eq-eqb (first / 65536) 6 f)
 
 -- ---- what is found
 
@@ -75,25 +49,25 @@ module _ (n : List ℕ) where
   unfolding route_of
   not-six h = rw (ne_eqb (length n) 6 h)
 
-  module _ (size : length n ≡ 6) (first w0 w1 w2 w3 origin l : ℕ) (e : first ≡ get_or n 0 0) (e0 : w0 ≡ get_or n 1 0) (e1 : w1 ≡ get_or n 2 0) (e2 : w2 ≡ get_or n 3 0) (e3 : w3 ≡ get_or n 4 0) (o : origin ≡ get_or n 5 0) (k : l ≡ first % 65536 % 256) where
-    pub found-four : is_ipv4 first w1 w2 w3 ≡ true → Some (record { prefix = IPv4 w0; length = l; origin = origin }) ≡ route_of n
+  module _ (size : length n ≡ 6) (l : ℕ) (k : l ≡ get_or n 0 0 % 65536 % 256) where
+    pub found-four : is_ipv4 (get_or n 0 0) (get_or n 2 0) (get_or n 3 0) (get_or n 4 0) ≡ true → Some (record { prefix = IPv4 (get_or n 1 0); length = l; origin = get_or n 5 0 }) ≡ route_of n
     unfolding route_of
     found-four h =
-        let small = (four-in-range first w1 w2 w3 h).1 in
-        let same : l ≡ first % 65536 = omega (arith, k, small) in
-        rw (eq-eqb (length n) 6 size, sym e, sym e0, sym e1, sym e2, sym e3, sym o, h, same)
+        let small = (four-in-range (get_or n 0 0) (get_or n 2 0) (get_or n 3 0) (get_or n 4 0) h).1 in
+        let same : l ≡ get_or n 0 0 % 65536 = omega (arith, k, small) in
+        rw (eq-eqb (length n) 6 size, h, same)
 
-    module _ (f : is_ipv4 first w1 w2 w3 ≡ false) where
-      pub found-six : is_ipv6 first ≡ true → Some (record { prefix = IPv6 (record { w0 = w0; w1 = w1; w2 = w2; w3 = w3 }); length = l; origin = origin }) ≡ route_of n
+    module _ (f : is_ipv4 (get_or n 0 0) (get_or n 2 0) (get_or n 3 0) (get_or n 4 0) ≡ false) where
+      pub found-six : is_ipv6 (get_or n 0 0) ≡ true → Some (record { prefix = IPv6 (record { w0 = get_or n 1 0; w1 = get_or n 2 0; w2 = get_or n 3 0; w3 = get_or n 4 0 }); length = l; origin = get_or n 5 0 }) ≡ route_of n
       unfolding route_of
       found-six h =
-          let small = (six-in-range first h).1 in
-          let same : l ≡ first % 65536 = omega (arith, k, small) in
-          rw (eq-eqb (length n) 6 size, sym e, sym e0, sym e1, sym e2, sym e3, sym o, f, h, same)
+          let small = (six-in-range (get_or n 0 0) h).1 in
+          let same : l ≡ get_or n 0 0 % 65536 = omega (arith, k, small) in
+          rw (eq-eqb (length n) 6 size, f, h, same)
 
-      pub found_none : is_ipv6 first ≡ false → None ≡ route_of n
+      pub found_none : is_ipv6 (get_or n 0 0) ≡ false → None ≡ route_of n
       unfolding route_of
-      found_none h = rw (eq-eqb (length n) 6 size, sym e, sym e0, sym e1, sym e2, sym e3, sym o, f, h)
+      found_none h = rw (eq-eqb (length n) 6 size, f, h)
 
 -- ---- both ways
 
@@ -253,11 +227,11 @@ module _ (n : List ℕ) where
       l = first % 65536 % 256
 
       by-six : route_of n ≡ None → is_ipv4 first (get_or n 2 0) (get_or n 3 0) (get_or n 4 0) ≡ false → (b : Bool) → is_ipv6 first ≡ b → NoRoute n
-      by-six e f true h = absurd (differ (found-six n size first (get_or n 1 0) (get_or n 2 0) (get_or n 3 0) (get_or n 4 0) (get_or n 5 0) l refl refl refl refl refl refl refl f h ∙ e))
+      by-six e f true h = absurd (differ (found-six n size l refl f h ∙ e))
       by-six e f false h = because f h
 
       by-four : route_of n ≡ None → (b : Bool) → is_ipv4 first (get_or n 2 0) (get_or n 3 0) (get_or n 4 0) ≡ b → NoRoute n
-      by-four e true h = absurd (differ (found-four n size first (get_or n 1 0) (get_or n 2 0) (get_or n 3 0) (get_or n 4 0) (get_or n 5 0) l refl refl refl refl refl refl refl h ∙ e))
+      by-four e true h = absurd (differ (found-four n size l refl h ∙ e))
       by-four e false h = by-six e h (is_ipv6 first) refl
 
       back : NoRoute n → (f : Option Route) → route_of n ≡ f → route_of n ≡ None

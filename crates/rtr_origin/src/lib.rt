@@ -7,7 +7,7 @@ use rtr_room::{Position, Record, look_up};
 
 mod peer;
 
-ghost use Rattle.std.specs.Prelude.{ℕ, ◌+◌, ◌-◌, ◌*◌, ◌/◌, ◌%◌, ◌<◌, ◌≤◌, true, not, ◌≡◌, leb, length, get_or};
+ghost use Rattle.std.specs.Prelude.{ℕ, ◌+◌, ◌-◌, ◌*◌, ◌/◌, ◌%◌, ◌<◌, ◌≤◌, true, not, ◌≡◌, leb, length};
 ghost use Rattle.rtr_room.specs.Table.{family_of, rank};
 ghost use Rattle.rtr_room.specs.Room.{records, record_at, is_room, limit_of};
 ghost use Rattle.rtr_origin.specs.Origin.{longest_in, state_of, state_number, words};
@@ -86,9 +86,8 @@ fn wide(b: u8) -> u32
 fn as_record(q: Route) -> Record
     ensures { (result ≡ target_of q) × (q.length < 256) }
 {
-    let prefix = q.prefix;
     let low = wide(q.length) * 256 + 255;
-    match prefix {
+    match q.prefix {
         RoutePrefix::IPv4(address) => Record {
             kind: 262144 + low,
             w0: address,
@@ -203,13 +202,11 @@ fn higher(x: u32, y: u32) -> u32
 fn name(n: u32) -> RouteState
     ensures { result ≡ named n }
 {
-    if n == 2 {
-        return RouteState::Valid;
+    match n {
+        2 => RouteState::Valid,
+        1 => RouteState::Invalid,
+        _ => RouteState::NotFound,
     }
-    if n == 1 {
-        return RouteState::Invalid;
-    }
-    RouteState::NotFound
 }
 
 // ---- The scan
@@ -409,8 +406,7 @@ fn by_order(live: &[u32], count: usize, least: u32, loose: u32, q: Route) -> Rou
 fn is_too_long(q: Route) -> bool
     ensures { result ≡ not (leb q.length (longest_in q.prefix)) }
 {
-    let prefix = q.prefix;
-    match prefix {
+    match q.prefix {
         RoutePrefix::IPv4(_) => q.length > 32,
         RoutePrefix::IPv6(_) => q.length > 128,
     }
@@ -468,16 +464,6 @@ pub fn validate(
 
 // ---- A route from numbers
 
-// Number i of those lent, 0 behind them.
-fn number_at(numbers: &[u32], i: usize) -> u32
-    ensures { result ≡ get_or numbers.now i 0 }
-{
-    if i < numbers.len() {
-        return numbers[i];
-    }
-    0
-}
-
 // What is below 256 stays.
 fn narrow(n: u32) -> u8
     ensures { result ≡ n % 256 }
@@ -489,44 +475,23 @@ fn narrow(n: u32) -> u8
 fn is_ipv4(first: u32, w1: u32, w2: u32, w3: u32) -> bool
     ensures { result ≡ is_ipv4 first w1 w2 w3 }
 {
-    if first / 65536 != 4 {
-        return false;
-    }
-    if first % 65536 > 32 {
-        return false;
-    }
-    if w1 != 0 {
-        return false;
-    }
-    if w2 != 0 {
-        return false;
-    }
-    w3 == 0
+    first / 65536 == 4 && first % 65536 <= 32 && w1 == 0 && w2 == 0 && w3 == 0
 }
 
 // Family 6, and no longer than 128.
 fn is_ipv6(first: u32) -> bool
     ensures { result ≡ is_ipv6 first }
 {
-    if first / 65536 != 6 {
-        return false;
-    }
-    first % 65536 <= 128
+    first / 65536 == 6 && first % 65536 <= 128
 }
 
 // The route that six numbers are; None where there are not six, of another family, too long, or with a spare number that is not 0.
 pub fn route_of(numbers: &[u32]) -> Option<Route>
     ensures { result ≡ route_of numbers.now }
 {
-    if numbers.len() != 6 {
+    let &[first, w0, w1, w2, w3, origin] = numbers else {
         return None;
-    }
-    let first = number_at(numbers, 0);
-    let w0 = number_at(numbers, 1);
-    let w1 = number_at(numbers, 2);
-    let w2 = number_at(numbers, 3);
-    let w3 = number_at(numbers, 4);
-    let origin = number_at(numbers, 5);
+    };
     let length = narrow(first % 65536);
     if is_ipv4(first, w1, w2, w3) {
         return Some(Route {

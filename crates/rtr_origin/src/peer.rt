@@ -108,8 +108,7 @@ fn survey(live: &[u32], count: usize) -> Families
 fn bounds_for(v: Families, q: Route) -> Bounds
     ensures { result ≡ bounds_for v q.prefix }
 {
-    let prefix = q.prefix;
-    match prefix {
+    match q.prefix {
         RoutePrefix::IPv4(_) => v.four,
         RoutePrefix::IPv6(_) => v.six,
     }
@@ -122,14 +121,11 @@ fn place_of(live: &[u32], count: usize, v: Families, numbers: &[u32]) -> u8
     requires { (is_room (limit_of live.now) count live.now ≡ true) × (v ≡ survey_of count live.now) }
     ensures { result ≡ place_of (state_by (records count live.now)) (route_of numbers.now) }
 {
-    match route_of(numbers) {
-        Some(q) => {
-            let b = bounds_for(v, q);
-            let state = by_order(live, count, b.least, b.loose, q);
-            state.number()
-        }
-        None => 23,
-    }
+    let Some(q) = route_of(numbers) else {
+        return 23;
+    };
+    let b = bounds_for(v, q);
+    by_order(live, count, b.least, b.loose, q).number()
 }
 
 // Every route's place is filled, and none behind them.

@@ -1,12 +1,13 @@
 -- `name`: the tests of `named`. Assumes nothing.
+use native.Mathlib.Omega.{arith}
 use Rattle.rtr_origin.proofs.Judging.{named-two, named-one, named_other}
 use Rattle.rtr_origin.proofs.name.Goals as goal
 
-pub returns-then-n-eq2 : goal.returns-then-n-eq2
-returns-then-n-eq2 c = named-two _ c.if-n-eq2.true
+pub returns-in-2 : goal.returns-in-2
+returns-in-2 c = named-two _ c.in-2.is
 
-pub returns-then-n-eq1 : goal.returns-then-n-eq1
-returns-then-n-eq1 c = named-one _ c.if-n-eq1.true
+pub returns-in-1 : goal.returns-in-1
+returns-in-1 c = named-one _ c.in-1.is
 
-pub returns : goal.returns
-returns c = named_other _ c.if-n-eq2.false c.if-n-eq1.false
+pub returns-in_default : goal.returns-in_default
+returns-in_default c = named_other _ (λ two. omega (arith, two)) (λ one. omega (arith, one))

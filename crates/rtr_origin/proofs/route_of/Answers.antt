@@ -1,16 +1,27 @@
 -- `route_of`: six numbers, of IPv4, of IPv6 or of neither. Assumes nothing.
-use mathlib.Core.Path.{sym, ◌∙◌}
+use mathlib.Core.Path.{◌≡◌, sym, ◌∙◌}
+use native.Mathlib.Omega.{arith}
+use lib.ListN.{length}
 use Rattle.rtr_origin.proofs.Numbers.{not-six, found-four, found-six, found_none}
 use Rattle.rtr_origin.proofs.route_of.Goals as goal
 
-pub returns-then-numbers-ne6 : goal.returns-then-numbers-ne6
-returns-then-numbers-ne6 c = not-six c.args.numbers.now c.if-numbers-ne6.true
+pub returns-in_default : goal.returns-in_default
+returns-in_default c = not-six c.args.numbers.now (λ size. omega (arith, size, c.in_default.len_below))
+
+pub returns-in_default-2 : goal.returns-in_default-2
+returns-in_default-2 c = not-six c.args.numbers.now (λ size. omega (arith, size, c.in_default.len_at_least))
 
 pub returns-then-is_ipv4 : goal.returns-then-is_ipv4
-returns-then-is_ipv4 c = found-four c.args.numbers.now c.if-numbers-ne6.false c.number_at-first.result c.number_at-w0.result c.number_at-w1.result c.number_at-w2.result c.number_at-w3.result c.number_at-origin.result c.narrow-length.result c.number_at-first.ensures c.number_at-w0.ensures c.number_at-w1.ensures c.number_at-w2.ensures c.number_at-w3.ensures c.number_at-origin.ensures c.narrow-length.ensures (sym c.is_ipv4.ensures ∙ c.if-is_ipv4.true)
+returns-then-is_ipv4 c =
+    let six : length c.args.numbers.now ≡ 6 = omega (arith, c.in-len6.len_at_least, c.in-len6.len_below) in
+    found-four c.args.numbers.now six _ c.narrow-length.ensures (sym c.is_ipv4.ensures ∙ c.if-is_ipv4.true)
 
 pub returns-then-is_ipv6 : goal.returns-then-is_ipv6
-returns-then-is_ipv6 c = found-six c.args.numbers.now c.if-numbers-ne6.false c.number_at-first.result c.number_at-w0.result c.number_at-w1.result c.number_at-w2.result c.number_at-w3.result c.number_at-origin.result c.narrow-length.result c.number_at-first.ensures c.number_at-w0.ensures c.number_at-w1.ensures c.number_at-w2.ensures c.number_at-w3.ensures c.number_at-origin.ensures c.narrow-length.ensures (sym c.is_ipv4.ensures ∙ c.if-is_ipv4.false) (sym c.is_ipv6.ensures ∙ c.if-is_ipv6.true)
+returns-then-is_ipv6 c =
+    let six : length c.args.numbers.now ≡ 6 = omega (arith, c.in-len6.len_at_least, c.in-len6.len_below) in
+    found-six c.args.numbers.now six _ c.narrow-length.ensures (sym c.is_ipv4.ensures ∙ c.if-is_ipv4.false) (sym c.is_ipv6.ensures ∙ c.if-is_ipv6.true)
 
 pub returns : goal.returns
-returns c = found_none c.args.numbers.now c.if-numbers-ne6.false c.number_at-first.result c.number_at-w0.result c.number_at-w1.result c.number_at-w2.result c.number_at-w3.result c.number_at-origin.result c.narrow-length.result c.number_at-first.ensures c.number_at-w0.ensures c.number_at-w1.ensures c.number_at-w2.ensures c.number_at-w3.ensures c.number_at-origin.ensures c.narrow-length.ensures (sym c.is_ipv4.ensures ∙ c.if-is_ipv4.false) (sym c.is_ipv6.ensures ∙ c.if-is_ipv6.false)
+returns c =
+    let six : length c.args.numbers.now ≡ 6 = omega (arith, c.in-len6.len_at_least, c.in-len6.len_below) in
+    found_none c.args.numbers.now six _ c.narrow-length.ensures (sym c.is_ipv4.ensures ∙ c.if-is_ipv4.false) (sym c.is_ipv6.ensures ∙ c.if-is_ipv6.false)
