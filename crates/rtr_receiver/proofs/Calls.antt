@@ -1,5 +1,5 @@
 -- What the calls without a feed come to, by cases: the tests of an order, the asks, reconnect, start and the notify comparison. Assumes nothing.
-use Rattle.std.specs.Prelude.{Option, Some, None, ⊤, Result, Ok, Err}
+use Rattle.std.specs.Prelude.{Option, Some, None, Result, Ok, Err}
 use Rattle.std.proofs.Common.{◌≡◌, ◌⊎◌, inl, inr, ℕ, ◌+◌, ◌-◌, ◌*◌, ◌%◌, ◌<◌, ◌≤◌, Bool, true, false, cond, not, ◌&&◌, ◌||◌, eqb, leb, List, [], ◌∷◌, length, replicate, sym, refl, ap, ◌∙◌, arith, le-ltb, lt-ltb, eq-eqb, ne_eqb, le-leb, leb-false, leb-true}
 use mathlib.Core.Bool.{and-true}
 use borrow.Author.Tests.{lt-leb}

@@ -1,7 +1,7 @@
 -- What each deed leaves in memory stands for what the definition makes of the receiver: a room that keeps the rules is the room of its records, so
 -- the laws of rooms say what a call makes of it. Assumes nothing.
-use Rattle.std.specs.Prelude.{Option, Some, ⊤, Result, Err}
-use Rattle.std.proofs.Common.{◌≡◌, ℕ, ◌*◌, Bool, true, cond, List, [], ◌∷◌, length, take, replicate, sym, refl, ap, ◌∙◌, ap₂, ⊎_elim, arith, eq-eqb, ne_eqb}
+use Rattle.std.specs.Prelude.{Option, Some, Result, Err}
+use Rattle.std.proofs.Common.{◌≡◌, ℕ, ◌*◌, Bool, true, cond, List, [], length, take, replicate, sym, refl, ap, ◌∙◌, ap₂, ⊎_elim, arith, eq-eqb, ne_eqb}
 use Rattle.rtr_models.specs.Values.{seconds_or}
 use Rattle.rtr_models.specs.declared.RtrEndOfData.{RtrEndOfData}
 use Rattle.rtr_codec.specs.Read.{Verdict}

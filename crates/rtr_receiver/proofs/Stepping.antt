@@ -1,6 +1,6 @@
 -- What a step of a feed comes to, by what the search found. Assumes nothing.
-use Rattle.std.specs.Prelude.{Ok, Err, ⊤, Result, Option, Some, None}
-use Rattle.std.proofs.Common.{◌≡◌, ℕ, ◌+◌, ◌-◌, ◌<◌, ◌≤◌, true, false, eqb, List, [], ◌∷◌, length, take, drop, replicate, sym, refl, ap, ◌∙◌, inr, arith, length-drop, drop-drop}
+use Rattle.std.specs.Prelude.{Ok, Err, Result, Option, Some, None}
+use Rattle.std.proofs.Common.{◌≡◌, ℕ, ◌+◌, ◌-◌, ◌<◌, ◌≤◌, true, false, eqb, List, [], length, take, drop, replicate, sym, refl, ap, ◌∙◌, inr, arith, length-drop, drop-drop}
 use lib.Seq.{take-nil}
 use Rattle.rtr_models.specs.declared.RtrPdu.{RtrPdu}
 use Rattle.rtr_codec.specs.Reading.{in_use}

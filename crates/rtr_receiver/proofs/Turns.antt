@@ -1,6 +1,6 @@
 -- What the table of turns says, read off it phase by phase, and the order of the tests before a PDU's deed: whatever holds of each stop, and of the deed where it is due, holds of what comes of the PDU.
 -- Assumes nothing.
-use Rattle.std.proofs.Common.{◌≡◌, ℕ, Bool, true, false, cond, eqb, List, [], ◌∷◌, refl}
+use Rattle.std.proofs.Common.{◌≡◌, ℕ, Bool, true, false, cond, eqb, List, [], refl}
 use mathlib.Core.Bool.{false≢true}
 use Rattle.rtr_models.specs.Codes.{version_number}
 use Rattle.rtr_models.specs.Values.{type_of, version_of}

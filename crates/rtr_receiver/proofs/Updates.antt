@@ -1,7 +1,7 @@
 -- Two laws of every update that finishes in a history, by History's page alone. Each of its records applied to the table that the ones before it made, the first to nothing or to the table before the update
 -- (`records-applied`): no record of a finished update was refused. And in version 0 it has the default intervals (`version-zero-defaults`, of the live table of a run `version-zero-table`). Both by what holds at
 -- each place of a connection and of each item (`each`). Assumes nothing.
-use Rattle.std.specs.Prelude.{Option, Some, None, ⊤}
+use Rattle.std.specs.Prelude.{Option, Some, None}
 use Rattle.std.proofs.Common.{◌≡◌, ℕ, Bool, true, false, cond, ◌&&◌, eqb, leb, List, [], ◌∷◌, ◌++◌, sym, refl, ap, ◌∙◌, subst, arith}
 use Rattle.rtr_models.specs.Codes.{type_number, version_number}
 use Rattle.rtr_models.specs.Values.{announces, seconds_or, type_of}

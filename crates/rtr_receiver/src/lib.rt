@@ -547,7 +547,7 @@ fn finish(s: Session, live: &mut [u32], working: &mut [u32], p: RtrEndOfData) ->
 fn is_version(a: RtrProtocolVersion, b: RtrProtocolVersion) -> bool
     ensures { result ≡ (version_number a == version_number b) }
 {
-    a.to_u8() == b.to_u8()
+    a == b
 }
 
 fn carried_by(pdu: RtrPdu) -> Option<(bool, Record)>

@@ -1,6 +1,6 @@
 -- `full_ask` tests the shape, then goes by the phase. Assumes nothing.
 use Rattle.rtr_receiver.specs.Receiver.{Receiver, full_query}
-use Rattle.rtr_receiver.specs.Promises.{stage_of, receiver_of, full_ask_says}
+use Rattle.rtr_receiver.specs.Promises.{receiver_of, full_ask_says}
 use Rattle.rtr_receiver.specs.declared.Phase.{Phase}
 use Rattle.rtr_receiver.proofs.Calls.{full-else, full-either, ask-shapeless, ask-in-wrong-phase, ask-written}
 use Rattle.rtr_receiver.proofs.Memory.{fails, holds}
