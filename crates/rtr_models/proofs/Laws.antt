@@ -17,19 +17,13 @@ version-back : (v : RtrProtocolVersion) → version_found (version_number v) ≡
 version-back V0 = refl
 version-back V1 = refl
 
-version-same : (a b : RtrProtocolVersion) → Some a ≡ Some b → a ≡ b
-version-same a b e = cc
-
-version-other : (a : RtrProtocolVersion) → Some a ≡ None → ⊥
-version-other a e = let z : ◌≡◌ {A = ℕ} 0 1 = cc in omega arith
-
 -- a number finds a version exactly when it is that version's number
 pub version-known : (n : ℕ) (v : RtrProtocolVersion) → version_found n ≡ Some v ↔ (n ≡ version_number v)
-version-known = finds-its-own version_number Some None versions version-back version-same version-other
+version-known = finds-its-own version_number versions version-back
 
 -- a number finds no version exactly when it is no version's
 pub version-unknown : (n : ℕ) → version_found n ≡ None ↔ ((v : RtrProtocolVersion) → n ≡ version_number v → ⊥)
-version-unknown = finds-none version_number Some None versions version-back version-same version-other
+version-unknown = finds-none version_number versions version-back
 
 type-back : (t : RtrPduType) → type_found (type_number t) ≡ Some t
 type-back SerialNotify = refl
@@ -43,19 +37,13 @@ type-back CacheReset = refl
 type-back RouterKey = refl
 type-back ErrorReport = refl
 
-type-same : (a b : RtrPduType) → Some a ≡ Some b → a ≡ b
-type-same a b e = cc
-
-type-other : (a : RtrPduType) → Some a ≡ None → ⊥
-type-other a e = let z : ◌≡◌ {A = ℕ} 0 1 = cc in omega arith
-
 -- a number finds a type exactly when it is that type's number
 pub type-known : (n : ℕ) (t : RtrPduType) → type_found n ≡ Some t ↔ (n ≡ type_number t)
-type-known = finds-its-own type_number Some None types type-back type-same type-other
+type-known = finds-its-own type_number types type-back
 
 -- a number finds no type exactly when it is no type's
 pub type-unknown : (n : ℕ) → type_found n ≡ None ↔ ((t : RtrPduType) → n ≡ type_number t → ⊥)
-type-unknown = finds-none type_number Some None types type-back type-same type-other
+type-unknown = finds-none type_number types type-back
 
 code-back : (c : RtrErrorCode) → code_found (code_number c) ≡ Some c
 code-back CorruptData = refl
@@ -68,19 +56,13 @@ code-back WithdrawalOfUnknownRecord = refl
 code-back DuplicateAnnouncementReceived = refl
 code-back UnexpectedProtocolVersion = refl
 
-code_same : (a b : RtrErrorCode) → Some a ≡ Some b → a ≡ b
-code_same a b e = cc
-
-code_other : (a : RtrErrorCode) → Some a ≡ None → ⊥
-code_other a e = let z : ◌≡◌ {A = ℕ} 0 1 = cc in omega arith
-
 -- a number finds an error code exactly when it is that code's number
 pub code-known : (n : ℕ) (c : RtrErrorCode) → code_found n ≡ Some c ↔ (n ≡ code_number c)
-code-known = finds-its-own code_number Some None codes code-back code_same code_other
+code-known = finds-its-own code_number codes code-back
 
 -- a number finds no error code exactly when it is no code's
 pub code-unknown : (n : ℕ) → code_found n ≡ None ↔ ((c : RtrErrorCode) → n ≡ code_number c → ⊥)
-code-unknown = finds-none code_number Some None codes code-back code_same code_other
+code-unknown = finds-none code_number codes code-back
 
 -- the codes end at 8
 pub code-at-most-8 : (c : RtrErrorCode) → code_number c ≤ 8

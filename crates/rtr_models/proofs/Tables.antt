@@ -1,5 +1,6 @@
 -- One argument for every table of numbers: where each value's number finds the value again, a number finds a value exactly when it is the
--- value's, and finds none exactly when it is no value's. `known` and `unknown` are the cases of the answer. Assumes nothing.
+-- value's, and finds none exactly when it is no value's. Assumes nothing.
+use Rattle.std.specs.Prelude.{Some, None}
 use Prim.Native.Nat.{ℕ}
 use mathlib.Core.Bool.{Bool, true, false}
 use mathlib.Core.List.{List, [], ◌∷◌}
@@ -7,28 +8,28 @@ use mathlib.Core.Logic.{◌⊎◌, inl, inr, ⊎_elim, ◌↔◌}
 use mathlib.Core.Path.{◌≡◌, refl, sym, ◌∙◌, ap}
 use borrow.Author.Tests.{eqb-true}
 use lib.Dec.{eqb}
+use Rattle.std.proofs.lemmas.Option.{none-some, same_Some}
 use Rattle.rtr_models.specs.Codes.{found}
 
-module _ {A F : Type 0} (number : A → ℕ) (known : A → F) (unknown : F) where
+module _ {A : Type 0} (number : A → ℕ) where
   -- what the search answers: a value with the number, or none
-  found-or-not : (all : List A) (n : ℕ) → ((a : A) × (found number known unknown all n ≡ known a) × (n ≡ number a)) ⊎ (found number known unknown all n ≡ unknown)
+  found-or-not : (all : List A) (n : ℕ) → ((a : A) × (found number Some None all n ≡ Some a) × (n ≡ number a)) ⊎ (found number Some None all n ≡ None)
   found-or-not [] n = inr refl
   found-or-not (a ∷ rest) n = go (found-or-not rest n) (eqb n (number a)) refl
     where
-      go : ((x : A) × (found number known unknown rest n ≡ known x) × (n ≡ number x)) ⊎ (found number known unknown rest n ≡ unknown) → (b : Bool) → eqb n (number a) ≡ b → ((x : A) × (found number known unknown (a ∷ rest) n ≡ known x) × (n ≡ number x)) ⊎ (found number known unknown (a ∷ rest) n ≡ unknown)
+      go : ((x : A) × (found number Some None rest n ≡ Some x) × (n ≡ number x)) ⊎ (found number Some None rest n ≡ None) → (b : Bool) → eqb n (number a) ≡ b → ((x : A) × (found number Some None (a ∷ rest) n ≡ Some x) × (n ≡ number x)) ⊎ (found number Some None (a ∷ rest) n ≡ None)
       go ih true e = inl (a, rw e, eqb-true n (number a) e)
       go ih false e = rw e ih
 
-  module _ (all : List A) (comes_back : (a : A) → found number known unknown all (number a) ≡ known a)
-      (known_same : (a b : A) → known a ≡ known b → a ≡ b) (known-other : (a : A) → known a ≡ unknown → ⊥) where
-    pub finds-its-own : (n : ℕ) (a : A) → found number known unknown all n ≡ known a ↔ (n ≡ number a)
+  module _ (all : List A) (comes_back : (a : A) → found number Some None all (number a) ≡ Some a) where
+    pub finds-its-own : (n : ℕ) (a : A) → found number Some None all n ≡ Some a ↔ (n ≡ number a)
     finds-its-own n a = (
-      λ e. ⊎_elim (λ w. w.2 ∙ ap number (known_same w.0 a (sym w.1 ∙ e))) (λ w. absurd (known-other a (sym e ∙ w))) (found-or-not all n),
-      λ e. ap (found number known unknown all) e ∙ comes_back a,
+      λ e. ⊎_elim (λ w. w.2 ∙ ap number (same_Some w.0 a (sym w.1 ∙ e))) (λ w. absurd (none-some a (sym w ∙ e))) (found-or-not all n),
+      λ e. ap (found number Some None all) e ∙ comes_back a,
     )
 
-    pub finds-none : (n : ℕ) → found number known unknown all n ≡ unknown ↔ ((a : A) → n ≡ number a → ⊥)
+    pub finds-none : (n : ℕ) → found number Some None all n ≡ None ↔ ((a : A) → n ≡ number a → ⊥)
     finds-none n = (
-      λ e a h. known-other a (sym ((finds-its-own n a).1 h) ∙ e),
+      λ e a h. none-some a (sym e ∙ (finds-its-own n a).1 h),
       λ h. ⊎_elim (λ w. absurd (h w.0 w.2)) (λ w. w) (found-or-not all n),
     )

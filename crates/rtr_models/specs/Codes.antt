@@ -8,7 +8,8 @@ use Rattle.rtr_models.specs.declared.RtrPduType.TheVariants.{SerialNotify, Seria
 use Rattle.rtr_models.specs.declared.RtrErrorCode.{RtrErrorCode}
 use Rattle.rtr_models.specs.declared.RtrErrorCode.TheVariants.{CorruptData, InternalError, NoDataAvailable, InvalidRequest, UnsupportedProtocolVersion, UnsupportedPduType, WithdrawalOfUnknownRecord, DuplicateAnnouncementReceived, UnexpectedProtocolVersion}
 
--- the first of the values whose number is n, as `known` hands it over; `unknown` where none has it
+-- the first of the values whose number is n, as `known` hands it over; `unknown` where none has it (the tables below answer an Option, the
+-- receiver's lists true or false)
 abbrev pub found : {A F : Type 0} → (A → ℕ) → (A → F) → F → List A → ℕ → F
 found number known unknown [] n = unknown
 found number known unknown (a ∷ rest) n = cond (eqb n (number a)) (known a) (found number known unknown rest n)
