@@ -1,4 +1,4 @@
--- A part copied in blocks: one block right behind another (`more`), and a last block that ends with the part and may lie over
+-- A part copied in blocks, each the store of a vector (`block-stored`): one block right behind another (`more`), and a last block that ends with the part and may lie over
 -- what was stored before (`ends`). Assumes nothing.
 use Prim.Native.Nat.{ℕ, ◌+◌, ◌-◌, ◌≤◌}
 use mathlib.Core.List.{List, ◌++◌, append_assoc}

@@ -60,19 +60,22 @@ pub enum SearchError {
     NotAStream,
 }
 
-// The answer (a PDU and where it lies, or the wish for more), the place in the piece to go on from, and the stream then.
+// What a search answers: a PDU and where it lies, or the wish for more.
+pub type StreamAnswer = Result<Option<(RtrPdu, Lies)>, SearchError>;
+
+// The answer, the place in the piece to go on from, and the stream then.
 #[derive(Clone, Copy)]
 pub struct Searched {
     pub stream: Stream,
     pub next: usize,
-    pub answer: Result<Option<(RtrPdu, Lies)>, SearchError>,
+    pub answer: StreamAnswer,
 }
 
 #[derive(Clone, Copy)]
 struct Turn {
     held: usize,
     next: usize,
-    then: Option<Result<Option<(RtrPdu, Lies)>, SearchError>>,
+    then: Option<StreamAnswer>,
 }
 
 // 4 outside 8 to 131,086, then 12 over the hold.
