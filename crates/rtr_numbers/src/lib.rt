@@ -268,35 +268,28 @@ fn note_serial(note: Option<(u16, u32)>) -> u64
 fn session_numbers(s: Session) -> [u64; SESSION_NUMBERS]
     ensures { result ≡ session_numbers s }
 {
-    let life = s.life;
-    let version = life.version;
-    let phase = s.phase;
-    let table = s.table;
-    let note = s.note;
-    let live = s.live;
-    let working = s.working;
-    let p = phase_numbers(phase);
-    let t = table_or(table);
+    let p = phase_numbers(s.phase);
+    let t = table_or(s.table);
     [
-        version.to_u8() as u64,
+        s.life.version.to_u8() as u64,
         p.phase,
         p.detail,
         p.first,
         p.second,
         p.third,
-        table_number(table),
+        table_number(s.table),
         t.session as u64,
         t.serial as u64,
         t.refresh as u64,
         t.retry as u64,
         t.expire as u64,
-        note_number(note),
-        note_session(note),
-        note_serial(note),
-        live.records as u64,
-        working.records as u64,
+        note_number(s.note),
+        note_session(s.note),
+        note_serial(s.note),
+        s.live.records as u64,
+        s.working.records as u64,
         s.held as u64,
-        life.limit as u64,
+        s.life.limit as u64,
         0,
         0,
         0,

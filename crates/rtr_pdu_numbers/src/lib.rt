@@ -18,10 +18,9 @@ pub const PDU_NUMBERS: usize = 12;
 fn serial_notify_numbers(p: RtrSerialNotify, consumed: usize) -> [u64; 12]
     ensures { result ≡ pdu_numbers (RtrPdu.SerialNotify p) consumed }
 {
-    let version = p.version;
     [
         0,
-        version.to_u8() as u64,
+        p.version.to_u8() as u64,
         consumed as u64,
         p.session_id as u64,
         p.serial_number as u64,
@@ -38,10 +37,9 @@ fn serial_notify_numbers(p: RtrSerialNotify, consumed: usize) -> [u64; 12]
 fn serial_query_numbers(p: RtrSerialQuery, consumed: usize) -> [u64; 12]
     ensures { result ≡ pdu_numbers (RtrPdu.SerialQuery p) consumed }
 {
-    let version = p.version;
     [
         1,
-        version.to_u8() as u64,
+        p.version.to_u8() as u64,
         consumed as u64,
         p.session_id as u64,
         p.serial_number as u64,
@@ -58,10 +56,9 @@ fn serial_query_numbers(p: RtrSerialQuery, consumed: usize) -> [u64; 12]
 fn reset_query_numbers(p: RtrResetQuery, consumed: usize) -> [u64; 12]
     ensures { result ≡ pdu_numbers (RtrPdu.ResetQuery p) consumed }
 {
-    let version = p.version;
     [
         2,
-        version.to_u8() as u64,
+        p.version.to_u8() as u64,
         consumed as u64,
         0,
         0,
@@ -78,10 +75,9 @@ fn reset_query_numbers(p: RtrResetQuery, consumed: usize) -> [u64; 12]
 fn cache_response_numbers(p: RtrCacheResponse, consumed: usize) -> [u64; 12]
     ensures { result ≡ pdu_numbers (RtrPdu.CacheResponse p) consumed }
 {
-    let version = p.version;
     [
         3,
-        version.to_u8() as u64,
+        p.version.to_u8() as u64,
         consumed as u64,
         p.session_id as u64,
         0,
@@ -98,10 +94,9 @@ fn cache_response_numbers(p: RtrCacheResponse, consumed: usize) -> [u64; 12]
 fn ipv4_prefix_numbers(p: RtrIPv4Prefix, consumed: usize) -> [u64; 12]
     ensures { result ≡ pdu_numbers (RtrPdu.IPv4Prefix p) consumed }
 {
-    let version = p.version;
     [
         4,
-        version.to_u8() as u64,
+        p.version.to_u8() as u64,
         consumed as u64,
         p.flags as u64,
         p.prefix_length as u64,
@@ -118,19 +113,17 @@ fn ipv4_prefix_numbers(p: RtrIPv4Prefix, consumed: usize) -> [u64; 12]
 fn ipv6_prefix_numbers(p: RtrIPv6Prefix, consumed: usize) -> [u64; 12]
     ensures { result ≡ pdu_numbers (RtrPdu.IPv6Prefix p) consumed }
 {
-    let version = p.version;
-    let prefix = p.prefix;
     [
         6,
-        version.to_u8() as u64,
+        p.version.to_u8() as u64,
         consumed as u64,
         p.flags as u64,
         p.prefix_length as u64,
         p.max_length as u64,
-        prefix.w0 as u64,
-        prefix.w1 as u64,
-        prefix.w2 as u64,
-        prefix.w3 as u64,
+        p.prefix.w0 as u64,
+        p.prefix.w1 as u64,
+        p.prefix.w2 as u64,
+        p.prefix.w3 as u64,
         p.asn as u64,
         0,
     ]
@@ -149,19 +142,15 @@ fn seconds(version: RtrProtocolVersion, default: u32, interval: Option<u32>) -> 
 fn end_of_data_numbers(p: RtrEndOfData, consumed: usize) -> [u64; 12]
     ensures { result ≡ pdu_numbers (RtrPdu.EndOfData p) consumed }
 {
-    let version = p.version;
-    let refresh = p.refresh_interval;
-    let retry = p.retry_interval;
-    let expire = p.expire_interval;
     [
         7,
-        version.to_u8() as u64,
+        p.version.to_u8() as u64,
         consumed as u64,
         p.session_id as u64,
         p.serial_number as u64,
-        seconds(version, RtrEndOfData::DEFAULT_REFRESH, refresh),
-        seconds(version, RtrEndOfData::DEFAULT_RETRY, retry),
-        seconds(version, RtrEndOfData::DEFAULT_EXPIRE, expire),
+        seconds(p.version, RtrEndOfData::DEFAULT_REFRESH, p.refresh_interval),
+        seconds(p.version, RtrEndOfData::DEFAULT_RETRY, p.retry_interval),
+        seconds(p.version, RtrEndOfData::DEFAULT_EXPIRE, p.expire_interval),
         0,
         0,
         0,
@@ -172,10 +161,9 @@ fn end_of_data_numbers(p: RtrEndOfData, consumed: usize) -> [u64; 12]
 fn cache_reset_numbers(p: RtrCacheReset, consumed: usize) -> [u64; 12]
     ensures { result ≡ pdu_numbers (RtrPdu.CacheReset p) consumed }
 {
-    let version = p.version;
     [
         8,
-        version.to_u8() as u64,
+        p.version.to_u8() as u64,
         consumed as u64,
         0,
         0,
@@ -192,19 +180,16 @@ fn cache_reset_numbers(p: RtrCacheReset, consumed: usize) -> [u64; 12]
 fn router_key_numbers(p: RtrRouterKey, consumed: usize) -> [u64; 12]
     ensures { result ≡ pdu_numbers (RtrPdu.RouterKey p) consumed }
 {
-    let version = p.version;
-    let key = p.subject_key_identifier;
-    let info = p.subject_public_key_info;
     [
         9,
-        version.to_u8() as u64,
+        p.version.to_u8() as u64,
         consumed as u64,
         p.flags as u64,
-        key.start as u64,
-        key.len as u64,
+        p.subject_key_identifier.start as u64,
+        p.subject_key_identifier.len as u64,
         p.asn as u64,
-        info.start as u64,
-        info.len as u64,
+        p.subject_public_key_info.start as u64,
+        p.subject_public_key_info.len as u64,
         0,
         0,
         0,
@@ -214,19 +199,15 @@ fn router_key_numbers(p: RtrRouterKey, consumed: usize) -> [u64; 12]
 fn error_report_numbers(p: RtrErrorReport, consumed: usize) -> [u64; 12]
     ensures { result ≡ pdu_numbers (RtrPdu.ErrorReport p) consumed }
 {
-    let version = p.version;
-    let code = p.error_code;
-    let copy = p.erroneous_pdu;
-    let text = p.error_text;
     [
         10,
-        version.to_u8() as u64,
+        p.version.to_u8() as u64,
         consumed as u64,
-        code.to_u16() as u64,
-        copy.start as u64,
-        copy.len as u64,
-        text.start as u64,
-        text.len as u64,
+        p.error_code.to_u16() as u64,
+        p.erroneous_pdu.start as u64,
+        p.erroneous_pdu.len as u64,
+        p.error_text.start as u64,
+        p.error_text.len as u64,
         0,
         0,
         0,
