@@ -267,15 +267,14 @@ fn validate_state(answer: Result<RouteState, ValidateError>) -> u64
 fn asked_route(found: Option<Route>) -> Route
     ensures { result ≡ asked_route found }
 {
-    match found {
-        Some(q) => q,
-        None => Route {
-            prefix: RoutePrefix::IPv4(0),
-            length: 255,
-            origin: 0,
-        },
-    }
+    found.unwrap_or(Route {
+        prefix: RoutePrefix::IPv4(0),
+        length: 255,
+        origin: 0,
+    })
 }
+
+// What follows is C's: an answer is a number, and what it brings is written where the host says. So each call tells its own Result and Option by numbers.
 
 // ---- Codec
 

@@ -1,4 +1,6 @@
 -- A guess stands where its own numbers are those given, and nowhere else: said once, of any value that is known by its numbers. Assumes nothing.
+use Rattle.std.specs.Prelude.{Option, Some, None}
+use Rattle.std.specs.Bool.{then_some}
 use Prim.Native.Nat.{ℕ}
 use mathlib.Core.Bool.{Bool, true, false, cond}
 use mathlib.Core.List.{List}
@@ -11,11 +13,6 @@ module _ {A F : Type 0} (numbers : A → List ℕ) (known : A → F) (unknown : 
   -- what is answered of a guess
   abbrev pub found_as : A → List ℕ → F
   found_as x n = cond (alike (numbers x) n) (known x) unknown
-
-  -- the code guesses, writes the guess's numbers, tests them, and answers by the test
-  pub guess-by-test : (x guess : A) (said n : List ℕ) (t b : Bool) → x ≡ guess → said ≡ numbers x → t ≡ alike said n → t ≡ b → cond b (known x) unknown ≡ found_as guess n
-  guess-by-test x guess said n t b is p q e =
-      ap (λ (y : Bool). cond y (known x) unknown) (sym e ∙ q ∙ ap (λ (l : List ℕ). alike l n) p) ∙ ap (λ (y : A). found_as y n) is
 
   -- where a guess always fits, and what fits is guessed from its numbers, a value is known exactly by its numbers
   pub known-exactly : (Fits : A → Type 0) (guess : List ℕ → A) →
@@ -36,3 +33,13 @@ module _ {A F : Type 0} (numbers : A → List ℕ) (known : A → F) (unknown : 
           (λ i. found_as (guess (h.1 i)) (h.1 i))
           ∙ ap (λ (y : A). found_as y (numbers x)) (back x h.0)
           ∙ ap (λ (b : Bool). cond b (known x) unknown) (alike_refl (numbers x))
+
+-- the code guesses, writes the guess's numbers, tests them, and answers by the test
+module _ {A : Type 0} (numbers : A → List ℕ) where
+  pub guess-by-test : (x guess : A) (said n : List ℕ) (t : Bool) (r : Option A) → x ≡ guess → said ≡ numbers x → t ≡ alike said n → r ≡ then_some t x → r ≡ found_as numbers Some None guess n
+  guess-by-test x guess said n t r is p q e =
+      e ∙ by-case t x ∙ ap (λ (y : Bool). cond y (Some x) None) (q ∙ ap (λ (l : List ℕ). alike l n) p) ∙ ap (λ (y : A). found_as numbers Some None y n) is
+    where
+      by-case : (b : Bool) (y : A) → then_some b y ≡ cond b (Some y) None
+      by-case true y = refl
+      by-case false y = refl

@@ -3,6 +3,9 @@
 use mathlib.Core.Path.{◌≡◌}
 use Rattle.rtr_base.proofs.Unique.{only-this}
 use Rattle.rtr_numbers.proofs.at.Reads as at_reads
+use Rattle.rtr_numbers.proofs.U8Low.low.Reads as low8-reads
+use Rattle.rtr_numbers.proofs.U16Low.low.Reads as low16-reads
+use Rattle.rtr_numbers.proofs.U32Low.low.Reads as low32-reads
 use Rattle.rtr_numbers.proofs.put_numbers.Reads as put-numbers-reads
 use Rattle.rtr_numbers.proofs.is_alike.Reads as is-alike-reads
 use Rattle.rtr_numbers.proofs.error_value.Reads as error-value-reads
@@ -16,6 +19,15 @@ use Rattle.rtr_numbers.proofs.table_of.Reads as table-of-reads
 
 pub at-unique : (κs : _) (a : _) (r r' : _) (s s' : _) → at_reads.Post κs a r s → at_reads.Post κs a r' s' → r ≡ r'
 at-unique κs a r r' s s' p q = only-this r r' _ p q
+
+pub low8-unique : (κs : _) (a : _) (r r' : _) (s s' : _) → low8-reads.Post κs a r s → low8-reads.Post κs a r' s' → r ≡ r'
+low8-unique κs a r r' s s' p q = only-this r r' _ p q
+
+pub low16-unique : (κs : _) (a : _) (r r' : _) (s s' : _) → low16-reads.Post κs a r s → low16-reads.Post κs a r' s' → r ≡ r'
+low16-unique κs a r r' s s' p q = only-this r r' _ p q
+
+pub low32-unique : (κs : _) (a : _) (r r' : _) (s s' : _) → low32-reads.Post κs a r s → low32-reads.Post κs a r' s' → r ≡ r'
+low32-unique κs a r r' s s' p q = only-this r r' _ p q
 
 pub put-numbers-unique : (κs : _) (a : _) (r r' : _) (s s' : _) → put-numbers-reads.Post κs a r s → put-numbers-reads.Post κs a r' s' → (r ≡ r') × (s.0.now ≡ s'.0.now)
 put-numbers-unique κs a r r' s s' p q = (only-this r r' _ p.0 q.0, only-this s.0.now s'.0.now _ p.1 q.1)

@@ -2,12 +2,12 @@
 // read back is written again and compared, so numbers that are nobody's are told from every other. PDUs: rtr_pdu_numbers.
 #![tactic(auto)]
 
-ghost use Rattle.std.specs.Prelude.{cond, ◌≡◌, ◌%◌, ◌≤◌, eqb, length, get_or};
+ghost use Rattle.std.specs.Prelude.{ℕ, cond, ◌≡◌, ◌%◌, ◌≤◌, eqb, length, get_or};
 ghost use Rattle.rtr_codec.specs.Answers.{refusal};
 ghost use Rattle.rtr_stream.specs.Search.{stream_refusal};
 ghost use Rattle.rtr_receiver.specs.Promises.{stop_said, stopped_by, stage_of};
 ghost use Rattle.rtr_numbers.specs.Numbers.{table_or, table_number, table_numbers_of, note_number, note_session, note_serial, session_size, session_numbers, value_of};
-ghost use Rattle.rtr_numbers.specs.Back.{alike, loose_version, loose_code, loose_error, loose_stop, loose_phase, low_table, loose_table, loose_note, loose_session, session_of, table_found};
+ghost use Rattle.rtr_numbers.specs.Back.{alike, low8, low16, low32, loose_version, loose_code, loose_error, loose_stop, loose_phase, low_table, loose_table, loose_note, loose_session, session_of, table_found};
 ghost use Rattle.rtr_numbers.specs.Private.{phase_numbers};
 
 use rtr_codec::RtrError;
@@ -20,52 +20,36 @@ pub const SESSION_NUMBERS: usize = 24;
 
 // ---- Numbers, narrow and wide
 
-fn wide8(n: u8) -> u64
-    ensures { result ≡ n }
-{
-    n as u64
+// What the low bits of a number are, of a type that is narrower.
+pub trait Low {
+    ghost low: { ℕ → Self };
+
+    fn low(n: u64) -> Self
+        ensures { result ≡ low n };
 }
 
-fn wide16(n: u16) -> u64
-    ensures { result ≡ n }
-{
-    n as u64
+impl Low for u8 {
+    ghost low = { low8 };
+
+    fn low(n: u64) -> u8 {
+        (n % 256) as u8
+    }
 }
 
-fn wide32(n: u32) -> u64
-    ensures { result ≡ n }
-{
-    n as u64
+impl Low for u16 {
+    ghost low = { low16 };
+
+    fn low(n: u64) -> u16 {
+        (n % 65536) as u16
+    }
 }
 
-fn wide(n: usize) -> u64
-    ensures { result ≡ n }
-{
-    n as u64
-}
+impl Low for u32 {
+    ghost low = { low32 };
 
-fn low8(n: u64) -> u8
-    ensures { result ≡ n % 256 }
-{
-    (n % 256) as u8
-}
-
-fn low16(n: u64) -> u16
-    ensures { result ≡ n % 65536 }
-{
-    (n % 65536) as u16
-}
-
-fn low32(n: u64) -> u32
-    ensures { result ≡ n % 4294967296 }
-{
-    (n % 4294967296) as u32
-}
-
-fn size(n: u64) -> usize
-    ensures { result ≡ n }
-{
-    n as usize
+    fn low(n: u64) -> u32 {
+        (n % 4294967296) as u32
+    }
 }
 
 // The number at a place, 0 where there is none.
@@ -131,23 +115,23 @@ fn error_numbers(error: RtrError) -> PhaseNumbers
     match error {
         RtrError::IncompletePdu { available, needed } => stopped(
             1,
-            wide(available),
-            wide(needed),
+            available as u64,
+            needed as u64,
             0,
         ),
-        RtrError::InvalidPduType(kind) => stopped(3, wide8(kind), 0, 0),
-        RtrError::InvalidProtocolVersion(version) => stopped(2, wide8(version), 0, 0),
-        RtrError::InvalidErrorCode(code) => stopped(7, wide16(code), 0, 0),
+        RtrError::InvalidPduType(kind) => stopped(3, kind as u64, 0, 0),
+        RtrError::InvalidProtocolVersion(version) => stopped(2, version as u64, 0, 0),
+        RtrError::InvalidErrorCode(code) => stopped(7, code as u64, 0, 0),
         RtrError::InvalidLength {
             expected,
             actual,
             pdu_type,
-        } => stopped(4, wide32(expected), wide32(actual), wide8(pdu_type)),
+        } => stopped(4, expected as u64, actual as u64, pdu_type as u64),
         RtrError::InvalidPrefixLength {
             prefix_len,
             max_len,
             max_allowed,
-        } => stopped(6, wide8(prefix_len), wide8(max_len), wide8(max_allowed)),
+        } => stopped(6, prefix_len as u64, max_len as u64, max_allowed as u64),
         RtrError::InvalidUtf8 => stopped(8, 0, 0, 0),
         RtrError::RouterKeyInV0 => stopped(5, 0, 0, 0),
     }
@@ -158,7 +142,7 @@ fn stream_numbers(error: StreamError) -> PhaseNumbers
 {
     match error {
         StreamError::Read(read) => error_numbers(read),
-        StreamError::OverHold { length } => stopped(12, wide32(length), 0, 0),
+        StreamError::OverHold { length } => stopped(12, length as u64, 0, 0),
     }
 }
 
@@ -173,7 +157,7 @@ fn stop_numbers(stop: Stop) -> PhaseNumbers
         Stop::NotIn => stopped(16, 0, 0, 0),
         Stop::AlreadyIn => stopped(17, 0, 0, 0),
         Stop::RoomFull => stopped(18, 0, 0, 0),
-        Stop::ErrorReport(code) => stopped(19, wide16(code.to_u16()), 0, 0),
+        Stop::ErrorReport(code) => stopped(19, code.to_u16() as u64, 0, 0),
     }
 }
 
@@ -212,8 +196,8 @@ fn phase_numbers(phase: Phase) -> PhaseNumbers
         Phase::AskedFull => going(2, 0),
         Phase::AskedChange => going(3, 0),
         Phase::Loading(kind, session) => match kind {
-            LoadKind::Full => going(4, wide16(session)),
-            LoadKind::Change => going(5, wide16(session)),
+            LoadKind::Full => going(4, session as u64),
+            LoadKind::Change => going(5, session as u64),
         },
         Phase::Stopped(stop) => stop_numbers(stop),
     }
@@ -233,27 +217,24 @@ pub fn table_number(table: Option<Table>) -> u64
 pub fn table_or(table: Option<Table>) -> Table
     ensures { result ≡ table_or table }
 {
-    match table {
-        None => Table {
-            session: 0,
-            serial: 0,
-            refresh: 0,
-            retry: 0,
-            expire: 0,
-        },
-        Some(t) => t,
-    }
+    table.unwrap_or(Table {
+        session: 0,
+        serial: 0,
+        refresh: 0,
+        retry: 0,
+        expire: 0,
+    })
 }
 
 fn table_numbers(t: Table) -> [u64; 5]
     ensures { result ≡ table_numbers_of t }
 {
     [
-        wide16(t.session),
-        wide32(t.serial),
-        wide32(t.refresh),
-        wide32(t.retry),
-        wide32(t.expire),
+        t.session as u64,
+        t.serial as u64,
+        t.refresh as u64,
+        t.retry as u64,
+        t.expire as u64,
     ]
 }
 
@@ -271,7 +252,7 @@ fn note_session(note: Option<(u16, u32)>) -> u64
 {
     match note {
         None => 0,
-        Some((session, _)) => wide16(session),
+        Some((session, _)) => session as u64,
     }
 }
 
@@ -280,42 +261,35 @@ fn note_serial(note: Option<(u16, u32)>) -> u64
 {
     match note {
         None => 0,
-        Some((_, serial)) => wide32(serial),
+        Some((_, serial)) => serial as u64,
     }
 }
 
 fn session_numbers(s: Session) -> [u64; SESSION_NUMBERS]
     ensures { result ≡ session_numbers s }
 {
-    let life = s.life;
-    let version = life.version;
-    let phase = s.phase;
-    let table = s.table;
-    let note = s.note;
-    let live = s.live;
-    let working = s.working;
-    let p = phase_numbers(phase);
-    let t = table_or(table);
+    let p = phase_numbers(s.phase);
+    let t = table_or(s.table);
     [
-        wide8(version.to_u8()),
+        s.life.version.to_u8() as u64,
         p.phase,
         p.detail,
         p.first,
         p.second,
         p.third,
-        table_number(table),
-        wide16(t.session),
-        wide32(t.serial),
-        wide32(t.refresh),
-        wide32(t.retry),
-        wide32(t.expire),
-        note_number(note),
-        note_session(note),
-        note_serial(note),
-        wide(live.records),
-        wide(working.records),
-        wide(s.held),
-        wide(life.limit),
+        table_number(s.table),
+        t.session as u64,
+        t.serial as u64,
+        t.refresh as u64,
+        t.retry as u64,
+        t.expire as u64,
+        note_number(s.note),
+        note_session(s.note),
+        note_serial(s.note),
+        s.live.records as u64,
+        s.working.records as u64,
+        s.held as u64,
+        s.life.limit as u64,
         0,
         0,
         0,
@@ -349,11 +323,7 @@ pub fn loose_version(n: u64) -> RtrProtocolVersion
 pub fn loose_code(n: u64) -> RtrErrorCode
     ensures { result ≡ loose_code n }
 {
-    let found = RtrErrorCode::from_u16(low16(n));
-    match found {
-        Some(code) => code,
-        None => RtrErrorCode::CorruptData,
-    }
+    RtrErrorCode::from_u16(u16::low(n)).unwrap_or(RtrErrorCode::CorruptData)
 }
 
 fn loose_error(number: u64, first: u64, second: u64, third: u64) -> RtrError
@@ -361,23 +331,23 @@ fn loose_error(number: u64, first: u64, second: u64, third: u64) -> RtrError
 {
     match number {
         1 => RtrError::IncompletePdu {
-            available: size(first),
-            needed: size(second),
+            available: first as usize,
+            needed: second as usize,
         },
-        2 => RtrError::InvalidProtocolVersion(low8(first)),
-        3 => RtrError::InvalidPduType(low8(first)),
+        2 => RtrError::InvalidProtocolVersion(u8::low(first)),
+        3 => RtrError::InvalidPduType(u8::low(first)),
         4 => RtrError::InvalidLength {
-            expected: low32(first),
-            actual: low32(second),
-            pdu_type: low8(third),
+            expected: u32::low(first),
+            actual: u32::low(second),
+            pdu_type: u8::low(third),
         },
         5 => RtrError::RouterKeyInV0,
         6 => RtrError::InvalidPrefixLength {
-            prefix_len: low8(first),
-            max_len: low8(second),
-            max_allowed: low8(third),
+            prefix_len: u8::low(first),
+            max_len: u8::low(second),
+            max_allowed: u8::low(third),
         },
-        7 => RtrError::InvalidErrorCode(low16(first)),
+        7 => RtrError::InvalidErrorCode(u16::low(first)),
         _ => RtrError::InvalidUtf8,
     }
 }
@@ -387,7 +357,7 @@ fn loose_stop(number: u64, first: u64, second: u64, third: u64) -> Stop
 {
     match number {
         12 => Stop::Stream(StreamError::OverHold {
-            length: low32(first),
+            length: u32::low(first),
         }),
         13 => Stop::OutOfTurn,
         14 => Stop::OtherVersion,
@@ -410,8 +380,8 @@ fn loose_phase(n: &[u64]) -> Phase
         1 => Phase::MustReset,
         2 => Phase::AskedFull,
         3 => Phase::AskedChange,
-        4 => Phase::Loading(LoadKind::Full, low16(detail)),
-        5 => Phase::Loading(LoadKind::Change, low16(detail)),
+        4 => Phase::Loading(LoadKind::Full, u16::low(detail)),
+        5 => Phase::Loading(LoadKind::Change, u16::low(detail)),
         _ => Phase::Stopped(loose_stop(detail, at(n, 3), at(n, 4), at(n, 5))),
     }
 }
@@ -422,11 +392,11 @@ fn low_table(n: &[u64], from: usize) -> Table
     ensures { result ≡ low_table n.now from }
 {
     Table {
-        session: low16(at(n, from)),
-        serial: low32(at(n, from + 1)),
-        refresh: low32(at(n, from + 2)),
-        retry: low32(at(n, from + 3)),
-        expire: low32(at(n, from + 4)),
+        session: u16::low(at(n, from)),
+        serial: u32::low(at(n, from + 1)),
+        refresh: u32::low(at(n, from + 2)),
+        retry: u32::low(at(n, from + 3)),
+        expire: u32::low(at(n, from + 4)),
     }
 }
 
@@ -445,7 +415,7 @@ fn loose_note(n: &[u64]) -> Option<(u16, u32)>
     if at(n, 12) == 0 {
         return None;
     }
-    Some((low16(at(n, 13)), low32(at(n, 14))))
+    Some((u16::low(at(n, 13)), u32::low(at(n, 14))))
 }
 
 fn loose_session(n: &[u64]) -> Session
@@ -454,18 +424,18 @@ fn loose_session(n: &[u64]) -> Session
     Session {
         life: Life {
             version: loose_version(at(n, 0)),
-            limit: size(at(n, 18)),
+            limit: at(n, 18) as usize,
         },
         phase: loose_phase(n),
         table: loose_table(n),
         note: loose_note(n),
         live: Counts {
-            records: size(at(n, 15)),
+            records: at(n, 15) as usize,
         },
         working: Counts {
-            records: size(at(n, 16)),
+            records: at(n, 16) as usize,
         },
-        held: size(at(n, 17)),
+        held: at(n, 17) as usize,
     }
 }
 
@@ -475,10 +445,7 @@ pub fn session_of(numbers: &[u64]) -> Option<Session>
 {
     let s = loose_session(numbers);
     let said = session_numbers(s);
-    if is_alike(&said, numbers) {
-        return Some(s);
-    }
-    None
+    is_alike(&said, numbers).then_some(s)
 }
 
 // The table that says these numbers; None where none does.
@@ -487,8 +454,5 @@ pub fn table_of(numbers: &[u64]) -> Option<Table>
 {
     let t = low_table(numbers, 0);
     let said = table_numbers(t);
-    if is_alike(&said, numbers) {
-        return Some(t);
-    }
-    None
+    is_alike(&said, numbers).then_some(t)
 }

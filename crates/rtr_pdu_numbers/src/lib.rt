@@ -2,79 +2,28 @@
 // compared, so numbers that are nobody's are told from every other. Sessions: rtr_numbers.
 #![tactic(auto)]
 
-ghost use Rattle.std.specs.Prelude.{cond, ◌≡◌, ◌%◌, eqb, length, get_or};
+ghost use Rattle.std.specs.Prelude.{cond, ◌≡◌, eqb, length, get_or};
 ghost use Rattle.rtr_numbers.specs.Back.{loose_version};
 ghost use Rattle.rtr_pdu_numbers.specs.Numbers.{pdu_numbers, end_seconds};
 ghost use Rattle.rtr_pdu_numbers.specs.Back.{loose_interval, loose_place, loose_notify, loose_query, loose_response, loose_ipv4, loose_ipv6, loose_end, loose_key, loose_report, loose_pdu, pdu_of};
 
 use rtr_models::*;
-use rtr_numbers::{at, is_alike, loose_code, loose_version, put_numbers};
+use rtr_numbers::{Low, at, is_alike, loose_code, loose_version, put_numbers};
 
 // How many numbers a PDU is.
 pub const PDU_NUMBERS: usize = 12;
-
-// ---- Numbers, narrow and wide
-
-fn wide8(n: u8) -> u64
-    ensures { result ≡ n }
-{
-    n as u64
-}
-
-fn wide16(n: u16) -> u64
-    ensures { result ≡ n }
-{
-    n as u64
-}
-
-fn wide32(n: u32) -> u64
-    ensures { result ≡ n }
-{
-    n as u64
-}
-
-fn wide(n: usize) -> u64
-    ensures { result ≡ n }
-{
-    n as u64
-}
-
-fn low8(n: u64) -> u8
-    ensures { result ≡ n % 256 }
-{
-    (n % 256) as u8
-}
-
-fn low16(n: u64) -> u16
-    ensures { result ≡ n % 65536 }
-{
-    (n % 65536) as u16
-}
-
-fn low32(n: u64) -> u32
-    ensures { result ≡ n % 4294967296 }
-{
-    (n % 4294967296) as u32
-}
-
-fn size(n: u64) -> usize
-    ensures { result ≡ n }
-{
-    n as usize
-}
 
 // ---- A PDU's numbers, one function for each kind
 
 fn serial_notify_numbers(p: RtrSerialNotify, consumed: usize) -> [u64; 12]
     ensures { result ≡ pdu_numbers (RtrPdu.SerialNotify p) consumed }
 {
-    let version = p.version;
     [
         0,
-        wide8(version.to_u8()),
-        wide(consumed),
-        wide16(p.session_id),
-        wide32(p.serial_number),
+        p.version.to_u8() as u64,
+        consumed as u64,
+        p.session_id as u64,
+        p.serial_number as u64,
         0,
         0,
         0,
@@ -88,13 +37,12 @@ fn serial_notify_numbers(p: RtrSerialNotify, consumed: usize) -> [u64; 12]
 fn serial_query_numbers(p: RtrSerialQuery, consumed: usize) -> [u64; 12]
     ensures { result ≡ pdu_numbers (RtrPdu.SerialQuery p) consumed }
 {
-    let version = p.version;
     [
         1,
-        wide8(version.to_u8()),
-        wide(consumed),
-        wide16(p.session_id),
-        wide32(p.serial_number),
+        p.version.to_u8() as u64,
+        consumed as u64,
+        p.session_id as u64,
+        p.serial_number as u64,
         0,
         0,
         0,
@@ -108,11 +56,10 @@ fn serial_query_numbers(p: RtrSerialQuery, consumed: usize) -> [u64; 12]
 fn reset_query_numbers(p: RtrResetQuery, consumed: usize) -> [u64; 12]
     ensures { result ≡ pdu_numbers (RtrPdu.ResetQuery p) consumed }
 {
-    let version = p.version;
     [
         2,
-        wide8(version.to_u8()),
-        wide(consumed),
+        p.version.to_u8() as u64,
+        consumed as u64,
         0,
         0,
         0,
@@ -128,12 +75,11 @@ fn reset_query_numbers(p: RtrResetQuery, consumed: usize) -> [u64; 12]
 fn cache_response_numbers(p: RtrCacheResponse, consumed: usize) -> [u64; 12]
     ensures { result ≡ pdu_numbers (RtrPdu.CacheResponse p) consumed }
 {
-    let version = p.version;
     [
         3,
-        wide8(version.to_u8()),
-        wide(consumed),
-        wide16(p.session_id),
+        p.version.to_u8() as u64,
+        consumed as u64,
+        p.session_id as u64,
         0,
         0,
         0,
@@ -148,16 +94,15 @@ fn cache_response_numbers(p: RtrCacheResponse, consumed: usize) -> [u64; 12]
 fn ipv4_prefix_numbers(p: RtrIPv4Prefix, consumed: usize) -> [u64; 12]
     ensures { result ≡ pdu_numbers (RtrPdu.IPv4Prefix p) consumed }
 {
-    let version = p.version;
     [
         4,
-        wide8(version.to_u8()),
-        wide(consumed),
-        wide8(p.flags),
-        wide8(p.prefix_length),
-        wide8(p.max_length),
-        wide32(p.prefix),
-        wide32(p.asn),
+        p.version.to_u8() as u64,
+        consumed as u64,
+        p.flags as u64,
+        p.prefix_length as u64,
+        p.max_length as u64,
+        p.prefix as u64,
+        p.asn as u64,
         0,
         0,
         0,
@@ -168,20 +113,18 @@ fn ipv4_prefix_numbers(p: RtrIPv4Prefix, consumed: usize) -> [u64; 12]
 fn ipv6_prefix_numbers(p: RtrIPv6Prefix, consumed: usize) -> [u64; 12]
     ensures { result ≡ pdu_numbers (RtrPdu.IPv6Prefix p) consumed }
 {
-    let version = p.version;
-    let prefix = p.prefix;
     [
         6,
-        wide8(version.to_u8()),
-        wide(consumed),
-        wide8(p.flags),
-        wide8(p.prefix_length),
-        wide8(p.max_length),
-        wide32(prefix.w0),
-        wide32(prefix.w1),
-        wide32(prefix.w2),
-        wide32(prefix.w3),
-        wide32(p.asn),
+        p.version.to_u8() as u64,
+        consumed as u64,
+        p.flags as u64,
+        p.prefix_length as u64,
+        p.max_length as u64,
+        p.prefix.w0 as u64,
+        p.prefix.w1 as u64,
+        p.prefix.w2 as u64,
+        p.prefix.w3 as u64,
+        p.asn as u64,
         0,
     ]
 }
@@ -192,26 +135,22 @@ fn seconds(version: RtrProtocolVersion, default: u32, interval: Option<u32>) -> 
 {
     match version {
         RtrProtocolVersion::V0 => 0,
-        RtrProtocolVersion::V1 => wide32(interval.unwrap_or(default)),
+        RtrProtocolVersion::V1 => interval.unwrap_or(default) as u64,
     }
 }
 
 fn end_of_data_numbers(p: RtrEndOfData, consumed: usize) -> [u64; 12]
     ensures { result ≡ pdu_numbers (RtrPdu.EndOfData p) consumed }
 {
-    let version = p.version;
-    let refresh = p.refresh_interval;
-    let retry = p.retry_interval;
-    let expire = p.expire_interval;
     [
         7,
-        wide8(version.to_u8()),
-        wide(consumed),
-        wide16(p.session_id),
-        wide32(p.serial_number),
-        seconds(version, RtrEndOfData::DEFAULT_REFRESH, refresh),
-        seconds(version, RtrEndOfData::DEFAULT_RETRY, retry),
-        seconds(version, RtrEndOfData::DEFAULT_EXPIRE, expire),
+        p.version.to_u8() as u64,
+        consumed as u64,
+        p.session_id as u64,
+        p.serial_number as u64,
+        seconds(p.version, RtrEndOfData::DEFAULT_REFRESH, p.refresh_interval),
+        seconds(p.version, RtrEndOfData::DEFAULT_RETRY, p.retry_interval),
+        seconds(p.version, RtrEndOfData::DEFAULT_EXPIRE, p.expire_interval),
         0,
         0,
         0,
@@ -222,11 +161,10 @@ fn end_of_data_numbers(p: RtrEndOfData, consumed: usize) -> [u64; 12]
 fn cache_reset_numbers(p: RtrCacheReset, consumed: usize) -> [u64; 12]
     ensures { result ≡ pdu_numbers (RtrPdu.CacheReset p) consumed }
 {
-    let version = p.version;
     [
         8,
-        wide8(version.to_u8()),
-        wide(consumed),
+        p.version.to_u8() as u64,
+        consumed as u64,
         0,
         0,
         0,
@@ -242,19 +180,16 @@ fn cache_reset_numbers(p: RtrCacheReset, consumed: usize) -> [u64; 12]
 fn router_key_numbers(p: RtrRouterKey, consumed: usize) -> [u64; 12]
     ensures { result ≡ pdu_numbers (RtrPdu.RouterKey p) consumed }
 {
-    let version = p.version;
-    let key = p.subject_key_identifier;
-    let info = p.subject_public_key_info;
     [
         9,
-        wide8(version.to_u8()),
-        wide(consumed),
-        wide8(p.flags),
-        wide(key.start),
-        wide(key.len),
-        wide32(p.asn),
-        wide(info.start),
-        wide(info.len),
+        p.version.to_u8() as u64,
+        consumed as u64,
+        p.flags as u64,
+        p.subject_key_identifier.start as u64,
+        p.subject_key_identifier.len as u64,
+        p.asn as u64,
+        p.subject_public_key_info.start as u64,
+        p.subject_public_key_info.len as u64,
         0,
         0,
         0,
@@ -264,19 +199,15 @@ fn router_key_numbers(p: RtrRouterKey, consumed: usize) -> [u64; 12]
 fn error_report_numbers(p: RtrErrorReport, consumed: usize) -> [u64; 12]
     ensures { result ≡ pdu_numbers (RtrPdu.ErrorReport p) consumed }
 {
-    let version = p.version;
-    let code = p.error_code;
-    let copy = p.erroneous_pdu;
-    let text = p.error_text;
     [
         10,
-        wide8(version.to_u8()),
-        wide(consumed),
-        wide16(code.to_u16()),
-        wide(copy.start),
-        wide(copy.len),
-        wide(text.start),
-        wide(text.len),
+        p.version.to_u8() as u64,
+        consumed as u64,
+        p.error_code.to_u16() as u64,
+        p.erroneous_pdu.start as u64,
+        p.erroneous_pdu.len as u64,
+        p.error_text.start as u64,
+        p.error_text.len as u64,
         0,
         0,
         0,
@@ -316,7 +247,7 @@ fn loose_interval(version: RtrProtocolVersion, n: u64) -> Option<u32>
 {
     match version {
         RtrProtocolVersion::V0 => None,
-        RtrProtocolVersion::V1 => Some(low32(n)),
+        RtrProtocolVersion::V1 => Some(u32::low(n)),
     }
 }
 
@@ -324,8 +255,8 @@ fn loose_place(n: &[u64], start: usize, len: usize) -> Place
     ensures { result ≡ loose_place n.now start len }
 {
     Place {
-        start: size(at(n, start)),
-        len: size(at(n, len)),
+        start: at(n, start) as usize,
+        len: at(n, len) as usize,
     }
 }
 
@@ -334,8 +265,8 @@ fn loose_notify(version: RtrProtocolVersion, n: &[u64]) -> RtrPdu
 {
     RtrPdu::SerialNotify(RtrSerialNotify {
         version,
-        session_id: low16(at(n, 3)),
-        serial_number: low32(at(n, 4)),
+        session_id: u16::low(at(n, 3)),
+        serial_number: u32::low(at(n, 4)),
     })
 }
 
@@ -344,8 +275,8 @@ fn loose_query(version: RtrProtocolVersion, n: &[u64]) -> RtrPdu
 {
     RtrPdu::SerialQuery(RtrSerialQuery {
         version,
-        session_id: low16(at(n, 3)),
-        serial_number: low32(at(n, 4)),
+        session_id: u16::low(at(n, 3)),
+        serial_number: u32::low(at(n, 4)),
     })
 }
 
@@ -354,7 +285,7 @@ fn loose_response(version: RtrProtocolVersion, n: &[u64]) -> RtrPdu
 {
     RtrPdu::CacheResponse(RtrCacheResponse {
         version,
-        session_id: low16(at(n, 3)),
+        session_id: u16::low(at(n, 3)),
     })
 }
 
@@ -363,11 +294,11 @@ fn loose_ipv4(version: RtrProtocolVersion, n: &[u64]) -> RtrPdu
 {
     RtrPdu::IPv4Prefix(RtrIPv4Prefix {
         version,
-        flags: low8(at(n, 3)),
-        prefix_length: low8(at(n, 4)),
-        max_length: low8(at(n, 5)),
-        prefix: low32(at(n, 6)),
-        asn: low32(at(n, 7)),
+        flags: u8::low(at(n, 3)),
+        prefix_length: u8::low(at(n, 4)),
+        max_length: u8::low(at(n, 5)),
+        prefix: u32::low(at(n, 6)),
+        asn: u32::low(at(n, 7)),
     })
 }
 
@@ -376,16 +307,16 @@ fn loose_ipv6(version: RtrProtocolVersion, n: &[u64]) -> RtrPdu
 {
     RtrPdu::IPv6Prefix(RtrIPv6Prefix {
         version,
-        flags: low8(at(n, 3)),
-        prefix_length: low8(at(n, 4)),
-        max_length: low8(at(n, 5)),
+        flags: u8::low(at(n, 3)),
+        prefix_length: u8::low(at(n, 4)),
+        max_length: u8::low(at(n, 5)),
         prefix: Ipv6Addr {
-            w0: low32(at(n, 6)),
-            w1: low32(at(n, 7)),
-            w2: low32(at(n, 8)),
-            w3: low32(at(n, 9)),
+            w0: u32::low(at(n, 6)),
+            w1: u32::low(at(n, 7)),
+            w2: u32::low(at(n, 8)),
+            w3: u32::low(at(n, 9)),
         },
-        asn: low32(at(n, 10)),
+        asn: u32::low(at(n, 10)),
     })
 }
 
@@ -394,8 +325,8 @@ fn loose_end(version: RtrProtocolVersion, n: &[u64]) -> RtrPdu
 {
     RtrPdu::EndOfData(RtrEndOfData {
         version,
-        session_id: low16(at(n, 3)),
-        serial_number: low32(at(n, 4)),
+        session_id: u16::low(at(n, 3)),
+        serial_number: u32::low(at(n, 4)),
         refresh_interval: loose_interval(version, at(n, 5)),
         retry_interval: loose_interval(version, at(n, 6)),
         expire_interval: loose_interval(version, at(n, 7)),
@@ -407,9 +338,9 @@ fn loose_key(version: RtrProtocolVersion, n: &[u64]) -> RtrPdu
 {
     RtrPdu::RouterKey(RtrRouterKey {
         version,
-        flags: low8(at(n, 3)),
+        flags: u8::low(at(n, 3)),
         subject_key_identifier: loose_place(n, 4, 5),
-        asn: low32(at(n, 6)),
+        asn: u32::low(at(n, 6)),
         subject_public_key_info: loose_place(n, 7, 8),
     })
 }
@@ -449,10 +380,7 @@ pub fn pdu_of(numbers: &[u64]) -> Option<(RtrPdu, usize)>
     ensures { result ≡ pdu_of numbers.now }
 {
     let pdu = loose_pdu(numbers);
-    let consumed = size(at(numbers, 2));
+    let consumed = at(numbers, 2) as usize;
     let said = pdu_numbers(pdu, consumed);
-    if is_alike(&said, numbers) {
-        return Some((pdu, consumed));
-    }
-    None
+    is_alike(&said, numbers).then_some((pdu, consumed))
 }

@@ -1,23 +1,12 @@
 -- `table_of` guesses, writes the guess again and compares. Assumes nothing.
-use Rattle.std.specs.Prelude.{Some, None}
-use mathlib.Core.Bool.{true, false}
 use Rattle.rtr_numbers.specs.Numbers.{table_numbers_of}
 use Rattle.rtr_numbers.specs.Back.{table_if}
 use Rattle.rtr_numbers.proofs.Founds.{guess-by-test}
 use Rattle.rtr_numbers.proofs.table_of.Goals as goal
-
-pub returns-then-is_alike : goal.returns-then-is_alike
-unfolding table_if
-returns-then-is_alike c =
-    let guess = c.low_table-t in
-    let said = c.table_numbers-said in
-    let test = c.is_alike in
-    guess-by-test table_numbers_of Some None _ _ _ _ test.result true guess.ensures said.ensures test.ensures c.if-is_alike.true
 
 pub returns : goal.returns
 unfolding table_if
 returns c =
     let guess = c.low_table-t in
     let said = c.table_numbers-said in
-    let test = c.is_alike in
-    guess-by-test table_numbers_of Some None _ _ _ _ test.result false guess.ensures said.ensures test.ensures c.if-is_alike.false
+    guess-by-test table_numbers_of _ _ _ _ _ c.then_some.result guess.ensures said.ensures c.is_alike.ensures c.then_some.ensures

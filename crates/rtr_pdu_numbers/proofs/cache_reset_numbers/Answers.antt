@@ -1,12 +1,7 @@
--- The numbers of a Cache Reset, field by field. Assumes nothing.
-use mathlib.Core.Path.{◌∙◌}
-use mathlib.Core.List.{[], ◌∷◌}
+-- The numbers of a Cache Reset. Assumes nothing.
 use Rattle.rtr_pdu_numbers.specs.Numbers.{pdu_numbers}
 use Rattle.rtr_pdu_numbers.proofs.cache_reset_numbers.Goals as goal
 
 pub returns : goal.returns
 unfolding pdu_numbers
-returns c =
-    let version = c.wide8.ensures ∙ c.to_u8.ensures in
-    let consumed = c.wide.ensures in
-    λ i. 8 ∷ version i ∷ consumed i ∷ 0 ∷ 0 ∷ 0 ∷ 0 ∷ 0 ∷ 0 ∷ 0 ∷ 0 ∷ 0 ∷ []
+returns c = cc

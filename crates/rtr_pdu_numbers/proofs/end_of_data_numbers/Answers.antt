@@ -1,17 +1,7 @@
--- The numbers of an End of Data, field by field. Assumes nothing.
-use mathlib.Core.Path.{◌∙◌}
-use mathlib.Core.List.{[], ◌∷◌}
+-- The numbers of an End of Data. Assumes nothing.
 use Rattle.rtr_pdu_numbers.specs.Numbers.{pdu_numbers}
 use Rattle.rtr_pdu_numbers.proofs.end_of_data_numbers.Goals as goal
 
 pub returns : goal.returns
 unfolding pdu_numbers
-returns c =
-    let version = c.wide8.ensures ∙ c.to_u8.ensures in
-    let consumed = c.wide.ensures in
-    let session = c.wide16.ensures in
-    let serial = c.wide32.ensures in
-    let refresh = c.seconds.ensures in
-    let retry = c.seconds-2.ensures in
-    let expire = c.seconds-3.ensures in
-    λ i. 7 ∷ version i ∷ consumed i ∷ session i ∷ serial i ∷ refresh i ∷ retry i ∷ expire i ∷ 0 ∷ 0 ∷ 0 ∷ 0 ∷ []
+returns c = cc

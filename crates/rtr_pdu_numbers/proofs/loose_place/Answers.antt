@@ -4,6 +4,6 @@ use Rattle.rtr_pdu_numbers.proofs.loose_place.Goals as goal
 
 pub returns : goal.returns
 returns c =
-    let start = c.size.ensures ∙ c.at.ensures in
-    let len = c.size-2.ensures ∙ c.at-2.ensures in
+    let start = c.at.ensures in
+    let len = c.at-2.ensures in
     λ i. record { start = start i; len = len i }

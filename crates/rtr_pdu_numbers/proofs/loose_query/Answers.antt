@@ -6,6 +6,6 @@ use Rattle.rtr_pdu_numbers.proofs.loose_query.Goals as goal
 
 pub returns : goal.returns
 returns c =
-    let session-id = c.low16.ensures ∙ ap (λ (n : ℕ). n % 65536) c.at.ensures in
-    let serial-number = c.low32.ensures ∙ ap (λ (n : ℕ). n % 4294967296) c.at-2.ensures in
+    let session-id = c.low.ensures ∙ ap (λ (n : ℕ). n % 65536) c.at.ensures in
+    let serial-number = c.low-2.ensures ∙ ap (λ (n : ℕ). n % 4294967296) c.at-2.ensures in
     λ i. SerialQuery (record { version = c.args.version; session_id = session-id i; serial_number = serial-number i })

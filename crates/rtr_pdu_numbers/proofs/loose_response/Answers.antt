@@ -6,5 +6,5 @@ use Rattle.rtr_pdu_numbers.proofs.loose_response.Goals as goal
 
 pub returns : goal.returns
 returns c =
-    let session-id = c.low16.ensures ∙ ap (λ (n : ℕ). n % 65536) c.at.ensures in
+    let session-id = c.low.ensures ∙ ap (λ (n : ℕ). n % 65536) c.at.ensures in
     λ i. CacheResponse (record { version = c.args.version; session_id = session-id i })

@@ -1,17 +1,11 @@
 -- `pdu_of` guesses, writes the guess again and compares. Assumes nothing.
-use mathlib.Core.Bool.{true, false}
 use mathlib.Core.Path.{ap, ◌∙◌}
 use Rattle.rtr_models.specs.declared.RtrPdu.{RtrPdu}
 use Rattle.rtr_pdu_numbers.specs.Back.{pdu_if}
 use Rattle.rtr_pdu_numbers.proofs.Founds.{pdu-by-test}
 use Rattle.rtr_pdu_numbers.proofs.pdu_of.Goals as goal
 
-pub returns-then-is_alike : goal.returns-then-is_alike
-returns-then-is_alike c =
-    pdu-by-test c.loose_pdu-pdu.result c.size-consumed.result c.pdu_numbers-said.result c.args.numbers.now c.is_alike.result true (c.size-consumed.ensures ∙ c.at.ensures) c.pdu_numbers-said.ensures c.is_alike.ensures c.if-is_alike.true
-    ∙ ap (λ (p : RtrPdu). pdu_if p c.args.numbers.now) c.loose_pdu-pdu.ensures
-
 pub returns : goal.returns
 returns c =
-    pdu-by-test c.loose_pdu-pdu.result c.size-consumed.result c.pdu_numbers-said.result c.args.numbers.now c.is_alike.result false (c.size-consumed.ensures ∙ c.at.ensures) c.pdu_numbers-said.ensures c.is_alike.ensures c.if-is_alike.false
+    pdu-by-test c.loose_pdu-pdu.result _ c.pdu_numbers-said.result c.args.numbers.now c.is_alike.result c.then_some.result c.at-consumed.ensures c.pdu_numbers-said.ensures c.is_alike.ensures c.then_some.ensures
     ∙ ap (λ (p : RtrPdu). pdu_if p c.args.numbers.now) c.loose_pdu-pdu.ensures

@@ -10,4 +10,4 @@ or-default None default = refl
 or-default (Some n) default = refl
 
 pub returns-in-V1 : goal.returns-in-V1
-returns-in-V1 c = rw c.in-V1.is (c.wide32.ensures ∙ c.unwrap_or.ensures ∙ or-default c.args.interval c.args.default)
+returns-in-V1 c = rw c.in-V1.is (c.unwrap_or.ensures ∙ or-default c.args.interval c.args.default)
