@@ -6,7 +6,7 @@ ghost use Rattle.std.specs.Prelude.{[], ◌≡◌, ◌+◌, ◌*◌, ◌≤◌, 
 ghost use Rattle.rtr_codec.specs.Reading.{in_use};
 ghost use Rattle.rtr_encode.specs.Answers.{number_of};
 ghost use Rattle.rtr_encode.specs.Encode.{encoding};
-ghost use Rattle.rtr_room.specs.Room.{records, record_at};
+ghost use Rattle.rtr_room.specs.Room.{records};
 ghost use Rattle.rtr_receiver.specs.declared.LoadKind.{LoadKind};
 ghost use Rattle.rtr_listing.specs.Private.{Fits, Put};
 ghost use Rattle.rtr_listing.specs.Promises.{puts};
@@ -186,17 +186,6 @@ fn end_size(version: RtrProtocolVersion) -> usize
 
 // ---- One side: the records of a that b has not
 
-// Record i of a room that has it.
-fn record_of(room: &[u32], i: usize) -> Record
-    requires { 6 * i + 6 ≤ length room.now }
-    ensures { result ≡ record_at room.now i }
-{
-    match get(room, i) {
-        Some(r) => r,
-        None => Record::ipv4(0, 0, 0, 0),
-    }
-}
-
 fn side_length(a: &[u32], a_count: usize, b: &[u32], b_count: usize) -> usize
     requires { (IsRoom a.now a_count × IsRoom b.now b_count) × Few a_count }
     ensures { ((version : _) (announced : _) → result ≡ length (side_bytes version announced (records a_count a.now) (records b_count b.now))) × (result ≤ 32 * a_count) }
@@ -204,19 +193,11 @@ fn side_length(a: &[u32], a_count: usize, b: &[u32], b_count: usize) -> usize
     let mut sum = 0;
     let mut i = 0;
     // No hand count: the next place is behind the one that was found.
-    while i < a_count {
-        match next_only(a, a_count, b, b_count, i) {
-            Ok(Some(p)) => {
-                sum += prefix_size(record_of(a, p));
-                i = p + 1;
-            }
-            Ok(None) => {
-                return sum;
-            }
-            Err(_) => {
-                return sum;
-            }
-        }
+    while let Ok(Some(p)) = next_only(a, a_count, b, b_count, i)
+        && let Some(r) = get(a, p)
+    {
+        sum += prefix_size(r);
+        i = p + 1;
     }
     sum
 }
@@ -237,19 +218,11 @@ fn put_side(
     let mut next = at;
     let mut i = 0;
     // No hand count: the next place is behind the one that was found.
-    while i < a_count {
-        match next_only(a, a_count, b, b_count, i) {
-            Ok(Some(p)) => {
-                next = put_prefix(out, next, version, announced, record_of(a, p));
-                i = p + 1;
-            }
-            Ok(None) => {
-                return next;
-            }
-            Err(_) => {
-                return next;
-            }
-        }
+    while let Ok(Some(p)) = next_only(a, a_count, b, b_count, i)
+        && let Some(r) = get(a, p)
+    {
+        next = put_prefix(out, next, version, announced, r);
+        i = p + 1;
     }
     next
 }

@@ -2,22 +2,25 @@
 use Rattle.std.specs.Prelude.{Result, Ok, Err, Option, Some, None}
 use Prim.Native.Nat.{ℕ, ◌+◌, ◌*◌, ◌≤◌}
 use mathlib.Core.List.{List, []}
-use mathlib.Core.Path.{◌≡◌}
+use mathlib.Core.Path.{◌≡◌, sym, ◌∙◌}
 use native.Mathlib.Omega.{arith}
 use lib.ListN.{length, drop}
-use Rattle.rtr_room.specs.Room.{records}
+use Rattle.rtr_room.specs.Room.{records, record_at, record_found}
 use Rattle.rtr_room.specs.declared.Record.{Record}
-use Rattle.rtr_room.proofs.Laws.{rules-size}
+use Rattle.rtr_room.proofs.Laws.{rules-size, found_inside}
 use Rattle.rtr_receiver.specs.Promises.{record_limit}
 use Rattle.rtr_changes.specs.Changes.{without, next_only, only_said}
-use Rattle.rtr_changes.proofs.Laws.{room-of-rules, next-at, next-nothing, next-never-22, behind-all}
+use Rattle.rtr_changes.proofs.Laws.{room-of-rules, next-at, next-nothing, next-never-22}
 use Rattle.rtr_changes.proofs.Places.{RoomOf, NextAt}
 use Rattle.rtr_diffs.specs.Private.{IsRoom}
 use Rattle.rtr_room.specs.declared.NotARoom.{NotARoom}
 
--- behind the count nothing is left
-pub none-behind : (a : List ℕ) (m i : ℕ) (t : List Record) → IsRoom a m → m ≤ i → without (drop i (records m a)) t ≡ []
-none-behind a m i t ruled h = behind-all t (room-of-rules record_limit m a ruled) i h
+-- what a room has at a place is one record
+same-record : (r r' : Record) → Some r ≡ Some r' → r' ≡ r
+same-record r r' e = cc
+
+not-none : (r : Record) → Some r ≡ None → ⊥
+not-none r e = let z : ◌≡◌ {A = ℕ} 0 1 = cc in omega arith
 
 -- the search was asked on two rooms
 module _ (a b : List ℕ) (m n i : ℕ) (answer : Result (Option ℕ) NotARoom) (rooms : IsRoom a m × IsRoom b n) (says : only_said answer ≡ next_only a m b n i) where
@@ -30,11 +33,17 @@ module _ (a b : List ℕ) (m n i : ℕ) (answer : Result (Option ℕ) NotARoom) 
   pub found-next : (p : ℕ) → answer ≡ Ok (Some p) → NextAt (records m a) (records n b) a m i p
   found-next p e = next-at one other i answer says p e
 
-  -- which has all its numbers
-  pub has-record : (p : ℕ) → answer ≡ Ok (Some p) → 6 * p + 6 ≤ length a
+  -- which has all its numbers, so that it is found
+  has-record : (p : ℕ) → answer ≡ Ok (Some p) → 6 * p + 6 ≤ length a
   has-record p e =
       let size = rules-size record_limit m a rooms.0 in
       omega (arith, (found-next p e).below, size.0, size.1)
+
+  pub the-record : (p : ℕ) (r : Record) → answer ≡ Ok (Some p) → record_found a p ≡ Some r → r ≡ record_at a p
+  the-record p r e f = same-record _ r (sym (found_inside a p (has-record p e)) ∙ f)
+
+  pub never-lost : (p : ℕ) → answer ≡ Ok (Some p) → record_found a p ≡ None → ⊥
+  never-lost p e f = not-none _ (sym (found_inside a p (has-record p e)) ∙ f)
 
   pub none_left : answer ≡ Ok None → without (drop i (records m a)) (records n b) ≡ []
   none_left e = next-nothing one other i answer says e

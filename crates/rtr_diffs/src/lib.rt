@@ -3,7 +3,7 @@
 
 ghost use Rattle.std.specs.Prelude.{◌++◌, ◌≡◌, ◌+◌, ◌*◌, ◌≤◌, ◌<◌, length};
 ghost use Rattle.rtr_receiver.specs.Promises.{record_limit};
-ghost use Rattle.rtr_room.specs.Room.{records, record_at};
+ghost use Rattle.rtr_room.specs.Room.{records};
 ghost use Rattle.rtr_listing.specs.Listing.{text, decimal, line_of, record_lines};
 ghost use Rattle.rtr_listing.specs.Private.{Fits, Put};
 ghost use Rattle.rtr_listing.specs.Promises.{leaves, puts};
@@ -87,17 +87,6 @@ fn change_length(announced: bool, r: Record) -> usize
 
 // ---- One side: the records of a that b has not
 
-// Record i of a room that has it.
-fn record_of(room: &[u32], i: usize) -> Record
-    requires { 6 * i + 6 ≤ length room.now }
-    ensures { result ≡ record_at room.now i }
-{
-    match get(room, i) {
-        Some(r) => r,
-        None => Record::ipv4(0, 0, 0, 0),
-    }
-}
-
 fn side_length(announced: bool, a: &[u32], a_count: usize, b: &[u32], b_count: usize) -> usize
     requires { IsRoom a.now a_count × IsRoom b.now b_count }
     ensures { (result ≡ length (side_lines announced (records a_count a.now) (records b_count b.now))) × (result ≤ 144 * a_count) }
@@ -105,19 +94,11 @@ fn side_length(announced: bool, a: &[u32], a_count: usize, b: &[u32], b_count: u
     let mut sum = 0;
     let mut i = 0;
     // No hand count: the next place is behind the one that was found.
-    while i < a_count {
-        match next_only(a, a_count, b, b_count, i) {
-            Ok(Some(p)) => {
-                sum += change_length(announced, record_of(a, p));
-                i = p + 1;
-            }
-            Ok(None) => {
-                return sum;
-            }
-            Err(_) => {
-                return sum;
-            }
-        }
+    while let Ok(Some(p)) = next_only(a, a_count, b, b_count, i)
+        && let Some(r) = get(a, p)
+    {
+        sum += change_length(announced, r);
+        i = p + 1;
     }
     sum
 }
@@ -137,19 +118,11 @@ fn put_side(
     let mut next = at;
     let mut i = 0;
     // No hand count: the next place is behind the one that was found.
-    while i < a_count {
-        match next_only(a, a_count, b, b_count, i) {
-            Ok(Some(p)) => {
-                next = put_change(out, next, announced, record_of(a, p));
-                i = p + 1;
-            }
-            Ok(None) => {
-                return next;
-            }
-            Err(_) => {
-                return next;
-            }
-        }
+    while let Ok(Some(p)) = next_only(a, a_count, b, b_count, i)
+        && let Some(r) = get(a, p)
+    {
+        next = put_change(out, next, announced, r);
+        i = p + 1;
     }
     next
 }

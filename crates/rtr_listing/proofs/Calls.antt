@@ -1,10 +1,9 @@
 -- What a call comes to: refused by 22, refused by 9, or written. Assumes nothing.
-use Rattle.std.specs.Prelude.{Some, None}
 use Prim.Native.Nat.{ℕ, ◌*◌, ◌≤◌, ◌<◌}
-use mathlib.Core.Bool.{Bool, true, false, not, ◌&&◌, and-true, and-false, or-true, true≢false}
+use mathlib.Core.Bool.{Bool, true, false, not, ◌&&◌, true≢false}
 use mathlib.Core.List.{List, [], ◌∷◌, ◌++◌}
 use mathlib.Core.Path.{◌≡◌, refl, sym, ap, ◌∙◌}
-use borrow.Author.Tests.{le-leb, lt-leb, eq-eqb, ne_eqb, eqb-true, not-true, not-false}
+use borrow.Author.Tests.{le-leb, lt-leb, eqb-true, not-true, not-false}
 use lib.Dec.{eqb}
 use lib.ListN.{length, drop}
 use types.Run.{OneOf, miss}
@@ -13,8 +12,7 @@ use Rattle.rtr_base.proofs.Overs.{over-front}
 use Rattle.rtr_encode.specs.Encode.Writing.{written, refused}
 use Rattle.rtr_room.specs.Room.{records, is_room}
 use Rattle.rtr_room.proofs.Laws.{rules-size}
-use Rattle.rtr_receiver.specs.Promises.{record_limit, is_limit, has_limit}
-use Rattle.rtr_receiver.specs.declared.Table.{Table}
+use Rattle.rtr_receiver.specs.Promises.{record_limit, has_limit}
 use Rattle.rtr_receiver.specs.declared.Session.{Session}
 use Rattle.rtr_receiver.specs.declared.Phase.{Phase}
 use Rattle.rtr_receiver.specs.contracts.Phase as phase
@@ -49,28 +47,8 @@ pub second-of : (a b : Bool) → (a && b) ≡ true → b ≡ true
 second-of true b h = h
 second-of false b h = absurd (true≢false (sym h))
 
--- a session has its own limit where a receiver may have it
-pub own-limit : (s : Session) → is_limit s.life.limit ≡ true → has_limit s.life.limit s ≡ true
-own-limit s e = simp (eq-eqb s.life.limit s.life.limit refl, e)
-
-pub not-own-limit : (s : Session) → is_limit s.life.limit ≡ false → has_limit s.life.limit s ≡ false
-not-own-limit s e = simp (e, and-false)
-
+-- the room of what is listed, and what is refused
 module _ (limit : ℕ) (s : Session) (live : List ℕ) where
-  -- another limit is not listed
-  pub other-limit : has_limit limit s ≡ false → is_listed limit s live ≡ false
-  other-limit h = simp h
-
-  -- with a table, or without a record, the rules decide
-  pub by-rules : has_limit limit s ≡ true → (t : Table) → s.table ≡ Some t → is_listed limit s live ≡ is_room limit s.live.records live
-  by-rules h t e = simp (h, e, and-true)
-
-  pub by-rules-empty : has_limit limit s ≡ true → s.live.records ≡ 0 → is_listed limit s live ≡ is_room limit s.live.records live
-  by-rules-empty h e = simp (h, eq-eqb s.live.records 0 e, or-true, and-true)
-
-  pub without-table : s.table ≡ None → (s.live.records ≡ 0 → ⊥) → is_listed limit s live ≡ false
-  without-table e h = simp (e, ne_eqb s.live.records 0 h, and-false)
-
   pub listed-size : is_listed limit s live ≡ true → (length live ≡ 6 * limit) × (s.live.records ≤ limit) × (limit ≡ record_limit)
   listed-size h =
       let size = rules-size limit s.live.records live (first_of (is_room limit s.live.records live) _ (second-of (has_limit limit s) _ h)) in

@@ -151,13 +151,10 @@ fn stopped_as(phase: Phase) -> usize
 pub fn head_of(s: Session) -> Head
     ensures { result ≡ head_of s }
 {
-    let phase = s.phase;
-    let table = s.table;
-    let in_live = s.live;
     Head {
-        stopped: stopped_as(phase),
-        table,
-        count: in_live.records,
+        stopped: stopped_as(s.phase),
+        table: s.table,
+        count: s.live.records,
     }
 }
 
@@ -177,9 +174,8 @@ fn put_head(out: &mut [u8], at: usize, head: Head) -> usize
     requires { Fits out.old at (head_lines head) }
     ensures { Put out.old at (head_lines head) result out.new }
 {
-    let table = head.table;
     let next = put_number(out, at, b"stopped=", head.stopped);
-    match table {
+    match head.table {
         None => put_text(out, next, b"count=none\n"),
         Some(t) => put_table(out, next, t, head.count),
     }
@@ -249,14 +245,10 @@ fn records_length(live: &[u32], count: usize) -> usize
 {
     let mut sum = 0;
     for i in 0..count {
-        match get(live, i) {
-            Some(r) => {
-                sum += record_length(r);
-            }
-            None => {
-                return sum;
-            }
-        }
+        let Some(r) = get(live, i) else {
+            return sum;
+        };
+        sum += record_length(r);
     }
     sum
 }
@@ -267,14 +259,10 @@ fn put_records(out: &mut [u8], at: usize, live: &[u32], count: usize) -> usize
 {
     let mut next = at;
     for i in 0..count {
-        match get(live, i) {
-            Some(r) => {
-                next = put_record(out, next, r);
-            }
-            None => {
-                return next;
-            }
-        }
+        let Some(r) = get(live, i) else {
+            return next;
+        };
+        next = put_record(out, next, r);
     }
     next
 }
@@ -343,21 +331,13 @@ pub fn number_line(name: &[u8], n: usize, out: &mut [u8]) -> Result<usize, ListE
 fn is_listed(s: Session, live: &[u32]) -> bool
     ensures { result ≡ is_listed s.life.limit s live.now }
 {
-    let life = s.life;
-    let table = s.table;
-    let in_live = s.live;
-    if !is_limit(life.limit) {
+    if !is_limit(s.life.limit) {
         return false;
     }
-    match table {
-        Some(_) => rules(live, life.limit, in_live.records),
-        None => {
-            if in_live.records == 0 {
-                return rules(live, life.limit, in_live.records);
-            }
-            false
-        }
+    if s.table.is_none() && s.live.records != 0 {
+        return false;
     }
+    rules(live, s.life.limit, s.live.records)
 }
 
 // The whole listing of a session and its live room: lengths first, so that nothing is written where it does not fit.

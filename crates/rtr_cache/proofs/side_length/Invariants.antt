@@ -8,9 +8,9 @@ use Rattle.rtr_room.specs.Room.{records}
 use Rattle.rtr_cache.specs.Private.{side_bytes}
 use Rattle.rtr_cache.proofs.side_length.Given as goal
 
-abbrev pub invariant-loop-i : goal.invariant-loop-i
-invariant-loop-i l = (l.i ≤ l.a_count) × (l.sum ≤ 32 * l.i) × ((v : RtrProtocolVersion) (announced : Bool)
+abbrev pub invariant-loop-p : goal.invariant-loop-p
+invariant-loop-p l = (l.i ≤ l.a_count) × (l.sum ≤ 32 * l.i) × ((v : RtrProtocolVersion) (announced : Bool)
     → l.sum + length (side_bytes v announced (drop l.i (records l.a_count l.a)) (records l.b_count l.b)) ≡ length (side_bytes v announced (records l.a_count l.a) (records l.b_count l.b)))
 
-abbrev pub decreases-loop-i : goal.decreases-loop-i
-decreases-loop-i l = l.a_count - l.i
+abbrev pub decreases-loop-p : goal.decreases-loop-p
+decreases-loop-p l = l.a_count - l.i

@@ -6,8 +6,8 @@ use Rattle.rtr_room.specs.Room.{records}
 use Rattle.rtr_diffs.specs.Private.{side_lines}
 use Rattle.rtr_diffs.proofs.side_length.Given as goal
 
-abbrev pub invariant-loop-i : goal.invariant-loop-i
-invariant-loop-i l = (l.i ≤ l.a_count) × (l.sum ≤ 144 * l.i) × (l.sum + length (side_lines l.announced (drop l.i (records l.a_count l.a)) (records l.b_count l.b)) ≡ length (side_lines l.announced (records l.a_count l.a) (records l.b_count l.b)))
+abbrev pub invariant-loop-p : goal.invariant-loop-p
+invariant-loop-p l = (l.i ≤ l.a_count) × (l.sum ≤ 144 * l.i) × (l.sum + length (side_lines l.announced (drop l.i (records l.a_count l.a)) (records l.b_count l.b)) ≡ length (side_lines l.announced (records l.a_count l.a) (records l.b_count l.b)))
 
-abbrev pub decreases-loop-i : goal.decreases-loop-i
-decreases-loop-i l = l.a_count - l.i
+abbrev pub decreases-loop-p : goal.decreases-loop-p
+decreases-loop-p l = l.a_count - l.i

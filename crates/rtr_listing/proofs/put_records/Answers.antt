@@ -29,10 +29,10 @@ put_record-next-requires c =
       ap (λ (r : Record). length (record_lines r)) (found (goal.at.put_record-next-requires c).In-Some),
     )
 
-pub returns-in-None : goal.returns-in-None
-returns-in-None c =
+pub returns-in_default : goal.returns-in_default
+returns-in_default c =
     absurd
-    (never-outside c.args.live.now c.loop-i.i _ (omega arith) c.get.ensures c.in-None.is)
+    (never-outside c.args.live.now c.loop-i.i _ (omega arith) c.get.ensures c.in_default.is)
 
 pub loop-i-preserved : goal.loop-i-preserved
 loop-i-preserved c =

@@ -10,10 +10,10 @@ use Rattle.rtr_listing.proofs.records_length.Goals as goal
 pub loop-i-init : goal.loop-i-init
 loop-i-init c = (sym (ap length (all_none c.args.live.now)), omega arith)
 
-pub returns-in-None : goal.returns-in-None
-returns-in-None c =
+pub returns-in_default : goal.returns-in_default
+returns-in_default c =
     absurd
-    (never-outside c.args.live.now c.loop-i.i _ (omega arith) c.get.ensures c.in-None.is)
+    (never-outside c.args.live.now c.loop-i.i _ (omega arith) c.get.ensures c.in_default.is)
 
 pub loop-i-preserved : goal.loop-i-preserved
 loop-i-preserved c =
