@@ -1,5 +1,7 @@
 -- `with_header` judges the hold's first 8 bytes: a length that is refused, a PDU of 8 bytes, or a header that waits for more. Assumes nothing.
-use mathlib.Core.Path.{refl, sym}
+use mathlib.Core.Path.{refl, sym, subst}
+use Rattle.rtr_stream.specs.Private.{HeaderHere}
+use Rattle.rtr_stream.specs.declared.Turn.{Turn}
 use lib.ListN.{length, get_or, take}
 use lib.Seq.{length-take-le}
 use Rattle.rtr_codec.specs.Reading.{in_use}
@@ -17,7 +19,7 @@ returns-then-length-eq8 c =
     let t = c.read_hold.result in (
       judged hold 8 t.then t.held t.next _ _ c.read_hold.ensures.0
           (header-whole hold n c.requires c.bytes_needed-length.ensures
-          (fits-of (length hold) n (get_or hold 1 0) c.test_length-test.result c.test_length-test.ensures c.in-Ok.is)
+          (fits-of (length hold) n (get_or hold 1 0) c.test_length.result c.test_length.ensures c.in_default.is)
           c.if-length-eq8.true),
       c.read_hold.ensures.1,
     )
@@ -26,17 +28,18 @@ pub returns-in-Err : goal.returns-in-Err
 returns-in-Err c =
     let hold = c.args.hold.now in
     let n = c.bytes_needed-length.result in
-    let error = c.in-Err.error in (
+    let error = c.in-Err.error in
+    subst (λ (t : Turn). HeaderHere hold c.args.next t) (sym c.over.ensures) (
       (λ piece at before go h.
           refused-alike hold piece (take 8 hold) before at _ go error _
           (header_refused hold n c.requires c.bytes_needed-length.ensures (get_or hold 1 0) _ refl
-          (refusal-of (length hold) n (get_or hold 1 0) c.test_length-test.result error c.test_length-test.ensures c.in-Err.is))),
+          (refusal-of (length hold) n (get_or hold 1 0) c.test_length.result error c.test_length.ensures c.in-Err.is))),
       refl,
     )
 
-pub returns-else-length-eq8 : goal.returns-else-length-eq8
-returns-else-length-eq8 c =
+pub returns : goal.returns
+returns c =
     let hold = c.args.hold.now in
     let n = c.bytes_needed-length.result in
-    let i = fits-of (length hold) n (get_or hold 1 0) c.test_length-test.result c.test_length-test.ensures c.in-Ok.is in
+    let i = fits-of (length hold) n (get_or hold 1 0) c.test_length.result c.test_length.ensures c.in_default.is in
     ((waiting-waits in_use (header-waits hold n c.requires c.bytes_needed-length.ensures i c.if-length-eq8.false), refl), refl)
