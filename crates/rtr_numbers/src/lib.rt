@@ -439,7 +439,7 @@ fn loose_session(n: &[u64]) -> Session
     }
 }
 
-// The session that has these numbers; Unknown where none has them.
+// The session that has these numbers; None where none has them.
 pub fn session_of(numbers: &[u64]) -> Option<Session>
     ensures { result ≡ session_of numbers.now }
 {
@@ -448,7 +448,7 @@ pub fn session_of(numbers: &[u64]) -> Option<Session>
     is_alike(&said, numbers).then_some(s)
 }
 
-// The table that says these numbers; Unknown where none does.
+// The table that says these numbers; None where none does.
 pub fn table_of(numbers: &[u64]) -> Option<Table>
     ensures { result ≡ table_found numbers.now }
 {

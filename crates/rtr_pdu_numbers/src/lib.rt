@@ -375,7 +375,7 @@ fn loose_pdu(n: &[u64]) -> RtrPdu
     }
 }
 
-// The PDU that has these numbers; Unknown where none has them.
+// The PDU that has these numbers; None where none has them.
 pub fn pdu_of(numbers: &[u64]) -> Option<(RtrPdu, usize)>
     ensures { result ≡ pdu_of numbers.now }
 {
