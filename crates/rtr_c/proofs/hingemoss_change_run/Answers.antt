@@ -1,4 +1,4 @@
--- `hingemoss_change_run` finds the version and the table's numbers, and runs. That the lent numbers are of 32 bits is what holding them tells. Assumes nothing.
+-- `hingemoss_change_run` finds the version and the table's numbers, and runs. That the lent numbers are of 32 bits is found without an answer. Assumes nothing.
 use mathlib.Core.Path.{refl, ◌∙◌}
 use Rattle.rtr_c.proofs.Steps.{numbered, counted}
 use Rattle.rtr_models.specs.declared.RtrProtocolVersion.{RtrProtocolVersion}
