@@ -1,5 +1,4 @@
 -- `loose_place` takes two numbers. Assumes nothing.
-use mathlib.Core.Path.{◌∙◌}
 use Rattle.rtr_pdu_numbers.proofs.loose_place.Goals as goal
 
 pub returns : goal.returns
