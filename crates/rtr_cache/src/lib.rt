@@ -23,7 +23,7 @@ use rtr_models::{
     Ipv6Addr, RtrCacheResponse, RtrEndOfData, RtrIPv4Prefix, RtrIPv6Prefix, RtrProtocolVersion,
 };
 use rtr_receiver::{RECORD_LIMIT, Table};
-use rtr_room::{NotARoom, Record, get, rules};
+use rtr_room::{Record, get, rules};
 
 // Why no run is written.
 #[derive(Clone, Copy)]

@@ -14,7 +14,7 @@ ghost use Rattle.rtr_listed.specs.Private.{line_length, number_said, address_sai
 
 use rtr_listing::Head;
 use rtr_receiver::{RECORD_LIMIT, Table};
-use rtr_room::{NotARoom, Position, Record, empty, enter, look_up};
+use rtr_room::{Position, Record, empty, enter, look_up};
 
 // Why no listing was read.
 #[derive(Clone, Copy)]

@@ -10,7 +10,7 @@ ghost use Rattle.rtr_listing.specs.Listing.{glyph, digits, places, decimal, line
 ghost use Rattle.rtr_listing.specs.Promises.{list_refusal, leaves, puts, is_listed, listing_says};
 ghost use Rattle.rtr_listing.specs.Private.{Fits, Put};
 
-use rtr_receiver::{NotAReceiver, Phase, Session, Table, is_limit};
+use rtr_receiver::{Phase, Session, Table, is_limit};
 use rtr_room::{Record, get, rules};
 
 // Why nothing is written.

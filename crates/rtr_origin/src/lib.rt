@@ -2,7 +2,7 @@
 #![tactic(auto)]
 
 use rtr_models::Ipv6Addr;
-use rtr_receiver::{NotAReceiver, Session, is_receiver};
+use rtr_receiver::{Session, is_receiver};
 use rtr_room::{Position, Record, look_up};
 
 mod peer;
