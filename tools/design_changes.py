@@ -2,8 +2,8 @@
 """The last part of docs/DESIGN-PASS.md: each public signature, clause, definition and theorem that differs from COMMIT's, old and new.
 
 Usage: tools/design_changes.py COMMIT
-Signatures and clauses are those of public functions and types in crates/*/src/*.rt, definitions those of specs/, theorems the statements in proofs/*.antt that README or docs/ name. A line is one of them;
-imports and comments are left out."""
+Signatures and clauses are those of public functions, types and traits in crates/*/src/*.rt, definitions those of specs/, theorems the statements in proofs/*.antt that README or docs/ name, each behind the
+heads of the modules that it stands in. A line is one of them; imports and comments are left out."""
 import os
 import re
 import subprocess
@@ -20,12 +20,12 @@ def signatures(text):
     """each public function's head, on one line, and its clauses; public types and their cases; each with its name"""
     text = re.sub(r"(?m)^\s*//.*\n", "", text)
     out, owner = {}, ""
-    for m in re.finditer(r"(?m)^( *)(?:impl(?:<[^>]*>)? (?:\w+(?:<[^>]*>)? for )?(\w+).*\{|(?:pub (?:unsafe )?(?:extern \"C\" )?)?fn (\w+)|pub (?:enum|struct) (\w+))", text):
+    for m in re.finditer(r"(?m)^( *)(?:impl(?:<[^>]*>)? (?:\w+(?:<[^>]*>)? for )?(\w+).*\{|(?:pub (?:unsafe )?(?:extern \"C\" )?)?fn (\w+)|pub (?:enum|struct|trait|type) (\w+))", text):
         if m.group(2):
             owner = m.group(2)
             continue
         if m.group(4):
-            end = re.compile(r"(?m)^\}|;$").search(text, m.start())
+            end = re.compile(r"(?m)^\}" if "trait" in m.group() else r"(?m)^\}|;$").search(text, m.start())
             out["type " + m.group(4)] = " ".join(text[m.start():end.end()].split())
             continue
         if not m.group(1):
@@ -45,26 +45,41 @@ def signatures(text):
 
 
 def definitions(text, statements_only):
-    """each definition, or each statement of a theorem, on one line"""
-    out, name, body = {}, None, []
+    """each definition, or each statement of a theorem behind the heads of the modules that it stands in, on one line"""
+    out, name, body, modules, opened, cases = {}, None, [], [], "", False
+
+    def put():
+        if name:
+            said = " ".join(" ".join(body).split())
+            out[name] = re.split(r" %s [^:]*?= | %s = " % (re.escape(name), re.escape(name)), said)[0] if statements_only and not cases else said
+
     for line in text.split("\n") + ["end : "]:
+        indent = len(line) - len(line.lstrip())
+        if statements_only and (opened or re.match(r"\s*module _", line)):  # a module's head, which may go over lines
+            if not opened:
+                modules = [m for m in modules if m[0] < indent] + [(indent, "")]
+            opened = (opened + " " + line.strip()).strip()
+            if opened.endswith("where"):
+                modules[-1] = (modules[-1][0], opened)
+                opened = ""
+            continue
         if line.lstrip().startswith("--") or re.match(r"\s*(use|pub use|ghost use|unfolding|module|mod|pub mod|open)\b", line):
             continue
-        m = re.match(r"( *)((?:unfoldable|abbrev|pub|irreducible) )*(?:(?:record|data) )?([^\s:({]+)[^=≔]* : ", line)
-        head = m and (m.group(2) or line.startswith("end")) and len(m.group(1)) <= 2
+        m = re.match(r" *((?:unfoldable|abbrev|pub|irreducible) )*((?:record|data) )?([^\s:({]+)(?:[^=≔]* :(?: |$)|$)", line)
+        head = m and (m.group(1) or line.startswith("end")) and (statements_only or indent <= 2)
         if head or not line.strip() and statements_only:
-            if name:
-                text = " ".join(" ".join(body).split())
-                if statements_only:
-                    text = re.split(r" %s [^:]*?= | %s = " % (re.escape(name), re.escape(name)), text)[0]
-                out[name] = text
-            name, body = (m.group(3), [line]) if head else (None, [])
+            put()
+            name, body = None, []
+            if head:
+                around = [heads for at, heads in modules if at < indent] if statements_only else []
+                name, cases = m.group(3), bool(m.group(2))
+                body = [line.strip(), *("in " + heads for heads in around)] if statements_only else [line]
         elif name:
-            if statements_only and re.match(r"\s*%s\b.*=" % re.escape(name), line):
-                out[name] = " ".join(" ".join(body).split())
+            if statements_only and not cases and re.match(r"\s*%s\b.*=" % re.escape(name), line):
+                put()
                 name, body = None, []
             else:
-                body.append(line)
+                body.insert(len(body) - len(around), line) if statements_only else body.append(line)
     return out
 
 

@@ -40,7 +40,8 @@ fn is_there(room: &[u32], count: usize, r: Record) -> bool
     }
 }
 
-// The first place of a, from one on, whose record does not stand in b.
+// The first place of a, from one on, whose record does not stand in b. In line: as a call of its own it doubles the time of a run from or to an empty table.
+#[inline(always)]
 pub fn next_only(
     a: &[u32],
     a_count: usize,

@@ -248,16 +248,16 @@ pub fn encode_cache_reset(pdu: RtrCacheReset, out: &mut [u8]) -> Result<usize, E
 
 // ---- Payloads
 
-// Block by block; the last one ends with the part, and may lie over the one before.
+// Block by block; the last one ends with the part, and may lie over the one before. By 16: of a block of 32 the compiler stores the second half first, and a long part takes two thirds more time.
 fn put_long(out: &mut [u8], at: usize, part: &[u8])
-    requires { (64 ≤ length part.now) × (at + length part.now ≤ length out.old) }
+    requires { (32 ≤ length part.now) × (at + length part.now ≤ length out.old) }
     ensures { out.new ≡ over out.old at part.now }
 {
-    let last = part.len() - 64;
-    for i in (0..last).step_by(32) {
-        put_block::<32>(out, at + i, &part[i..]);
+    let last = part.len() - 32;
+    for i in (0..last).step_by(16) {
+        put_block::<16>(out, at + i, &part[i..]);
     }
-    put_block::<64>(out, at + last, &part[last..]);
+    put_block::<32>(out, at + last, &part[last..]);
 }
 
 // One by one. Not by `copy_from_slice`: it calls C's memmove, and the library for hosts is to need memset alone.

@@ -72,7 +72,6 @@ module _ (s : List ℕ) (end by : ℕ) (l : 6 * (end + by) ≤ length s) where
       ∙ put-seam s new (part ++ behind) (6 * (m + by)) (6 * (m + by) + 6) (omega arith) (omega arith)
       ∙ ap (λ (x : List ℕ). take (6 * (m + by)) s ++ x)
       (sym (append_assoc new part behind) ∙ ap (λ (x : List ℕ). x ++ behind) (sym (part-more s m end h (omega arith))))
-  -- a turn moves two
 
 -- ---- a merge from the back
 

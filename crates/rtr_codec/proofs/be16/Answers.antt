@@ -1,4 +1,4 @@
--- `be16` sums its two bytes as `number` does. Assumes nothing.
+-- `be16` reads its two bytes as `number` does. Assumes nothing.
 use native.Mathlib.Nat.{add-zero}
 use native.Mathlib.Omega.{arith}
 use Rattle.rtr_codec.specs.Bytes.{number}

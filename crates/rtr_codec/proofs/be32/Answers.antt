@@ -1,4 +1,4 @@
--- `be32` sums its four bytes as `number` does. Assumes nothing.
+-- `be32` reads its four bytes as `number` does. Assumes nothing.
 use native.Mathlib.Nat.{add-zero}
 use native.Mathlib.Omega.{arith}
 use Rattle.rtr_codec.specs.Bytes.{number}
