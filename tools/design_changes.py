@@ -73,13 +73,13 @@ def definitions(text, statements_only):
             if head:
                 around = [heads for at, heads in modules if at < indent] if statements_only else []
                 name, cases = m.group(3), bool(m.group(2))
-                body = [line.strip(), *("in " + heads for heads in around)] if statements_only else [line]
+                body = [line, *("in " + heads for heads in around)]
         elif name:
             if statements_only and not cases and re.match(r"\s*%s\b.*=" % re.escape(name), line):
                 put()
                 name, body = None, []
             else:
-                body.insert(len(body) - len(around), line) if statements_only else body.append(line)
+                body.insert(len(body) - len(around), line)  # the modules' heads stay behind
     return out
 
 
